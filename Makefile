@@ -1,0 +1,17 @@
+# rt is the toolchain's one command; target/ is made by it.
+.PHONY: test run fmt
+
+# The gate: layout, then every proof from nothing, every must-fail edit and every program.
+# Its last line is the verdict, 'N passed, 0 failed'.
+test:
+	@rt fmt --check
+	@rt ci
+
+# Proves and builds the bench program, and runs it.
+run:
+	@mkdir -p target
+	@rt check bench >target/run.log 2>&1 || { cat target/run.log; exit 1; }
+	@target/bin/bench
+
+fmt:
+	@rt fmt

@@ -1,0 +1,128 @@
+// The cases of 01 about primitives: the starred ones first, then its rules on bounds and blanks.
+use libc::STDOUT_FILENO;
+use value::Value;
+
+const ADD: u8 = 0;
+const SUBTRACT: u8 = 1;
+const TIMES: u8 = 2;
+const DIVIDE: u8 = 3;
+const REMAINDER: u8 = 4;
+const LESS: u8 = 5;
+const EQUAL: u8 = 6;
+const NOT: u8 = 7;
+const AND: u8 = 8;
+const OR: u8 = 9;
+const KNOWN: u8 = 10;
+const CHOOSE: u8 = 11;
+const INSTEAD: u8 = 12;
+
+const LOWEST: i32 = -2147483648;
+const HIGHEST: i32 = 2147483647;
+
+fn put(text: &[u8]) {
+    io::write_all(STDOUT_FILENO, text);
+}
+
+fn put_integer(z: i32) {
+    if z < 0 {
+        put(b"-");
+    }
+    io::print_decimal(STDOUT_FILENO, value::magnitude(z) as u64);
+}
+
+fn put_value(v: Value) {
+    if v.mark == Value::BLANK {
+        put(b"blank");
+        return;
+    }
+    if v.mark == Value::NUMBER {
+        put_integer(value::signed(v.content));
+        return;
+    }
+    if v.content == 1 {
+        put(b"true");
+    } else {
+        put(b"false");
+    }
+}
+
+fn put_result(v: Value) {
+    put(b" = ");
+    put_value(v);
+    put(b"\n");
+}
+
+// A line `a sign b = result`.
+fn infix(a: Value, op: u8, sign: &[u8], b: Value) {
+    put_value(a);
+    put(sign);
+    put_value(b);
+    put_result(value::primitive(op, a, b, Value::blank()));
+}
+
+fn numbers(x: i32, op: u8, sign: &[u8], y: i32) {
+    infix(Value::number(x), op, sign, Value::number(y));
+}
+
+// A line `name a = result`.
+fn prefix(op: u8, name: &[u8], a: Value) {
+    put(name);
+    put_value(a);
+    put_result(value::primitive(op, a, Value::blank(), Value::blank()));
+}
+
+// A line `t ? a : b = result`.
+fn choice(t: Value, a: Value, b: Value) {
+    put_value(t);
+    put(b" ? ");
+    put_value(a);
+    put(b" : ");
+    put_value(b);
+    put_result(value::primitive(CHOOSE, t, a, b));
+}
+
+fn starred() {
+    numbers(LOWEST, DIVIDE, b" / ", -1);
+    numbers(LOWEST, REMAINDER, b" rem ", -1);
+    numbers(-7, DIVIDE, b" / ", 2);
+    numbers(-7, REMAINDER, b" rem ", 2);
+    infix(Value::blank(), LESS, b" < ", Value::number(5));
+}
+
+// "A result outside 32 bits, or a divisor 0, gives blank."
+fn bounds() {
+    numbers(HIGHEST, ADD, b" + ", 0);
+    numbers(HIGHEST, ADD, b" + ", 1);
+    numbers(LOWEST, SUBTRACT, b" - ", 1);
+    numbers(65536, TIMES, b" * ", 32768);
+    numbers(65536, TIMES, b" * ", -32768);
+    numbers(7, DIVIDE, b" / ", 0);
+    numbers(7, REMAINDER, b" rem ", 0);
+    numbers(7, DIVIDE, b" / ", -2);
+    numbers(7, REMAINDER, b" rem ", -2);
+    numbers(-1, LESS, b" < ", 0);
+    numbers(5, EQUAL, b" == ", 5);
+}
+
+// "Any blank operand of 0 to 9 gives blank"; known, choose and instead have rules of their own.
+fn blanks() {
+    infix(Value::blank(), EQUAL, b" == ", Value::blank());
+    infix(Value::number(7), ADD, b" + ", Value::blank());
+    prefix(NOT, b"not ", Value::truth(true));
+    prefix(NOT, b"not ", Value::blank());
+    infix(Value::truth(false), AND, b" and ", Value::blank());
+    infix(Value::truth(true), OR, b" or ", Value::blank());
+    prefix(KNOWN, b"known ", Value::number(0));
+    prefix(KNOWN, b"known ", Value::blank());
+    choice(Value::truth(true), Value::number(1), Value::blank());
+    choice(Value::truth(false), Value::blank(), Value::number(2));
+    choice(Value::blank(), Value::number(3), Value::number(3));
+    infix(Value::number(7), INSTEAD, b" instead ", Value::number(9));
+    infix(Value::blank(), INSTEAD, b" instead ", Value::number(9));
+}
+
+pub fn print_all() {
+    starred();
+    bounds();
+    blanks();
+}

@@ -1,0 +1,5 @@
+pub mod Tests
+pub mod Integers
+pub mod Rows
+pub mod Legal
+pub mod Division

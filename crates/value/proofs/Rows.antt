@@ -1,0 +1,31 @@
+-- Rows of the table of primitives, by number. Assumes nothing.
+use Prim.Native.Nat.{ℕ, zero, suc, _+_, _≤_, _<_}
+use native.Mathlib.Omega.{arith}
+use native.Mathlib.Nat.{eq-or-lt-of-le}
+use mathlib.Core.Path.{_≡_, subst}
+use mathlib.Core.Logic.{⊎-elim}
+use lib.ListN.{List·getD-eq-default}
+use Rattle.value.specs.Primitive.{table, none, rowOf}
+
+-- Q holds of the n numbers from k on
+abbrev pub Each : (ℕ → Type 0) → ℕ → ℕ → Type 0
+Each Q k zero = Unit {0}
+Each Q k (suc n) = Q k × Each Q (suc k) n
+
+pub each : (Q : ℕ → Type 0) (k n : ℕ) → Each Q k n → (x : ℕ) → k ≤ x → x < k + n → Q x
+each Q k zero qs x low high = absurd (omega arith)
+each Q k (suc n) qs x low high = ⊎-elim (λ e. subst Q e (qs .0)) (λ h. each Q (suc k) n (qs .1) x h (omega arith)) (eq-or-lt-of-le low)
+
+-- x is none of the n numbers from k on, as the last arm of a `match` has it
+abbrev pub Missed : ℕ → ℕ → ℕ → Type 0
+Missed k zero x = Unit {0}
+Missed k (suc n) x = Missed k n x × (x ≡ k + n → ⊥)
+
+pub missed : (k n x : ℕ) → k ≤ x → Missed k n x → k + n ≤ x
+missed k zero x low m = omega arith
+missed k (suc n) x low m = omega (arith, missed k n x low (m .0), m .1)
+
+-- a number past the table is no primitive's
+pub past : (x : ℕ) → 13 ≤ x → rowOf x ≡ none
+unfolding rowOf table
+past x h = List·getD-eq-default table none h

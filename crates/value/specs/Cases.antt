@@ -1,0 +1,40 @@
+-- The starred bench cases of 01 that are about primitives, as one table with one claim: each row's primitive of its operands is its answer.
+use Prim.Native.Nat.{ℕ}
+use mathlib.Core.Bool.{Bool, true, _&&_}
+use mathlib.Core.List.{List, [], _∷_}
+use lib.Dec.{T, eqb}
+use lib.IntN.{pos, negsuc}
+use Rattle.value.specs.Test.{pick, _=?_, _and_}
+use Rattle.value.specs.Value.{blank, number, isNumber}
+use Rattle.value.specs.Primitive.{within, unlessZero, operation, onNumbers, table, rowOf, primitive}
+use Rattle.value.specs.declared.Value.{Value}
+
+pub record Case : Type 0 where
+  pub op : ℕ
+  pub a : Value
+  pub b : Value
+  pub answer : Value
+
+abbrev pub sameValue : Value → Value → Bool
+sameValue v w = eqb (v .mark) (w .mark) && eqb (v .content) (w .content)
+
+abbrev pub holds : List Case → Bool
+holds [] = true
+holds (r ∷ rs) = sameValue (primitive (r .op) (r .a) (r .b) blank) (r .answer) && holds rs
+
+abbrev case : ℕ → Value → Value → Value → Case
+case x a b r = record { op = x; a = a; b = b; answer = r }
+
+-- `negsuc n` is -(n + 1)
+abbrev pub starred : List Case
+starred =
+    case 3 (number (negsuc 2147483647)) (number (negsuc 0)) blank  -- -2,147,483,648 divided by -1
+    ∷ case 4 (number (negsuc 2147483647)) (number (negsuc 0)) (number (pos 0))
+    ∷ case 3 (number (negsuc 6)) (number (pos 2)) (number (negsuc 2))  -- -7 by 2
+    ∷ case 4 (number (negsuc 6)) (number (pos 2)) (number (negsuc 0))
+    ∷ case 5 blank (number (pos 5)) blank  -- less of blank and 5
+    ∷ []
+
+pub starred-hold : T (holds starred)
+unfolding primitive rowOf table onNumbers operation unlessZero within isNumber pick _and_ _=?_
+starred-hold = tt

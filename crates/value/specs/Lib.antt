@@ -1,0 +1,4 @@
+pub mod Test
+pub mod Value
+pub mod Primitive
+pub mod Cases

@@ -1,0 +1,148 @@
+-- The primitives of 01, "Primitives": ONE table, a row for each number from 0 on, with what it takes, what it gives and what it means.
+use Prim.Native.Nat.{ℕ}
+use mathlib.Core.Bool.{Bool, true, false, not, _&&_, _||_}
+use mathlib.Core.List.{List, [], _∷_}
+use lib.Dec.{eqb}
+use lib.ListN.{length, getD}
+use lib.IntN.{ℤ, pos, negsuc, _+ℤ_, _-ℤ_, _*ℤ_}
+use lib.Signed.{ltZ, quotZ, remZ}
+use Rattle.value.specs.Test.{pick, _<?_, _=?_, _and_}
+use Rattle.value.specs.Value.{blank, number, truth, isBlank, isNumber, isTruth, isTrue, intOf, numberKind, truthKind}
+use Rattle.value.specs.declared.Value.{Value}
+use Rattle.value.specs.declared.Takes.{Takes}
+use Rattle.value.specs.declared.Takes.the-variants.{TwoNumbers, OneTruth, TwoTruths, OneOfAny, TruthThenTwo, TwoAlike}
+use Rattle.value.specs.declared.Gives.{Gives}
+use Rattle.value.specs.declared.Gives.the-variants.{ANumber, ATruth, TheirKind}
+use Rattle.value.specs.declared.Operation.{Operation}
+use Rattle.value.specs.declared.Operation.the-variants.{Add, Subtract, Times, Divide, Remainder, Less, Equal}
+
+-- ---- integers
+
+-- "A result outside 32 bits .. gives blank."
+abbrev pub in32 : ℤ → Bool
+in32 z = not (ltZ z (negsuc 2147483647)) && not (ltZ (pos 2147483647) z)
+
+unfoldable pub within : ℤ → Value
+within z = pick (in32 z) (number z) blank
+
+abbrev pub isZero : ℤ → Bool
+isZero (pos n) = eqb n 0
+isZero (negsuc n) = false
+
+abbrev pub sameInt : ℤ → ℤ → Bool
+sameInt (pos m) (pos n) = eqb m n
+sameInt (pos m) (negsuc n) = false
+sameInt (negsuc m) (pos n) = false
+sameInt (negsuc m) (negsuc n) = eqb m n
+
+-- ".. or a divisor 0, gives blank."
+unfoldable pub unlessZero : (ℤ → ℤ → ℤ) → ℤ → ℤ → Value
+unlessZero f x y = pick (isZero y) blank (within (f x y))
+
+-- "0 add, 1 subtract (a−b), 2 times, 3 divide, 4 remainder, 5 less, 6 equal: two numbers. The quotient is cut toward zero; the remainder has the
+-- dividend's sign." (`quotZ` and `remZ` do so; laws `quotient-law`, `remainder-small`.)
+unfoldable pub operation : Operation → ℤ → ℤ → Value
+operation Add x y = within (x +ℤ y)
+operation Subtract x y = within (x -ℤ y)
+operation Times x y = within (x *ℤ y)
+operation Divide x y = unlessZero quotZ x y
+operation Remainder x y = unlessZero remZ x y
+operation Less x y = truth (ltZ x y)
+operation Equal x y = truth (sameInt x y)
+
+-- ---- values. "Any blank operand of 0 to 9 gives blank." So does an operand of another kind, which no accepted program passes.
+
+unfoldable pub onNumbers : (ℤ → ℤ → Value) → Value → Value → Value
+onNumbers f a b = pick (isNumber a and isNumber b) (f (intOf a) (intOf b)) blank
+
+unfoldable pub onTruth : (Bool → Bool) → Value → Value
+onTruth f a = pick (isTruth a) (truth (f (isTrue a))) blank
+
+unfoldable pub onTruths : (Bool → Bool → Bool) → Value → Value → Value
+onTruths f a b = pick (isTruth a and isTruth b) (truth (f (isTrue a) (isTrue b))) blank
+
+-- "10 known: one operand of any kind; a truth, never blank."
+unfoldable pub known : Value → Value
+known a = truth (not (isBlank a))
+
+-- "11 choose: a truth, then two operands of one kind; the first of them on true, the second on false." "Choose is blank for a blank truth;
+-- otherwise the operand not chosen has no effect."
+unfoldable pub choose : Value → Value → Value → Value
+choose t a b = pick (isTruth t) (pick (isTrue t) a b) blank
+
+-- "12 instead: two of one kind; the first unless it is blank, else the second."
+unfoldable pub instead : Value → Value → Value
+instead a b = pick (isBlank a) b a
+
+-- ---- the table
+
+pub record Row : Type 0 where
+  pub takes : Takes
+  pub gives : Gives
+  pub means : Value → Value → Value → Value
+
+abbrev row : Takes → Gives → (Value → Value → Value → Value) → Row
+row t g f = record { takes = t; gives = g; means = f }
+
+abbrev pub numeric : Operation → Gives → Row
+numeric f g = row TwoNumbers g (λ a b c. onNumbers (operation f) a b)
+
+unfoldable pub table : List Row
+table =
+    numeric Add ANumber  -- 0
+    ∷ numeric Subtract ANumber  -- 1
+    ∷ numeric Times ANumber  -- 2
+    ∷ numeric Divide ANumber  -- 3
+    ∷ numeric Remainder ANumber  -- 4
+    ∷ numeric Less ATruth  -- 5
+    ∷ numeric Equal ATruth  -- 6
+    ∷ row OneTruth ATruth (λ a b c. onTruth not a)  -- 7 not
+    ∷ row TwoTruths ATruth (λ a b c. onTruths _&&_ a b)  -- 8 and
+    ∷ row TwoTruths ATruth (λ a b c. onTruths _||_ a b)  -- 9 or
+    ∷ row OneOfAny ATruth (λ a b c. known a)  -- 10
+    ∷ row TruthThenTwo TheirKind (λ a b c. choose a b c)  -- 11
+    ∷ row TwoAlike TheirKind (λ a b c. instead a b)  -- 12
+    ∷ []
+
+-- the row of a number that is no primitive's
+abbrev pub none : Row
+none = row OneOfAny ANumber (λ a b c. blank)
+
+unfoldable pub rowOf : ℕ → Row
+rowOf x = getD table x none
+
+-- "x from 0 to 12"
+unfoldable pub isPrimitive : ℕ → Bool
+isPrimitive x = x <? length table
+
+-- what primitive x gives for the operands a, b, c; one that it does not take is not read
+unfoldable pub primitive : ℕ → Value → Value → Value → Value
+primitive x = rowOf x .means
+
+-- ---- operands and kinds
+
+unfoldable pub countOf : Takes → ℕ
+countOf TwoNumbers = 2
+countOf OneTruth = 1
+countOf TwoTruths = 2
+countOf OneOfAny = 1
+countOf TruthThenTwo = 3
+countOf TwoAlike = 2
+
+unfoldable pub operands : ℕ → ℕ
+operands x = countOf (rowOf x .takes)
+
+-- whether operands of the kinds j, k, l will do
+unfoldable pub kindsFit : Takes → ℕ → ℕ → ℕ → Bool
+kindsFit TwoNumbers j k l = (j =? numberKind) and (k =? numberKind)
+kindsFit OneTruth j k l = j =? truthKind
+kindsFit TwoTruths j k l = (j =? truthKind) and (k =? truthKind)
+kindsFit OneOfAny j k l = true
+kindsFit TruthThenTwo j k l = (j =? truthKind) and (k =? l)
+kindsFit TwoAlike j k l = j =? k
+
+-- the result's kind, k being the second operand's. "primitives 5 to 10 a truth, 11 and 12 their last two operands' kind, the others a number"
+unfoldable pub kindGiven : Gives → ℕ → ℕ
+kindGiven ANumber k = numberKind
+kindGiven ATruth k = truthKind
+kindGiven TheirKind k = k

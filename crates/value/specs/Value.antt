@@ -1,0 +1,86 @@
+-- Values in two words, and kinds. 01: "A value is a number (signed 32-bit), a truth, a reactor, or blank. Each kind can be blank."
+use Prim.Native.Nat.{ℕ, zero, suc, _+_, _<_}
+use mathlib.Core.Path.{_≡_}
+use mathlib.Core.Bool.{Bool}
+use mathlib.Core.Logic.{_⊎_}
+use lib.IntN.{ℤ}
+use mir.Syntax.{w32}
+use mir.Val.{toZ, ofZ, boolByte}
+use Rattle.value.specs.Test.{_=?_}
+use Rattle.value.specs.declared.Value.{Value}
+
+-- "Marks: 0 blank with content 0, 1 number in two's complement, 2 truth, 3 reactor, 4 deployment index, 5 branch point with the index of its
+-- newest deployment." Values have the marks 0 to 3; 4 and 5 stand in memory only.
+abbrev pub blankMark : ℕ
+blankMark = 0
+
+abbrev pub numberMark : ℕ
+numberMark = 1
+
+abbrev pub truthMark : ℕ
+truthMark = 2
+
+abbrev pub reactorMark : ℕ
+reactorMark = 3
+
+abbrev pub deploymentMark : ℕ
+deploymentMark = 4
+
+abbrev pub pointMark : ℕ
+pointMark = 5
+
+-- "Kind 0 is number, 1 truth, 2+s a reactor of shape s."
+abbrev pub numberKind : ℕ
+numberKind = 0
+
+abbrev pub truthKind : ℕ
+truthKind = 1
+
+abbrev pub reactorKind : ℕ → ℕ
+reactorKind s = 2 + s
+
+-- the mark of a kind's values that are not blank
+unfoldable pub markOf : ℕ → ℕ
+markOf zero = numberMark
+markOf (suc zero) = truthMark
+markOf (suc (suc s)) = reactorMark
+
+abbrev pub value : ℕ → ℕ → Value
+value k c = record { mark = k; content = c }
+
+abbrev pub blank : Value
+blank = value blankMark 0
+
+-- a number's word is its two's complement
+abbrev pub number : ℤ → Value
+number z = value numberMark (ofZ w32 z)
+
+abbrev pub truth : Bool → Value
+truth t = value truthMark (boolByte t)
+
+unfoldable pub isBlank : Value → Bool
+isBlank v = v .mark =? blankMark
+
+unfoldable pub isNumber : Value → Bool
+isNumber v = v .mark =? numberMark
+
+unfoldable pub isTruth : Value → Bool
+isTruth v = v .mark =? truthMark
+
+unfoldable pub isTrue : Value → Bool
+isTrue v = v .content =? 1
+
+-- the integer of a number's word
+abbrev pub intOf : Value → ℤ
+intOf v = toZ w32 (v .content)
+
+-- which contents stand beside the mark of kind k: any beside a number's, 0 or 1 beside a truth's, and beside a reactor's of shape s what a
+-- program's `reactor s` says
+abbrev pub Content : (ℕ → ℕ → Type 0) → ℕ → ℕ → Type 0
+Content reactor zero c = Unit {0}
+Content reactor (suc zero) c = c < 2
+Content reactor (suc (suc s)) c = reactor s c
+
+-- "Blank is of every kind."
+abbrev pub OfKind : (ℕ → ℕ → Type 0) → ℕ → Value → Type 0
+OfKind reactor k v = (v ≡ blank) ⊎ ((v .mark ≡ markOf k) × Content reactor k (v .content))

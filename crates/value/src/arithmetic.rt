@@ -1,0 +1,89 @@
+// The primitives 0 to 6 on integers. Sums and products go by 64 bits, which hold them, and are then
+// brought back to 32.
+use crate::Operation;
+use crate::Value;
+ghost use mathlib.Core.Path.{_≡_};
+ghost use lib.IntN.{negℤ, _+ℤ_, _-ℤ_, _*ℤ_};
+ghost use lib.Signed.{quotZ, remZ};
+ghost use Rattle.value.specs.Primitive.{within, unlessZero, operation};
+
+// A result of 64 bits: blank where 32 bits do not hold it.
+pub fn narrow(z: i64) -> Value
+    ensures { λ r. ⌜ r ≡ within z ⌝ }
+{
+    if z < -2147483648 {
+        return Value::blank();
+    }
+    if 2147483647 < z {
+        return Value::blank();
+    }
+    Value::number(z as i32)
+}
+
+pub fn add(x: i32, y: i32) -> Value
+    ensures { λ r. ⌜ r ≡ within (x +ℤ y) ⌝ }
+{
+    narrow(x as i64 + y as i64)
+}
+
+pub fn subtract(x: i32, y: i32) -> Value
+    ensures { λ r. ⌜ r ≡ within (x -ℤ y) ⌝ }
+{
+    narrow(x as i64 - y as i64)
+}
+
+pub fn times(x: i32, y: i32) -> Value
+    ensures { λ r. ⌜ r ≡ within (x *ℤ y) ⌝ }
+{
+    narrow(x as i64 * y as i64)
+}
+
+// The lowest integer has no negation in 32 bits.
+pub fn negate(x: i32) -> Value
+    ensures { λ r. ⌜ r ≡ within (negℤ x) ⌝ }
+{
+    if x == -2147483648 {
+        Value::blank()
+    } else {
+        Value::number(-x)
+    }
+}
+
+// The machine's division is not defined at the lowest integer by -1, so -1 is apart.
+pub fn divide(x: i32, y: i32) -> Value
+    ensures { λ r. ⌜ r ≡ unlessZero quotZ x y ⌝ }
+{
+    if y == 0 {
+        return Value::blank();
+    }
+    if y == -1 {
+        return negate(x);
+    }
+    Value::number(x / y)
+}
+
+pub fn remainder(x: i32, y: i32) -> Value
+    ensures { λ r. ⌜ r ≡ unlessZero remZ x y ⌝ }
+{
+    if y == 0 {
+        return Value::blank();
+    }
+    if y == -1 {
+        return Value::number(0);
+    }
+    Value::number(x % y)
+}
+
+pub fn operate(f: Operation, x: i32, y: i32) -> Value
+    ensures { λ r. ⌜ r ≡ operation f x y ⌝ }
+{
+    match f {
+        Operation::Add => add(x, y),
+        Operation::Subtract => subtract(x, y),
+        Operation::Times => times(x, y),
+        Operation::Divide => divide(x, y),
+        Operation::Remainder => remainder(x, y),
+        Operation::Less => Value::truth(x < y),
+        Operation::Equal => Value::truth(x == y),
+    }
+}

@@ -1,0 +1,99 @@
+// The primitives on values, by number.
+use crate::Operation;
+use crate::Value;
+use crate::arithmetic::operate;
+use crate::integer::signed;
+ghost use mathlib.Core.Path.{_≡_};
+ghost use mathlib.Core.Bool.{_&&_, _||_};
+ghost use mathlib.Core.Bool as Bool;
+ghost use Rattle.value.specs.Primitive as P;
+
+// The primitives 0 to 6: blank unless both are numbers.
+pub fn on_numbers(f: Operation, a: Value, b: Value) -> Value
+    ensures { λ r. ⌜ r ≡ P.onNumbers (P.operation f) a b ⌝ }
+{
+    if a.mark != Value::NUMBER {
+        return Value::blank();
+    }
+    if b.mark != Value::NUMBER {
+        return Value::blank();
+    }
+    operate(f, signed(a.content), signed(b.content))
+}
+
+pub fn not(a: Value) -> Value
+    ensures { λ r. ⌜ r ≡ P.onTruth Bool.not a ⌝ }
+{
+    if a.mark != Value::TRUTH {
+        return Value::blank();
+    }
+    Value::truth(a.content != 1)
+}
+
+pub fn and(a: Value, b: Value) -> Value
+    ensures { λ r. ⌜ r ≡ P.onTruths _&&_ a b ⌝ }
+{
+    if a.mark != Value::TRUTH {
+        return Value::blank();
+    }
+    if b.mark != Value::TRUTH {
+        return Value::blank();
+    }
+    Value::truth((a.content == 1) & (b.content == 1))
+}
+
+pub fn or(a: Value, b: Value) -> Value
+    ensures { λ r. ⌜ r ≡ P.onTruths _||_ a b ⌝ }
+{
+    if a.mark != Value::TRUTH {
+        return Value::blank();
+    }
+    if b.mark != Value::TRUTH {
+        return Value::blank();
+    }
+    Value::truth((a.content == 1) | (b.content == 1))
+}
+
+pub fn known(a: Value) -> Value
+    ensures { λ r. ⌜ r ≡ P.known a ⌝ }
+{
+    Value::truth(a.mark != Value::BLANK)
+}
+
+pub fn choose(t: Value, a: Value, b: Value) -> Value
+    ensures { λ r. ⌜ r ≡ P.choose t a b ⌝ }
+{
+    if t.mark != Value::TRUTH {
+        return Value::blank();
+    }
+    if t.content == 1 { a } else { b }
+}
+
+pub fn instead(a: Value, b: Value) -> Value
+    ensures { λ r. ⌜ r ≡ P.instead a b ⌝ }
+{
+    if a.mark == Value::BLANK { b } else { a }
+}
+
+// Primitive `op` of its operands; one that it does not take is not read, and a number that is no
+// primitive's gives blank.
+pub fn primitive(op: u8, a: Value, b: Value, c: Value) -> Value
+    ensures { λ r. ⌜ r ≡ P.primitive op a b c ⌝ }
+{
+    match op {
+        0 => on_numbers(Operation::Add, a, b),
+        1 => on_numbers(Operation::Subtract, a, b),
+        2 => on_numbers(Operation::Times, a, b),
+        3 => on_numbers(Operation::Divide, a, b),
+        4 => on_numbers(Operation::Remainder, a, b),
+        5 => on_numbers(Operation::Less, a, b),
+        6 => on_numbers(Operation::Equal, a, b),
+        7 => not(a),
+        8 => and(a, b),
+        9 => or(a, b),
+        10 => known(a),
+        11 => choose(a, b, c),
+        12 => instead(a, b),
+        _ => Value::blank(),
+    }
+}

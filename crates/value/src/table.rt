@@ -1,0 +1,78 @@
+// The columns of the table of primitives that the load check reads.
+use crate::Gives;
+use crate::Takes;
+ghost use mathlib.Core.Path.{_≡_};
+ghost use Rattle.value.specs.Primitive as P;
+
+pub fn is_primitive(op: u8) -> bool
+    ensures { λ r. ⌜ r ≡ P.isPrimitive op ⌝ }
+{
+    op < 13
+}
+
+pub fn takes_of(op: u8) -> Takes
+    ensures { λ r. ⌜ r ≡ P.rowOf op .takes ⌝ }
+{
+    match op {
+        0..=6 => Takes::TwoNumbers,
+        7 => Takes::OneTruth,
+        8..=9 => Takes::TwoTruths,
+        10 => Takes::OneOfAny,
+        11 => Takes::TruthThenTwo,
+        12 => Takes::TwoAlike,
+        _ => Takes::OneOfAny,
+    }
+}
+
+pub fn gives_of(op: u8) -> Gives
+    ensures { λ r. ⌜ r ≡ P.rowOf op .gives ⌝ }
+{
+    match op {
+        0..=4 => Gives::ANumber,
+        5..=10 => Gives::ATruth,
+        11..=12 => Gives::TheirKind,
+        _ => Gives::ANumber,
+    }
+}
+
+// How many operands primitive `op` takes.
+pub fn operands(op: u8) -> u8
+    ensures { λ r. ⌜ r ≡ P.operands op ⌝ }
+{
+    let t = takes_of(op);
+    match t {
+        Takes::TwoNumbers => 2,
+        Takes::OneTruth => 1,
+        Takes::TwoTruths => 2,
+        Takes::OneOfAny => 1,
+        Takes::TruthThenTwo => 3,
+        Takes::TwoAlike => 2,
+    }
+}
+
+// Whether operands of the kinds j, k, l will do; the kind of one that is not taken is not read.
+pub fn kinds_fit(op: u8, j: u8, k: u8, l: u8) -> bool
+    ensures { λ r. ⌜ r ≡ P.kindsFit (P.rowOf op .takes) j k l ⌝ }
+{
+    let t = takes_of(op);
+    match t {
+        Takes::TwoNumbers => (j == 0) & (k == 0),
+        Takes::OneTruth => j == 1,
+        Takes::TwoTruths => (j == 1) & (k == 1),
+        Takes::OneOfAny => true,
+        Takes::TruthThenTwo => (j == 1) & (k == l),
+        Takes::TwoAlike => j == k,
+    }
+}
+
+// The kind of the result, k being that of the second operand.
+pub fn kind_given(op: u8, k: u8) -> u8
+    ensures { λ r. ⌜ r ≡ P.kindGiven (P.rowOf op .gives) k ⌝ }
+{
+    let g = gives_of(op);
+    match g {
+        Gives::ANumber => 0,
+        Gives::ATruth => 1,
+        Gives::TheirKind => k,
+    }
+}
