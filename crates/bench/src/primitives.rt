@@ -3,20 +3,33 @@ use libc::STDOUT_FILENO;
 use value::Value;
 
 const ADD: u8 = 0;
+
 const SUBTRACT: u8 = 1;
+
 const TIMES: u8 = 2;
+
 const DIVIDE: u8 = 3;
+
 const REMAINDER: u8 = 4;
+
 const LESS: u8 = 5;
+
 const EQUAL: u8 = 6;
+
 const NOT: u8 = 7;
+
 const AND: u8 = 8;
+
 const OR: u8 = 9;
+
 const KNOWN: u8 = 10;
+
 const CHOOSE: u8 = 11;
+
 const INSTEAD: u8 = 12;
 
 const LOWEST: i32 = -2147483648;
+
 const HIGHEST: i32 = 2147483647;
 
 fn put(text: &[u8]) {

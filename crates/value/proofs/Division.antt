@@ -1,5 +1,5 @@
--- Quotient and remainder make up the dividend, and the remainder is smaller than the divisor: 01, "The quotient is cut toward zero; the remainder
--- has the dividend's sign." Assumes nothing.
+-- Quotient and remainder make up the dividend, and the remainder is smaller than the divisor. 01: "The quotient is cut toward
+-- zero; the remainder has the dividend's sign." Assumes nothing.
 use Prim.Native.Nat.{ℕ, zero, suc, _+_, _*_, _/_, _%_, _<_}
 use native.Mathlib.Nat.{div-add-mod', mod-lt, zero-mul}
 use mathlib.Core.Path.{_≡_, refl, sym, ap, _∙_}
@@ -20,12 +20,16 @@ neg-sum m n = sym (negℤ-+ℤ (pos m) (pos n))
 -- x = q·y + r
 pub quotient-law : (x y : ℤ) → quotZ x y *ℤ y +ℤ remZ x y ≡ x
 quotient-law (pos a) (pos b) = ap pos (div-add-mod' a b)
-quotient-law (pos a) (negsuc b) = ap (λ (z : ℤ). z +ℤ pos (a % suc b)) (neg-times-neg (a / suc b) b) ∙ ap pos (div-add-mod' a (suc b))
+quotient-law (pos a) (negsuc b) =
+    ap (λ (z : ℤ). z +ℤ pos (a % suc b)) (neg-times-neg (a / suc b) b)
+    ∙ ap pos (div-add-mod' a (suc b))
 quotient-law (negsuc a) (pos b) =
     ap (λ (z : ℤ). z +ℤ negℤ (pos (suc a % b))) (neg-times (suc a / b) b)
     ∙ neg-sum (suc a / b * b) (suc a % b)
     ∙ ap (λ (n : ℕ). negℤ (pos n)) (div-add-mod' (suc a) b)
-quotient-law (negsuc a) (negsuc b) = neg-sum (suc a / suc b * suc b) (suc a % suc b) ∙ ap (λ (n : ℕ). negℤ (pos n)) (div-add-mod' (suc a) (suc b))
+quotient-law (negsuc a) (negsuc b) =
+    neg-sum (suc a / suc b * suc b) (suc a % suc b)
+    ∙ ap (λ (n : ℕ). negℤ (pos n)) (div-add-mod' (suc a) (suc b))
 
 abs-neg : (n : ℕ) → natAbs (negℤ (pos n)) ≡ n
 abs-neg zero = refl

@@ -1,5 +1,5 @@
--- Signed integers as the machine has them: bits, read by `toZ` and written by `ofZ`. What is read back, which results fit, and what the operations
--- of specs/Primitive.antt are where they fit. All signed reasoning of the crate is here. Assumes nothing.
+-- Signed integers as the machine has them: bits, read by `toZ` and written by `ofZ`. What is read back, which results fit, and
+-- what the operations of specs/Primitive.antt are where they fit. All signed reasoning of the crate is here. Assumes nothing.
 use Prim.Native.Nat.{ℕ, zero, suc, _+_, _-_, _*_, _/_, _^_, _≤_, _<_}
 use native.Mathlib.Nat.{mul-le-mul, zero-add, lt-of-le-of-lt, div-one, mod-one, div-le-self, div-lt-self}
 use native.Mathlib.Omega.{arith}

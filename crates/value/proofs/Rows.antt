@@ -14,7 +14,8 @@ Each Q k (suc n) = Q k × Each Q (suc k) n
 
 pub each : (Q : ℕ → Type 0) (k n : ℕ) → Each Q k n → (x : ℕ) → k ≤ x → x < k + n → Q x
 each Q k zero qs x low high = absurd (omega arith)
-each Q k (suc n) qs x low high = ⊎-elim (λ e. subst Q e (qs .0)) (λ h. each Q (suc k) n (qs .1) x h (omega arith)) (eq-or-lt-of-le low)
+each Q k (suc n) qs x low high =
+    ⊎-elim (λ e. subst Q e (qs .0)) (λ h. each Q (suc k) n (qs .1) x h (omega arith)) (eq-or-lt-of-le low)
 
 -- x is none of the n numbers from k on, as the last arm of a `match` has it
 abbrev pub Missed : ℕ → ℕ → ℕ → Type 0

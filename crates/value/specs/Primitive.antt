@@ -1,4 +1,5 @@
--- The primitives of 01, "Primitives": ONE table, a row for each number from 0 on, with what it takes, what it gives and what it means.
+-- The primitives of 01, "Primitives": ONE table, a row for each number from 0 on, with what it takes, what it gives and what it
+-- means.
 use Prim.Native.Nat.{ℕ}
 use mathlib.Core.Bool.{Bool, true, false, not, _&&_, _||_}
 use mathlib.Core.List.{List, [], _∷_}
@@ -39,8 +40,8 @@ sameInt (negsuc m) (negsuc n) = eqb m n
 unfoldable pub unlessZero : (ℤ → ℤ → ℤ) → ℤ → ℤ → Value
 unlessZero f x y = pick (isZero y) blank (within (f x y))
 
--- "0 add, 1 subtract (a−b), 2 times, 3 divide, 4 remainder, 5 less, 6 equal: two numbers. The quotient is cut toward zero; the remainder has the
--- dividend's sign." (`quotZ` and `remZ` do so; laws `quotient-law`, `remainder-small`.)
+-- "0 add, 1 subtract (a−b), 2 times, 3 divide, 4 remainder, 5 less, 6 equal: two numbers. The quotient is cut toward zero; the
+-- remainder has the dividend's sign." That is the kit's `quotZ` and `remZ`; proofs/Division.antt has their laws.
 unfoldable pub operation : Operation → ℤ → ℤ → Value
 operation Add x y = within (x +ℤ y)
 operation Subtract x y = within (x -ℤ y)
@@ -50,7 +51,7 @@ operation Remainder x y = unlessZero remZ x y
 operation Less x y = truth (ltZ x y)
 operation Equal x y = truth (sameInt x y)
 
--- ---- values. "Any blank operand of 0 to 9 gives blank." So does an operand of another kind, which no accepted program passes.
+-- ---- values. "Any blank operand of 0 to 9 gives blank." So does one of another kind, which no accepted program passes.
 
 unfoldable pub onNumbers : (ℤ → ℤ → Value) → Value → Value → Value
 onNumbers f a b = pick (isNumber a and isNumber b) (f (intOf a) (intOf b)) blank
@@ -65,8 +66,8 @@ onTruths f a b = pick (isTruth a and isTruth b) (truth (f (isTrue a) (isTrue b))
 unfoldable pub known : Value → Value
 known a = truth (not (isBlank a))
 
--- "11 choose: a truth, then two operands of one kind; the first of them on true, the second on false." "Choose is blank for a blank truth;
--- otherwise the operand not chosen has no effect."
+-- "11 choose: a truth, then two operands of one kind; the first of them on true, the second on false." "Choose is blank for a
+-- blank truth; otherwise the operand not chosen has no effect."
 unfoldable pub choose : Value → Value → Value → Value
 choose t a b = pick (isTruth t) (pick (isTrue t) a b) blank
 
@@ -81,7 +82,7 @@ pub record Row : Type 0 where
   pub gives : Gives
   pub means : Value → Value → Value → Value
 
-abbrev row : Takes → Gives → (Value → Value → Value → Value) → Row
+abbrev pub row : Takes → Gives → (Value → Value → Value → Value) → Row
 row t g f = record { takes = t; gives = g; means = f }
 
 abbrev pub numeric : Operation → Gives → Row
@@ -100,7 +101,7 @@ table =
     ∷ row TwoTruths ATruth (λ a b c. onTruths _&&_ a b)  -- 8 and
     ∷ row TwoTruths ATruth (λ a b c. onTruths _||_ a b)  -- 9 or
     ∷ row OneOfAny ATruth (λ a b c. known a)  -- 10
-    ∷ row TruthThenTwo TheirKind (λ a b c. choose a b c)  -- 11
+    ∷ row TruthThenTwo TheirKind choose  -- 11
     ∷ row TwoAlike TheirKind (λ a b c. instead a b)  -- 12
     ∷ []
 
@@ -141,7 +142,8 @@ kindsFit OneOfAny j k l = true
 kindsFit TruthThenTwo j k l = (j =? truthKind) and (k =? l)
 kindsFit TwoAlike j k l = j =? k
 
--- the result's kind, k being the second operand's. "primitives 5 to 10 a truth, 11 and 12 their last two operands' kind, the others a number"
+-- the result's kind, k being the second operand's. "primitives 5 to 10 a truth, 11 and 12 their last two operands' kind, the
+-- others a number"
 unfoldable pub kindGiven : Gives → ℕ → ℕ
 kindGiven ANumber k = numberKind
 kindGiven ATruth k = truthKind

@@ -1,4 +1,5 @@
--- Tests on numbers, and a choice by a test. Shut, so that proofs go by the laws of proofs/Tests.antt and a stuck test stays an atom.
+-- Tests on numbers, and a choice by a test. Shut, so that proofs go by the laws of proofs/Tests.antt and a stuck test stays
+-- an atom.
 -- Arguments are computed before a call: `pick` is for small answers.
 use Prim.Native.Nat.{ℕ}
 use mathlib.Core.Bool.{Bool, true, false}

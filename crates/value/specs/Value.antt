@@ -1,4 +1,5 @@
--- Values in two words, and kinds. 01: "A value is a number (signed 32-bit), a truth, a reactor, or blank. Each kind can be blank."
+-- Values in two words, and kinds. 01: "A value is a number (signed 32-bit), a truth, a reactor, or blank. Each kind can be
+-- blank."
 use Prim.Native.Nat.{ℕ, zero, suc, _+_, _<_}
 use mathlib.Core.Path.{_≡_}
 use mathlib.Core.Bool.{Bool}
@@ -9,8 +10,8 @@ use mir.Val.{toZ, ofZ, boolByte}
 use Rattle.value.specs.Test.{_=?_}
 use Rattle.value.specs.declared.Value.{Value}
 
--- "Marks: 0 blank with content 0, 1 number in two's complement, 2 truth, 3 reactor, 4 deployment index, 5 branch point with the index of its
--- newest deployment." Values have the marks 0 to 3; 4 and 5 stand in memory only.
+-- "Marks: 0 blank with content 0, 1 number in two's complement, 2 truth, 3 reactor, 4 deployment index, 5 branch point with
+-- the index of its newest deployment." Values have the marks 0 to 3; 4 and 5 stand in memory only.
 abbrev pub blankMark : ℕ
 blankMark = 0
 
@@ -74,8 +75,8 @@ isTrue v = v .content =? 1
 abbrev pub intOf : Value → ℤ
 intOf v = toZ w32 (v .content)
 
--- which contents stand beside the mark of kind k: any beside a number's, 0 or 1 beside a truth's, and beside a reactor's of shape s what a
--- program's `reactor s` says
+-- which contents stand beside the mark of kind k: any beside a number's, 0 or 1 beside a truth's, and beside a reactor's of
+-- shape s those that `reactor s` holds of
 abbrev pub Content : (ℕ → ℕ → Type 0) → ℕ → ℕ → Type 0
 Content reactor zero c = Unit {0}
 Content reactor (suc zero) c = c < 2

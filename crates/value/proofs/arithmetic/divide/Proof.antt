@@ -13,7 +13,10 @@ returns c = c .blank .ensures ∙ sym (by-zero quotZ _ (c .before .before .fits 
 returns-2 : tie.Need-returns-2
 returns-2 c =
     let f = c .before .before .before .fits in
-    c .negate .ensures ∙ ap (λ (z : ℤ). within (negℤ z)) (is-back (f .x)) ∙ sym (by-minus-one quotZ _ (f .y) (c .before .if2 .taken) ∙ ap within (quot-minus-one (c .before .before .before .args .x)))
+    let quotient = by-minus-one quotZ _ (f .y) (c .before .if2 .taken) in
+    c .negate .ensures
+    ∙ ap (λ (z : ℤ). within (negℤ z)) (is-back (f .x))
+    ∙ sym (quotient ∙ ap within (quot-minus-one (c .before .before .before .args .x)))
 
 div-number : tie.Need-div-number
 div-number c =
@@ -23,7 +26,9 @@ div-number c =
 returns-3 : tie.Need-returns-3
 returns-3 c =
     let f = c .before .before .before .fits in
-    c .number .ensures ∙ divided (f .x) (f .y) (c .before .before .if1 .left) quotZ (quot-fits (f .x) (f .y) (c .before .before .if1 .left) (c .before .if2 .left))
+    let not-zero = c .before .before .if1 .left in
+    c .number .ensures
+    ∙ divided (f .x) (f .y) not-zero quotZ (quot-fits (f .x) (f .y) not-zero (c .before .if2 .left))
 
 pub divide-spec : {M : Type 1} → statement M
 divide-spec =

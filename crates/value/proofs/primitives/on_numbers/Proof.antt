@@ -20,7 +20,11 @@ unfolding onNumbers isNumber
 returns-3 c =
     let x = c .before .before .signed in
     let y = c .before .signed2 in
-    yes _ (both! (eq! (c .before .before .before .before .before .if1 .left)) (eq! (c .before .before .before .if2 .left))) (rw (is-back {z = x .result} (sfits-of {w = w32} (x .ok)), is-back {z = y .result} (sfits-of {w = w32} (y .ok)), x .ensures, y .ensures) at (c .operate .ensures))
+    let is-x = is-back {z = x .result} (sfits-of {w = w32} (x .ok)) in
+    let is-y = is-back {z = y .result} (sfits-of {w = w32} (y .ok)) in
+    yes _
+    (both! (eq! (c .before .before .before .before .before .if1 .left)) (eq! (c .before .before .before .if2 .left)))
+    (rw (is-x, is-y, x .ensures, y .ensures) at (c .operate .ensures))
 
 pub on-numbers-spec : {M : Type 1} → statement M
 on-numbers-spec =
