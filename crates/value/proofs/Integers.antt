@@ -86,10 +86,14 @@ module _ {z : ℤ} (f : SFits w32 z) (h : ltZ (back z) (pos 0) ≡ true) where
       let e : 4294967295 - mag z ≡ ofZ w32 (negsuc (mag z)) = omega (arith, f .sfits) in
       ap (λ (y : ℤ). 4294967295 - natAbs y) flipped-back ∙ e ∙ sym (ap (ofZ w32) below)
 
-  pub magnitude-below : natAbs (back (negsuc 0 -ℤ back z)) + 1 ≡ natAbs z
+  -- the word's distance from the last, which is that of z from -1
+  pub magnitude-below : 4294967295 - ofZ w32 z + 1 ≡ natAbs z
   magnitude-below =
-      let e : mag z + 1 ≡ natAbs (negsuc (mag z)) = omega arith in
-      ap (λ (y : ℤ). natAbs y + 1) flipped-back ∙ e ∙ sym (ap natAbs below)
+      let e : 4294967295 - ofZ w32 (negsuc (mag z)) + 1 ≡ natAbs (negsuc (mag z)) = omega (arith, f .sfits) in
+      ap (λ (y : ℤ). 4294967295 - ofZ w32 y + 1) below ∙ e ∙ sym (ap natAbs below)
+
+  pub word-high : 2147483648 ≤ ofZ w32 z
+  word-high = subst (λ (y : ℤ). 2147483648 ≤ ofZ w32 y) (sym below) (omega (arith, f .sfits))
 
 module _ {z : ℤ} (f : SFits w32 z) (h : ltZ (back z) (pos 0) ≡ false) where
   above : z ≡ pos (mag z)
@@ -100,6 +104,9 @@ module _ {z : ℤ} (f : SFits w32 z) (h : ltZ (back z) (pos 0) ≡ false) where
 
   pub word-above : natAbs (back z) ≡ ofZ w32 z
   word-above = ap natAbs from-zero ∙ sym (ap (ofZ w32) above)
+
+  pub magnitude-above : ofZ w32 z ≡ natAbs z
+  magnitude-above = sym word-above ∙ ap natAbs (is-back f)
 
 -- `signed`, in the upper half of the words
 down : (n : ℕ) → negsuc 0 -ℤ pos n ≡ negsuc n

@@ -31,5 +31,9 @@ pub fn word(z: i32) -> u32
 pub fn magnitude(z: i32) -> u32
     ensures { λ r. ⌜ r ≡ natAbs z ⌝ }
 {
-    if z < 0 { (-1 - z) as u32 + 1 } else { z as u32 }
+    if z < 0 {
+        0xFFFF_FFFF - word(z) + 1
+    } else {
+        word(z)
+    }
 }

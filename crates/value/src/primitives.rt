@@ -6,6 +6,8 @@ use crate::integer::signed;
 ghost use mathlib.Core.Path.{_≡_};
 ghost use mathlib.Core.Bool.{_&&_, _||_};
 ghost use mathlib.Core.Bool as Bool;
+ghost use Rattle.value.specs.Test.{pick, _and_};
+ghost use Rattle.value.specs.Value.{blank, truth, isTruth};
 ghost use Rattle.value.specs.Primitive as P;
 
 // The primitives 0 to 6: blank unless both are numbers.
@@ -30,8 +32,9 @@ pub fn not(a: Value) -> Value
     Value::truth(a.content != 1)
 }
 
-pub fn and(a: Value, b: Value) -> Value
-    ensures { λ r. ⌜ r ≡ P.onTruths _&&_ a b ⌝ }
+// The truth t, of two truths; blank unless both are.
+pub fn on_truths(a: Value, b: Value, t: bool) -> Value
+    ensures { λ r. ⌜ r ≡ pick (isTruth a and isTruth b) (truth t) blank ⌝ }
 {
     if a.mark != Value::TRUTH {
         return Value::blank();
@@ -39,19 +42,19 @@ pub fn and(a: Value, b: Value) -> Value
     if b.mark != Value::TRUTH {
         return Value::blank();
     }
-    Value::truth((a.content == 1) & (b.content == 1))
+    Value::truth(t)
+}
+
+pub fn and(a: Value, b: Value) -> Value
+    ensures { λ r. ⌜ r ≡ P.onTruths _&&_ a b ⌝ }
+{
+    on_truths(a, b, (a.content == 1) & (b.content == 1))
 }
 
 pub fn or(a: Value, b: Value) -> Value
     ensures { λ r. ⌜ r ≡ P.onTruths _||_ a b ⌝ }
 {
-    if a.mark != Value::TRUTH {
-        return Value::blank();
-    }
-    if b.mark != Value::TRUTH {
-        return Value::blank();
-    }
-    Value::truth((a.content == 1) | (b.content == 1))
+    on_truths(a, b, (a.content == 1) | (b.content == 1))
 }
 
 pub fn known(a: Value) -> Value

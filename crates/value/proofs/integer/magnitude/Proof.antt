@@ -1,33 +1,32 @@
+use Prim.Native.Nat.{ℕ, _+_, _-_}
 use native.Mathlib.Omega.{arith}
-use mathlib.Core.Path.{ap}
-use lib.IntN.{natAbs}
-use Rattle.value.proofs.Integers.{is-back, flips, flipped-back, from-zero, magnitude-below}
+use mathlib.Core.Path.{_≡_, ap, _∙_}
+use mir.Syntax.{w32}
+use mir.Val.{ofZ}
+use Rattle.value.proofs.Integers.{is-back, word-high, magnitude-below, magnitude-above}
+use borrow.Author.Needs.{needs}
 use Rattle.value.proofs.integer.magnitude.Statement.{statement}
 use Rattle.value.proofs.integer.magnitude.Tie as tie
 
-sub-result : tie.Need-sub-result
-sub-result c = flips (c .before .fits .z) (c .if1 .taken)
-
-cast-result : tie.Need-cast-result
-cast-result c =
-    let f = c .before .fits in
-    rw (flipped-back (f .z) (c .if1 .taken)) (tt, omega (arith, f .z .sfits))
-
 add-result : tie.Need-add-result
 add-result c =
-    let f = c .before .fits in
-    rw (flipped-back (f .z) (c .if1 .taken)) (omega (arith, f .z .sfits))
-
-cast-result-2 : tie.Need-cast-result-2
-cast-result-2 c =
-    let f = c .before .fits in
-    rw (from-zero (f .z) (c .if1 .left)) (tt, omega (arith, f .z .sfits))
+    let f = c .before .before .fits in
+    let e : c .word .result ≡ ofZ w32 (c .before .before .args .z) = c .word .ensures ∙ ap (ofZ w32) (is-back (f .z)) in
+    omega (arith, e, word-high (f .z) (c .before .if1 .taken))
 
 returns : tie.Need-returns
-returns c = magnitude-below (c .before .fits .z) (c .if1 .taken)
+returns c =
+    let f = c .before .before .fits in
+    ap (λ (n : ℕ). 4294967295 - n + 1) (c .word .ensures ∙ ap (ofZ w32) (is-back (f .z)))
+    ∙ magnitude-below (f .z) (c .before .if1 .taken)
 
 returns-2 : tie.Need-returns-2
-returns-2 c = ap natAbs (is-back (c .before .fits .z))
+returns-2 c =
+    let f = c .before .before .fits in
+    c .word2 .ensures ∙ ap (ofZ w32) (is-back (f .z)) ∙ magnitude-above (f .z) (c .before .if1 .left)
 
 pub magnitude-spec : {M : Type 1} → statement M
-magnitude-spec = tie.close (tie.spec sub-result cast-result add-result cast-result-2 returns returns-2)
+magnitude-spec =
+    tie.close
+    (tie.spec
+    (λ c κs. search needs) (λ c. search needs) add-result (λ c κs. search needs) returns returns-2)

@@ -1,26 +1,13 @@
-use Rattle.value.proofs.Tests.{yes, no, eq!, eq×, both!, left×, right×}
 use Rattle.value.specs.Test.{_=?_}
-use Rattle.value.specs.Value.{isTruth, isTrue}
+use Rattle.value.specs.Value.{isTrue}
 use Rattle.value.specs.Primitive.{onTruths}
 use borrow.Author.Needs.{needs}
 use Rattle.value.proofs.primitives.and.Statement.{statement}
 use Rattle.value.proofs.primitives.and.Tie as tie
 
 returns : tie.Need-returns
-unfolding onTruths isTruth isTrue _=?_
-returns c = no _ (left× _ (eq× (c .before .if1 .taken))) (c .blank .ensures)
-
-returns-2 : tie.Need-returns-2
-unfolding onTruths isTruth isTrue _=?_
-returns-2 c = no _ (right× _ (eq× (c .before .if2 .taken))) (c .blank2 .ensures)
-
-returns-3 : tie.Need-returns-3
-unfolding onTruths isTruth isTrue _=?_
-returns-3 c =
-    yes _ (both! (eq! (c .before .before .before .before .before .if1 .left)) (eq! (c .before .before .before .if2 .left))) (c .truth .ensures)
+unfolding onTruths isTrue _=?_
+returns c = c .on-truths .ensures
 
 pub and-spec : {M : Type 1} → statement M
-and-spec =
-    tie.close
-    (tie.spec
-    (λ c κs. search needs) returns (λ c κs. search needs) returns-2 (λ c κs. search needs) returns-3)
+and-spec = tie.close (tie.spec (λ c κs. search needs) returns)
