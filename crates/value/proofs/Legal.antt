@@ -11,7 +11,7 @@ use lib.ListN.{getD}
 use lib.IntN.{ℤ, pos, negsuc, _+ℤ_, _-ℤ_, _*ℤ_}
 use lib.Signed.{ltZ}
 use borrow.Author.Tests.{ltb-false}
-use Rattle.value.proofs.Tests.{pick-any, is-eq, and-right, not-true}
+use Rattle.value.proofs.Tests.{pick-any, eq?, both?, not-true}
 use Rattle.value.specs.Test.{pick, _and_, _=?_}
 use Rattle.value.specs.Value.{numberKind, truthKind, markOf, blank, number, truth, isBlank, isNumber, isTruth, isTrue, intOf, OfKind}
 use Rattle.value.specs.Primitive.{in32, within, isZero, sameInt, unlessZero, operation, onNumbers, onTruth, onTruths, known, choose, instead, Row, row, numeric, table, none, rowOf, primitive, countOf, operands, kindsFit, kindGiven}
@@ -89,13 +89,13 @@ module _
     choice : Kept (row TruthThenTwo TheirKind choose)
     unfolding choose kindGiven kindsFit countOf
     choice j k l a b c fit ia ib ic =
-        let as-second = subst (λ (n : ℕ). Is n c) (sym (is-eq (and-right (j =? truthKind) fit))) (ic (omega arith)) in
+        let as-second = subst (λ (n : ℕ). Is n c) (sym (eq? (both? {s = j =? truthKind} fit .1))) (ic (omega arith)) in
         unless-blank k (isTruth a) (λ e. pick-any (Is k) (isTrue a) (λ e. ib (omega arith)) (λ e. as-second))
 
     alike : Kept (row TwoAlike TheirKind (λ a b c. instead a b))
     unfolding instead kindGiven kindsFit countOf
     alike j k l a b c fit ia ib ic =
-        pick-any (Is k) (isBlank a) (λ e. ib (omega arith)) (λ e. subst (λ (n : ℕ). Is n a) (is-eq fit) ia)
+        pick-any (Is k) (isBlank a) (λ e. ib (omega arith)) (λ e. subst (λ (n : ℕ). Is n a) (eq? fit) ia)
 
     each-kept : Every Kept table
     unfolding table operation kindGiven

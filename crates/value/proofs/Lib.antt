@@ -1,4 +1,6 @@
 pub mod Tests
+pub mod Sweeps
+pub mod Below
 pub mod Integers
 pub mod Rows
 pub mod Legal

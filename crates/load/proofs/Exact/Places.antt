@@ -1,0 +1,170 @@
+-- Where a location lies, and what class of thing stands there after the first k commands of reactor r.
+use Prim.Native.Nat.{ℕ, suc, _+_, _-_, _≤_, _<_}
+use mathlib.Core.Path.{_≡_, refl, sym, _∙_, ap, subst}
+use mathlib.Core.Bool.{true≢false}
+use mathlib.Core.Logic.{_↔_, inl, inr}
+use mathlib.Core.List.{List}
+use native.Mathlib.Omega.{arith}
+use native.Mathlib.Numerals.{lt-of-le-of-ne}
+use Rattle.value.specs.Test.{pick, _<?_, _≤?_, _and_}
+use Rattle.value.proofs.Tests.{cases, yes, no, lt!, lt×, le!, lt?, lt×?, le?, both!, both?}
+use Rattle.program.specs.Bytes.{commandsIn}
+use Rattle.program.specs.Command.{Cmd, cmdOf, givesValue, none}
+use Rattle.program.specs.Location.{sources, sinks, commandLoc, sinkLoc, locations, cmdAt}
+use Rattle.load.specs.Rules.{Value}
+use Rattle.load.proofs.Exact.Class.{Class, a-value, a-sink, nothing, classOf, IsMade, clash, shows-as, value-class}
+
+-- what stands at location l after the first k commands
+unfoldable pub classAt : List ℕ → ℕ → ℕ → ℕ → Class
+classAt p r k l =
+    pick (l <? sources p r) a-value
+    (pick (l <? commandLoc p r k) (classOf (cmdAt p r l))
+    (pick (l <? sinkLoc p r 0) nothing
+    (pick (l <? locations p r) (a-sink (l - sinkLoc p r 0)) nothing)))
+
+-- ---- commands and their locations
+
+module _ (p : List ℕ) (r : ℕ) where
+  -- locations go as positions do
+  pub loc-lt : {i k : ℕ} → i < k → commandLoc p r i < commandLoc p r k
+  unfolding commandLoc
+  loc-lt h = omega arith
+
+  pub loc-lt-back : {i k : ℕ} → commandLoc p r i < commandLoc p r k → i < k
+  unfolding commandLoc
+  loc-lt-back h = omega arith
+
+  pub cmd-there : (i : ℕ) → i < commandsIn p r → cmdAt p r (commandLoc p r i) ≡ cmdOf p r i
+  unfolding cmdAt commandLoc sinkLoc
+  cmd-there i h =
+      let e : sources p r + i - sources p r ≡ i = omega arith in
+      sym (yes none (both! (le! (omega arith)) (lt! (omega arith))) (ap (cmdOf p r) (sym e)))
+
+  -- a command is at a command's location
+  pub cmd-where : (l : ℕ) (c : Cmd) → cmdAt p r l ≡ c → (c ≡ none → ⊥) →
+      (i : ℕ) × (i < commandsIn p r) × (l ≡ commandLoc p r i) × (cmdOf p r i ≡ c)
+  unfolding cmdAt commandLoc sinkLoc
+  cmd-where l c e d =
+      cases ((sources p r ≤? l) and (l <? sources p r + commandsIn p r + 0))
+      (λ t.
+      let u = both? t in
+      let a : sources p r ≤ l = le? (u .0) in
+      let b : l < sources p r + commandsIn p r + 0 = lt? (u .1) in
+      (l - sources p r, omega arith, omega arith, yes none t refl ∙ e))
+      (λ t. absurd (d (sym e ∙ sym (no _ t refl))))
+
+  -- ---- the class of a location
+
+  module _ (k : ℕ) where
+    pub class-source : (l : ℕ) → l < sources p r → classAt p r k l ≡ a-value
+    unfolding classAt
+    class-source l h = sym (yes _ (lt! h) refl)
+
+    pub class-made : (i : ℕ) → i < k → k ≤ commandsIn p r → classAt p r k (commandLoc p r i) ≡ classOf (cmdOf p r i)
+    unfolding classAt commandLoc
+    class-made i h few =
+        sym (no _ (lt× (omega arith)) (yes _ (lt! (omega arith))
+        (sym (ap classOf (unfold commandLoc in cmd-there i (omega arith))))))
+
+    pub class-ahead : (i : ℕ) → k ≤ i → i < commandsIn p r → classAt p r k (commandLoc p r i) ≡ nothing
+    unfolding classAt commandLoc sinkLoc
+    class-ahead i h few = sym (no _ (lt× (omega arith)) (no _ (lt× (omega arith)) (yes _ (lt! (omega arith)) refl)))
+
+    pub class-sink : (x : ℕ) → x < sinks p r → k ≤ commandsIn p r → classAt p r k (sinkLoc p r x) ≡ a-sink x
+    unfolding classAt commandLoc sinkLoc locations
+    class-sink x h few =
+        let e : sources p r + commandsIn p r + x - (sources p r + commandsIn p r + 0) ≡ x = omega arith in
+        sym (no _ (lt× (omega arith)) (no _ (lt× (omega arith)) (no _ (lt× (omega arith))
+        (yes _ (lt! (omega arith)) (sym (ap a-sink e))))))
+
+    pub class-past : (l : ℕ) → locations p r ≤ l → k ≤ commandsIn p r → classAt p r k l ≡ nothing
+    unfolding classAt commandLoc sinkLoc locations
+    class-past l h few =
+        sym (no _ (lt× (omega arith)) (no _ (lt× (omega arith)) (no _ (lt× (omega arith)) (no _ (lt× (omega arith)) refl))))
+
+    -- every location is one of these five
+    pub by-place : (P : ℕ → Class → Type 0) → k ≤ commandsIn p r →
+        ((l : ℕ) → l < sources p r → P l a-value) →
+        ((i : ℕ) → i < k → P (commandLoc p r i) (classOf (cmdOf p r i))) →
+        ((i : ℕ) → k ≤ i → i < commandsIn p r → P (commandLoc p r i) nothing) →
+        ((x : ℕ) → x < sinks p r → P (sinkLoc p r x) (a-sink x)) →
+        ((l : ℕ) → locations p r ≤ l → P l nothing) →
+        (l : ℕ) → P l (classAt p r k l)
+    unfolding commandLoc sinkLoc locations
+    by-place P few src made ahead snk past l =
+        cases (l <? sources p r) (λ y. subst (P l) (sym (class-source l (lt? y))) (src l (lt? y))) (λ y.
+        let a : sources p r ≤ l = lt×? y in
+        cases (l <? sources p r + commandsIn p r) (λ z.
+        let b : l < sources p r + commandsIn p r = lt? z in
+        let i : ℕ = l - sources p r in
+        let e : l ≡ sources p r + i = omega arith in
+        let c : i < commandsIn p r = omega arith in
+        subst (λ j. P j (classAt p r k j)) (sym e)
+        (cases (i <? k)
+        (λ w. subst (P _) (sym (class-made i (lt? w) few)) (made i (lt? w)))
+        (λ w. subst (P _) (sym (class-ahead i (lt×? w) c)) (ahead i (lt×? w) c)))) (λ z.
+        let b : sources p r + commandsIn p r ≤ l = lt×? z in
+        let x : ℕ = l - (sources p r + commandsIn p r) in
+        let e : l ≡ sources p r + commandsIn p r + x = omega arith in
+        cases (x <? sinks p r)
+        (λ w. subst (λ j. P j (classAt p r k j)) (sym e) (subst (P _) (sym (class-sink x (lt? w) few)) (snk x (lt? w))))
+        (λ w.
+        let c : sinks p r ≤ x = lt×? w in
+        let d : sources p r + commandsIn p r + sinks p r ≤ l = omega arith in
+        subst (P l) (sym (class-past l d few)) (past l d))))
+
+  -- one command more changes what stands at its own location only
+  pub class-step : (k l : ℕ) → (l ≡ commandLoc p r k → ⊥) → classAt p r (suc k) l ≡ classAt p r k l
+  unfolding classAt
+  class-step k l d =
+      ap (λ t.
+      pick (l <? sources p r) a-value
+      (pick t (classOf (cmdAt p r l))
+      (pick (l <? sinkLoc p r 0) nothing
+      (pick (l <? locations p r) (a-sink (l - sinkLoc p r 0)) nothing)))) same
+    where
+      next : commandLoc p r (suc k) ≡ suc (commandLoc p r k)
+      next = unfold commandLoc in omega arith
+
+      same : (l <? commandLoc p r (suc k)) ≡ (l <? commandLoc p r k)
+      same =
+          cases (l <? commandLoc p r k)
+          (λ y. let h : l < commandLoc p r k = lt? y in lt! (omega (arith, next)) ∙ sym y)
+          (λ y. let h : commandLoc p r k < l = lt-of-le-of-ne (lt×? y) (λ e. d (sym e)) in lt× (omega (arith, next)) ∙ sym y)
+
+  -- ---- the classes in the words of the rules
+
+  -- a value operand of the next command
+  pub value-exact : (k l : ℕ) → k ≤ commandsIn p r → (classAt p r k l ≡ a-value) ↔ Value p r (commandLoc p r k) l
+  value-exact k l few = (
+    by-place k (λ j c. c ≡ a-value → Value p r (commandLoc p r k) j) few
+        (λ j h e. inl h)
+        (λ i h e. inr (loc-lt h, ap givesValue (cmd-there i (omega arith)) ∙ shows-as (cmdOf p r i) e))
+        (λ i h n e. clash e (omega arith))
+        (λ x h e. clash e (omega arith))
+        (λ j h e. clash e (omega arith)) l,
+    (λ v. elim v [
+      | inl h ↦ class-source k l h
+      | inr h ↦
+          (let w = cmd-where l (cmdAt p r l) refl (λ e. true≢false (sym (h .1) ∙ ap givesValue e ∙ unfold givesValue in refl)) in
+          let i : w .0 < k = loc-lt-back (subst (λ j. j < commandLoc p r k) (w .2) (h .0)) in
+          ap (classAt p r k) (w .2) ∙ class-made k (w .0) i few ∙ value-class (cmdOf p r (w .0)) (ap givesValue (w .3) ∙ h .1))
+    ]),
+  )
+
+  -- it is lower
+  pub value-low : (k l : ℕ) → k ≤ commandsIn p r → classAt p r k l ≡ a-value → l < commandLoc p r k
+  unfolding commandLoc
+  value-low k l few e = elim (value-exact k l few .0 e) [ inl q ↦ (omega arith) | inr q ↦ q .0 ]
+
+  -- a deployment or a branch point stands at an earlier command's location
+  pub made-where : (k l : ℕ) → k ≤ commandsIn p r → IsMade (classAt p r k l) →
+      (i : ℕ) × (i < k) × (l ≡ commandLoc p r i) × (classAt p r k l ≡ classOf (cmdOf p r i))
+  made-where k l few =
+      by-place k (λ j c. IsMade c → (i : ℕ) × (i < k) × (j ≡ commandLoc p r i) × (c ≡ classOf (cmdOf p r i))) few
+      (λ j h z. absurd z)
+      (λ i h z. (i, h, refl, refl))
+      (λ i h n z. absurd z)
+      (λ x h z. absurd z)
+      (λ j h z. absurd z)
+      l

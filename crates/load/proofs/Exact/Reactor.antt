@@ -1,0 +1,167 @@
+-- `reactor-exact`: the scan of one reactor accepts exactly what the rules say. `kinds-agree`: what its kind table holds on the way.
+use Prim.Native.Nat.{ℕ, zero, suc, _+_, _≤_, _<_}
+use mathlib.Core.Path.{_≡_, refl, sym, _∙_, ap, subst}
+use mathlib.Core.Bool.{true}
+use mathlib.Core.Logic.{_↔_, ⊎-elim, Iff·trans}
+use mathlib.Core.List.{List}
+use native.Mathlib.Omega.{arith}
+use native.Mathlib.Nat.{eq-or-lt-of-le}
+use Rattle.program.specs.Bytes.{reactors, commandsIn}
+use Rattle.program.specs.Command.{Cmd, cmdOf, decode, bytesOf}
+use Rattle.program.specs.Location.{commandLoc, shapeThere}
+use Rattle.program.specs.Kind.{kindOf}
+use Rattle.load.specs.Scan.{kindAt, isValue, isPoint, isDeployment, refusalOf, afterOf, onward, scanOf, beginOf}
+use Rattle.load.specs.Rules.{Value, ReactorRule, Rules}
+use Rattle.load.specs.Accepted.{TablesRight, ReactorAccepted}
+use Rattle.load.specs.declared.Scan.{Scan}
+use Rattle.load.specs.declared.Scanned.{Scanned}
+use Rattle.load.proofs.Exact.Places.{value-exact}
+use Rattle.load.proofs.Exact.Fits.{Fits, Stepwise}
+use Rattle.load.proofs.Exact.Rule.{rule-exact}
+use Rattle.load.proofs.Exact.Holds.{Holding, value-says, point-says, deployment-says, kind-of-value, shape-of-deployment, shape-of-point}
+use Rattle.load.proofs.Exact.Taken.{taken-exact}
+use Rattle.load.proofs.Exact.Kept.{kept}
+use Rattle.load.proofs.Exact.Begin.{begin-holding}
+use Rattle.load.proofs.Exact.Complete.{complete-exact}
+
+module _ (p : List ℕ) (r : ℕ) (t : TablesRight p) (low : r < reactors p) where
+  -- ---- one command of the scan
+
+  module _ (s : Scan) where
+    refusal : ℕ
+    refusal = refusalOf p r s (bytesOf p r (s .next)) (decode (bytesOf p r (s .next)))
+
+    onward-taken : (more : Scan → Scanned) (d : Cmd) (n : ℕ) → onward more p r s d n .code ≡ 0 → n ≡ 0
+    unfolding onward
+    onward-taken more d zero e = refl
+    onward-taken more d (suc n) e = e
+
+    scan-taken : (m : ℕ) → scanOf (suc m) p r s .code ≡ 0 → refusal ≡ 0
+    unfolding scanOf refusal
+    scan-taken m e = onward-taken (scanOf m p r) _ _ e
+
+    scan-next : (m k : ℕ) → s .next ≡ k → refusal ≡ 0 → scanOf (suc m) p r s ≡ scanOf m p r (afterOf p r s (cmdOf p r k))
+    unfolding scanOf refusal onward cmdOf
+    scan-next m k e q =
+        ap (onward (scanOf m p r) p r s (decode (bytesOf p r (s .next)))) q
+        ∙ ap (λ j. scanOf m p r (afterOf p r s (decode (bytesOf p r j)))) e
+
+  -- ---- the m commands from command k up to command n
+
+  taken-run : (m k n : ℕ) (s : Scan) → Holding p r k s → k + m ≡ n → n ≤ commandsIn p r → scanOf m p r s .code ≡ 0 →
+      ((i : ℕ) → k ≤ i → i < n → Fits p r i (cmdOf p r i)) × Holding p r n (scanOf m p r s .scan)
+  unfolding scanOf
+  taken-run zero k n s g e few z =
+      let q : k ≡ n = omega arith in
+      ((λ i l h. absurd (omega arith)), subst (λ j. Holding p r j s) q g)
+  taken-run (suc m) k n s g e few z =
+      let q = scan-taken s m z in
+      let f : Fits p r k (cmdOf p r k) = taken-exact g t .0 (unfold refusal in q) in
+      let u = scan-next s m k (g .next) q in
+      let z₁ = ap (λ (v : Scanned). v .code) (sym u) ∙ z in
+      let a = taken-run m (suc k) n _ (kept g (omega arith) t low f) (omega arith) few z₁ in (
+        (λ i l h. ⊎-elim (λ w. subst (λ j. Fits p r j (cmdOf p r j)) w f) (λ w. a .0 i w h) (eq-or-lt-of-le l)),
+        subst (λ (v : Scanned). Holding p r n (v .scan)) (sym u) (a .1),
+      )
+
+  fitting-run : (m k n : ℕ) (s : Scan) → Holding p r k s → k + m ≡ n → n ≤ commandsIn p r →
+      ((i : ℕ) → k ≤ i → i < n → Fits p r i (cmdOf p r i)) → scanOf m p r s .code ≡ 0
+  unfolding scanOf
+  fitting-run zero k n s g e few f = refl
+  fitting-run (suc m) k n s g e few f =
+      let now = f k (omega arith) (omega arith) in
+      let q = taken-exact g t .1 now in
+      ap (λ (v : Scanned). v .code) (scan-next s m k (g .next) (unfold refusal in q))
+      ∙ fitting-run m (suc k) n _ (kept g (omega arith) t low now) (omega arith) few (λ i l h. f i (omega arith) h)
+
+  -- ---- the first n commands
+
+  begin : Holding p r 0 (beginOf p r)
+  begin = begin-holding p r t low
+
+  -- where none of the first n commands is refused, each fits, and the tables hold what they should
+  pub first-run : (n : ℕ) → n ≤ commandsIn p r → scanOf n p r (beginOf p r) .code ≡ 0 →
+      ((i : ℕ) → i < n → Fits p r i (cmdOf p r i)) × Holding p r n (scanOf n p r (beginOf p r) .scan)
+  first-run n few z =
+      let a = taken-run n 0 n (beginOf p r) begin (omega arith) few z in
+      ((λ i h. a .0 i (omega arith) h), a .1)
+
+  -- and none is refused where each fits
+  pub first-fits : (n : ℕ) → n ≤ commandsIn p r → ((i : ℕ) → i < n → Fits p r i (cmdOf p r i)) →
+      scanOf n p r (beginOf p r) .code ≡ 0
+  first-fits n few f = fitting-run n 0 n (beginOf p r) begin (omega arith) few (λ i l h. f i h)
+
+  steps-exact : ReactorAccepted p r ↔ Stepwise p r
+  steps-exact = (
+    (λ a.
+        let w = first-run (commandsIn p r) (omega arith) (a .0) in
+        record { fits = w .0; ended = complete-exact p r _ (w .1) .0 (a .1) }),
+    (λ u.
+        let z = first-fits (commandsIn p r) (omega arith) (u .fits) in
+        (z, complete-exact p r _ (first-run (commandsIn p r) (omega arith) z .1) .1 (u .ended))),
+  )
+
+-- An accepted reactor is one that keeps the rules.
+pub reactor-exact : (p : List ℕ) (r : ℕ) → TablesRight p → r < reactors p → ReactorAccepted p r ↔ ReactorRule p r
+reactor-exact p r t low = Iff·trans (steps-exact p r t low) (rule-exact p r)
+
+-- ---- a whole program
+
+-- the tables of a program that keeps the rules
+pub tables-right : (p : List ℕ) → Rules p → TablesRight p
+tables-right p u =
+    record {
+      few-bytes = u .few-bytes;
+      header = u .header;
+      global-kinds = u .global-kinds;
+      every-shape = u .every-shape;
+      entries = u .entries;
+      main = u .main;
+      whole = u .whole;
+    }
+
+-- The rules are those of the tables, with every reactor accepted.
+pub rules-exact : (p : List ℕ) → (TablesRight p × ((r : ℕ) → r < reactors p → ReactorAccepted p r)) ↔ Rules p
+rules-exact p = (
+  (λ h.
+      record {
+        few-bytes = h .0 .few-bytes;
+        header = h .0 .header;
+        global-kinds = h .0 .global-kinds;
+        every-shape = h .0 .every-shape;
+        entries = h .0 .entries;
+        main = h .0 .main;
+        whole = h .0 .whole;
+        every-reactor = λ r low. reactor-exact p r (h .0) low .0 (h .1 r low);
+      }),
+  (λ u. let t = tables-right p u in (t, λ r low. reactor-exact p r t low .1 (u .every-reactor r low))),
+)
+
+-- ---- the kind table
+
+-- what the kind table holds after the first k commands
+pub record KindsAgree (p : List ℕ) (r k : ℕ) (s : Scan) : Type 0 where
+  pub value-where : (l : ℕ) → (isValue s l ≡ true) ↔ Value p r (commandLoc p r k) l
+  pub value-kind : (l : ℕ) → isValue s l ≡ true → kindAt s l ≡ kindOf p r l
+  pub deployment-shape : (l : ℕ) → isDeployment s l ≡ true → kindAt s l ≡ shapeThere p r l
+  pub point-shape : (l : ℕ) → isPoint s l ≡ true → kindAt s l ≡ shapeThere p r l
+
+-- Where none of the first k commands is refused, it holds each value's kind, and each deployment's and branch point's shape.
+pub kinds-agree : (p : List ℕ) (r k : ℕ) → TablesRight p → r < reactors p → k ≤ commandsIn p r →
+    scanOf k p r (beginOf p r) .code ≡ 0 → KindsAgree p r k (scanOf k p r (beginOf p r) .scan)
+kinds-agree p r k t low few z =
+    let s = scanOf k p r (beginOf p r) .scan in
+    let g = first-run p r t low k few z .1 in
+    record {
+      value-where = λ l. Iff·trans (value-says g l) (value-exact p r k l few);
+      value-kind = λ l e. kind-of-value g l (value-says g l .0 e);
+      deployment-shape = λ l e. shape-of-deployment g l (deployment-says g l .0 e);
+      point-shape = λ l e. shape-of-point g l (point-says g l .0 e);
+    }
+
+-- an accepted reactor's first k commands are among those
+pub prefix-taken : (p : List ℕ) (r k : ℕ) → TablesRight p → r < reactors p → k ≤ commandsIn p r →
+    scanOf (commandsIn p r) p r (beginOf p r) .code ≡ 0 → scanOf k p r (beginOf p r) .code ≡ 0
+prefix-taken p r k t low few z =
+    let f = first-run p r t low (commandsIn p r) (omega arith) z .0 in
+    first-fits p r t low k few (λ i h. f i (omega arith))

@@ -1,0 +1,156 @@
+-- The check of one command, where the tables hold what they should: it refuses nothing exactly where the command fits.
+use Prim.Native.Nat.{ℕ, _≤_, _<_}
+use mathlib.Core.Path.{_≡_, refl, sym, subst, subst₂, subst₃}
+use mathlib.Core.Bool.{Bool}
+use mathlib.Core.Logic.{_↔_, _⊎_, ⊎-map, Iff·trans}
+use mathlib.Core.List.{List}
+use native.Mathlib.Omega.{arith}
+use Rattle.value.specs.Test.{need, _<?_, _=?_}
+use Rattle.value.specs.Value.{numberKind, truthKind, reactorKind}
+use Rattle.value.specs.Primitive.{rowOf, operands, countOf, kindsFit}
+use Rattle.value.specs.declared.Takes.{Takes}
+use Rattle.value.specs.declared.Takes.the-variants.{TwoNumbers, OneTruth, TwoTruths, OneOfAny, TruthThenTwo, TwoAlike}
+use Rattle.value.proofs.Tests.{remains, Says, says-lt, says-le, says-eq, says-true, says-false, says-and, says-or, says-not, says-need}
+use Rattle.program.specs.Bytes.{declared, sourcesIn, sinksIn, sourceKind, sinkKind, shapeOf}
+use Rattle.program.specs.Command.{Cmd, Sequence, D, R, neither, cmdOf, decode, bytesOf, sequenceOf, allocMono, makePoly, constant, global, supply, react, consume, sink, allocPoly, primitive, none}
+use Rattle.program.specs.Location.{sinks, sinkLoc, shapeThere}
+use Rattle.load.specs.Scan.{standingAt, kindAt, isSupplied, readyAt, inSequence, located, agreed, disorder, refusalOf, unsetSink, setSink}
+use Rattle.load.specs.Rules.{Sets}
+use Rattle.load.specs.Accepted.{TablesRight}
+use Rattle.load.specs.declared.Scan.{Scan}
+use Rattle.load.proofs.Exact.Seen.{Never, tells-lo}
+use Rattle.load.proofs.Exact.Class.{a-deployment}
+use Rattle.load.proofs.Exact.Places.{classAt, class-sink}
+use Rattle.load.proofs.Exact.Fits.{KindsFit, InSequence, Located, Agreed, Timely, Fits}
+use Rattle.load.proofs.Exact.Formed.{formed-says}
+use Rattle.load.proofs.Exact.Holds.{Holding, value-says, point-says, deployment-says, holds-as, kind-of-value, shape-of-deployment, shape-of-point, point-free, deployment-reacted, deployment-open, deployment-ready}
+
+nothing-asked : (_≡_ {A = ℕ} 0 0) ↔ Unit {0}
+nothing-asked = ((λ e. tt), (λ u. refl))
+
+-- one test and no more
+asks : {t : Bool} {A : Type 0} → Says t A → (need t 6 0 ≡ 0) ↔ A
+asks f = let h = says-need 5 f (λ a. nothing-asked) in ((λ e. h .0 e .0), (λ a. h .1 (a, tt)))
+
+flat : {A B C : Type 0} → (A × (B × C)) ↔ (A × B × C)
+flat = ((λ h. (h .0, h .1 .0, h .1 .1)), (λ h. (h .0, (h .1, h .2))))
+
+sequence-says : (p : List ℕ) (r k : ℕ) (q : Sequence) → Says (inSequence q (k <? declared p r)) (InSequence p r k q)
+unfolding inSequence
+sequence-says p r k D = says-lt
+sequence-says p r k R = says-not says-lt
+sequence-says p r k neither = says-false
+
+-- a primitive's kinds, an operand's kind being known where it is taken
+kinds-say : (t : Takes) (j k l j′ k′ l′ : ℕ) → j ≡ j′ → ((countOf t < 2) ⊎ (k ≡ k′)) → ((countOf t < 3) ⊎ (l ≡ l′)) →
+    Says (kindsFit t j k l) (KindsFit t j′ k′ l′)
+unfolding kindsFit countOf
+kinds-say TwoNumbers j k l j′ k′ l′ e f g =
+    subst₂ (λ a b. Says (kindsFit TwoNumbers j k l) ((a ≡ numberKind) × (b ≡ numberKind)))
+    e (remains (omega arith) f) (says-and says-eq says-eq)
+kinds-say OneTruth j k l j′ k′ l′ e f g = subst (λ a. Says (kindsFit OneTruth j k l) (a ≡ truthKind)) e says-eq
+kinds-say TwoTruths j k l j′ k′ l′ e f g =
+    subst₂ (λ a b. Says (kindsFit TwoTruths j k l) ((a ≡ truthKind) × (b ≡ truthKind)))
+    e (remains (omega arith) f) (says-and says-eq says-eq)
+kinds-say OneOfAny j k l j′ k′ l′ e f g = says-true
+kinds-say TruthThenTwo j k l j′ k′ l′ e f g =
+    subst₃ (λ a b c. Says (kindsFit TruthThenTwo j k l) ((a ≡ truthKind) × (b ≡ c)))
+    e (remains (omega arith) f) (remains (omega arith) g) (says-and says-eq says-eq)
+kinds-say TwoAlike j k l j′ k′ l′ e f g =
+    subst₂ (λ a b. Says (kindsFit TwoAlike j k l) (a ≡ b)) e (remains (omega arith) f) says-eq
+
+module _ {p : List ℕ} {r k : ℕ} {s : Scan} (g : Holding p r k s) where
+  located-says : (c : Cmd) → Says (located s c) (Located p r k c)
+  unfolding located
+  located-says (allocMono x) = says-true
+  located-says (makePoly x) = says-true
+  located-says (constant x v) = says-true
+  located-says (global x) = says-true
+  located-says (supply x a b) = says-and (value-says g a) (deployment-says g b)
+  located-says (react b) = deployment-says g b
+  located-says (consume x b) = deployment-says g b
+  located-says (sink x a) = value-says g a
+  located-says (allocPoly a b) = says-and (value-says g a) (point-says g b)
+  located-says (primitive x a b c) =
+      Iff·trans (says-and (value-says g a) (says-and (says-or says-lt (value-says g b)) (says-or says-lt (value-says g c)))) flat
+  located-says none = says-true
+
+  agreed-says : (c : Cmd) → Located p r k c → Says (agreed p r s c) (Agreed p r c)
+  unfolding agreed operands
+  agreed-says (allocMono x) h = says-true
+  agreed-says (makePoly x) h = says-true
+  agreed-says (constant x v) h = says-true
+  agreed-says (global x) h = says-true
+  agreed-says (supply x a b) h =
+      subst₂ (λ j m. Says (agreed p r s (supply x a b)) ((x < sourcesIn p m) × (j ≡ sourceKind p m x)))
+      (kind-of-value g a (h .0)) (shape-of-deployment g b (h .1)) (says-and says-lt says-eq)
+  agreed-says (react b) h = says-true
+  agreed-says (consume x b) h =
+      subst (λ m. Says (agreed p r s (consume x b)) (x < sinksIn p m)) (shape-of-deployment g b h) says-lt
+  agreed-says (sink x a) h =
+      subst (λ j. Says (agreed p r s (sink x a)) ((x < sinks p r) × (j ≡ sinkKind p (shapeOf p r) x)))
+      (kind-of-value g a h) (says-and says-lt says-eq)
+  agreed-says (allocPoly a b) h =
+      subst₂ (λ j m. Says (agreed p r s (allocPoly a b)) (j ≡ reactorKind m))
+      (kind-of-value g a (h .0)) (shape-of-point g b (h .1)) says-eq
+  agreed-says (primitive x a b c) h =
+      kinds-say (rowOf x .takes) _ _ _ _ _ _ (kind-of-value g a (h .0))
+      (⊎-map (λ q. q) (kind-of-value g b) (h .1)) (⊎-map (λ q. q) (kind-of-value g c) (h .2))
+  agreed-says none h = says-true
+
+  sink-open : (x : ℕ) → x < sinks p r → (standingAt s (sinkLoc p r x) ≡ unsetSink) ↔ Never p r (Sets p r x) k
+  sink-open x h =
+      let held = holds-as g (sinkLoc p r x) (class-sink p r k x h (g .few)) in
+      tells-lo p r (Sets p r x) unsetSink setSink k _ (omega arith) (held .1)
+
+  module _ (t : TablesRight p) where
+    few-sources : (b : ℕ) → classAt p r k b ≡ a-deployment → sourcesIn p (shapeThere p r b) ≤ 7
+    few-sources b e = t .every-shape (shapeThere p r b) (holds-as g b e .1 .1) .few-sources
+
+    disorder-says : (c : Cmd) → Located p r k c → Agreed p r c → (disorder p r s c ≡ 0) ↔ Timely p r k c
+    unfolding disorder isSupplied
+    disorder-says (allocMono x) h a = asks says-lt
+    disorder-says (makePoly x) h a = nothing-asked
+    disorder-says (constant x v) h a = nothing-asked
+    disorder-says (global x) h a = nothing-asked
+    disorder-says (supply x v b) h a =
+        asks (Iff·trans (says-and says-le (says-not says-eq)) (deployment-open g b x (h .1) (a .0)))
+    disorder-says (react b) h a =
+        let t = standingAt s b =? readyAt (sourcesIn p (kindAt s b)) in
+        asks (Iff·trans
+        (subst (λ m. Says t (standingAt s b ≡ readyAt (sourcesIn p m))) (shape-of-deployment g b h) says-eq)
+        (deployment-ready g b (few-sources b h) h))
+    disorder-says (consume x b) h a = asks (Iff·trans says-eq (deployment-reacted g b h))
+    disorder-says (sink x v) h a = asks (Iff·trans says-eq (sink-open x (a .0)))
+    disorder-says (allocPoly v b) h a = asks (Iff·trans says-eq (point-free g b (h .1)))
+    disorder-says (primitive x d b c) h a = nothing-asked
+    disorder-says none h a = nothing-asked
+
+    fits-exact : (refusalOf p r s (bytesOf p r k) (cmdOf p r k) ≡ 0) ↔ Fits p r k (cmdOf p r k)
+    unfolding refusalOf cmdOf
+    fits-exact =
+        let c = decode (bytesOf p r k) in
+        let q = sequenceOf c in
+        let in-q = subst (λ j. Says (inSequence q (s .next <? declared p r)) (InSequence p r j q)) (g .next) (sequence-says p r (s .next) q) in
+        Iff·trans
+        (says-need 2 in-q
+        (λ q. says-need 2 (formed-says p (bytesOf p r k))
+        (λ f. says-need 3 (located-says c)
+        (λ h. says-need 4 (agreed-says c h)
+        (λ a. disorder-says c h a))))) (
+          (λ h.
+              record {
+                in-sequence = h .0;
+                zero-bytes = h .1 .0 .0;
+                ranged = h .1 .0 .1;
+                located = h .1 .1 .0;
+                agreed = h .1 .1 .1 .0;
+                timely = h .1 .1 .1 .1;
+              }),
+          (λ f. (f .in-sequence, ((f .zero-bytes, f .ranged), (f .located, (f .agreed, f .timely))))),
+        )
+
+    pub taken-exact : (refusalOf p r s (bytesOf p r (s .next)) (decode (bytesOf p r (s .next))) ≡ 0) ↔ Fits p r k (cmdOf p r k)
+    taken-exact =
+        subst (λ j. (refusalOf p r s (bytesOf p r j) (decode (bytesOf p r j)) ≡ 0) ↔ Fits p r k (cmdOf p r k)) (sym (g .next))
+        (unfold cmdOf in fits-exact)

@@ -1,0 +1,6 @@
+pub mod Bits
+pub mod Stands
+pub mod Shapes
+pub mod Turns
+pub mod TableBytes
+pub mod Exact

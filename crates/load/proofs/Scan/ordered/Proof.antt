@@ -1,0 +1,54 @@
+use Rattle.load.specs.Scan.{disorder}
+use Rattle.program.proofs.Decode.{as-consume, as-mono, as-poly, as-react, as-sink, as-supply, by-code}
+use Rattle.program.specs.Command.{Cmd}
+use Rattle.value.proofs.Tests.{same-eq, same-lt}
+use Rattle.value.specs.Test.{need, pick}
+use borrow.Author.Needs.{needs}
+use denote.Ref.{now}
+use mathlib.Core.Bool.{Bool}
+use mathlib.Core.Path.{_≡_, ap, refl}
+use native.Mathlib.Omega.{arith}
+use Rattle.load.proofs.Scan.ordered.Statement.{statement}
+use Rattle.load.proofs.Scan.ordered.Tie as tie
+
+returns : tie.Need-returns
+unfolding disorder
+returns c = as-mono (disorder (now (c .before .before .before .args .program)) (c .before .before .before .args .r) (c .before .before .before .args .self)) (c .before .before .before .args .c) (omega arith) (ap (λ (t : Bool). need t 6 0) (same-lt refl refl))
+
+returns-2 : tie.Need-returns-2
+unfolding disorder
+returns-2 c = as-supply (disorder (now (c .before .before .before .args .program)) (c .before .before .before .args .r) (c .before .before .before .args .self)) (c .before .before .before .args .c) (omega arith) (c .supply-ordered .ensures (now (c .before .before .before .args .program)) (c .before .before .before .args .r))
+
+returns-3 : tie.Need-returns-3
+unfolding disorder
+returns-3 c = as-react (disorder (now (c .before .before .before .args .program)) (c .before .before .before .args .r) (c .before .before .before .args .self)) (c .before .before .before .args .c) (omega arith) (c .react-ordered .ensures (c .before .before .before .args .r))
+
+returns-4 : tie.Need-returns-4
+unfolding disorder
+returns-4 c = as-consume (disorder (now (c .before .before .before .before .args .program)) (c .before .before .before .before .args .r) (c .before .before .before .before .args .self)) (c .before .before .before .before .args .c) (omega arith) (ap (λ (t : Bool). need t 6 0) (same-eq (c .standing-at .ensures) refl))
+
+returns-5 : tie.Need-returns-5
+unfolding disorder
+returns-5 c = as-sink (disorder (now (c .before .before .before .args .program)) (c .before .before .before .args .r) (c .before .before .before .args .self)) (c .before .before .before .args .c) (omega arith) (c .sink-ordered .ensures)
+
+returns-6 : tie.Need-returns-6
+unfolding disorder
+returns-6 c = as-poly (disorder (now (c .before .before .before .before .args .program)) (c .before .before .before .before .args .r) (c .before .before .before .before .args .self)) (c .before .before .before .before .args .c) (omega arith) (ap (λ (t : Bool). need t 6 0) (same-eq (c .standing-at2 .ensures) refl))
+
+returns-7 : tie.Need-returns-7
+unfolding disorder pick
+returns-7 c = by-code (λ (d : Cmd). 0 ≡ disorder (now (c .before .before .args .program)) (c .before .before .args .r) (c .before .before .args .self) d) (c .before .before .args .c)
+    (λ e. absurd (c .match .rest .0 .0 .0 .0 .0 .1 e)) (λ e. refl) (λ e. refl) (λ e. refl)
+    (λ e. absurd (c .match .rest .0 .0 .0 .0 .1 e))
+    (λ e. absurd (c .match .rest .0 .0 .0 .1 e))
+    (λ e. absurd (c .match .rest .0 .0 .1 e))
+    (λ e. absurd (c .match .rest .0 .1 e))
+    (λ e. absurd (c .match .rest .1 e)) (λ e. refl) (λ e. refl)
+
+pub ordered-spec : {M : Type 1} → statement M
+ordered-spec =
+    tie.close
+    (tie.spec
+    (λ c κs. search needs) (λ c κs. search needs) (λ c. search needs) (λ c κs. search needs)
+    (λ c κs. search needs) (λ c. search needs) (λ c κs. search needs) returns returns-2 returns-3
+    returns-4 returns-5 returns-6 returns-7)

@@ -1,0 +1,23 @@
+use Prim.Native.Nat.{ℕ}
+use Rattle.load.specs.Scan.{agreed}
+use Rattle.program.specs.Bytes.{sinkKind}
+use Rattle.value.proofs.Tests.{same-and, same-eq, same-lt}
+use borrow.Author.Needs.{needs}
+use denote.Ref.{now}
+use mathlib.Core.Path.{_∙_, ap, refl}
+use Rattle.load.proofs.Scan.sink_agreed.Statement.{statement}
+use Rattle.load.proofs.Scan.sink_agreed.Tie as tie
+
+returns : tie.Need-returns
+unfolding agreed
+returns c =
+    same-and
+    (same-lt refl (c .before .before .sinks .ensures))
+    (same-eq (c .before .before .before .before .kind-at .ensures) (c .sink-kind .ensures ∙ ap (λ (s : ℕ). sinkKind (now (c .before .before .before .before .before .before .before .args .program)) s (c .before .before .before .before .before .before .before .args .c .x)) (c .before .before .before .shape-of .ensures)))
+
+pub sink-agreed-spec : {M : Type 1} → statement M
+sink-agreed-spec =
+    tie.close
+    (tie.spec
+    (λ c. search needs) (λ c κs. search needs) (λ c κs. search needs) (λ c κs. search needs)
+    (λ c κs. search needs) returns)

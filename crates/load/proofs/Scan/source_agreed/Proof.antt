@@ -1,0 +1,23 @@
+use Prim.Native.Nat.{ℕ}
+use Rattle.load.specs.Scan.{agreed}
+use Rattle.program.specs.Bytes.{sourceKind, sourcesIn}
+use Rattle.value.proofs.Tests.{same-and, same-eq, same-lt}
+use borrow.Author.Needs.{needs}
+use denote.Ref.{now}
+use mathlib.Core.Path.{_∙_, ap, refl}
+use Rattle.load.proofs.Scan.source_agreed.Statement.{statement}
+use Rattle.load.proofs.Scan.source_agreed.Tie as tie
+
+returns : tie.Need-returns
+unfolding agreed
+returns c =
+    λ r. same-and
+    (same-lt refl (c .before .before .sources-in .ensures ∙ ap (sourcesIn _) (c .before .before .before .kind-at2 .ensures)))
+    (same-eq (c .before .before .before .before .before .kind-at .ensures) (c .source-kind .ensures ∙ ap (λ (s : ℕ). sourceKind (now (c .before .before .before .before .before .before .before .before .args .program)) s (c .before .before .before .before .before .before .before .before .args .c .x)) (c .before .before .before .kind-at2 .ensures)))
+
+pub source-agreed-spec : {M : Type 1} → statement M
+source-agreed-spec =
+    tie.close
+    (tie.spec
+    (λ c. search needs) (λ c κs. search needs) (λ c. search needs) (λ c κs. search needs)
+    (λ c κs. search needs) (λ c κs. search needs) returns)

@@ -1,0 +1,23 @@
+use Prim.Native.Nat.{ℕ}
+use Rattle.load.proofs.Stands.{advanced}
+use Rattle.load.specs.Scan.{advance, afterOf, standingAfter}
+use Rattle.program.specs.Command.{decode}
+use borrow.Author.Needs.{needs}
+use denote.Ref.{now}
+use mathlib.Core.Path.{_∙_, ap}
+use Rattle.load.proofs.Scan.take.Statement.{statement}
+use Rattle.load.proofs.Scan.take.Tie as tie
+
+standing-after-requires : tie.Need-standing-after-requires
+standing-after-requires c κs = c .before .before .pre .1
+
+returns : tie.Need-returns
+unfolding afterOf
+returns c = advanced (now (c .before .before .before .before .args .program)) (c .before .before .before .before .args .r) (c .before .before .before .before .args .self) (c .before .before .command-loc .result) (decode (c .before .before .before .before .args .c)) (c .before .standing-after .ensures)
+    ∙ ap (λ (l : ℕ). advance (standingAfter (now (c .before .before .before .before .args .program)) (c .before .before .before .before .args .r) (c .before .before .before .before .args .self) l (decode (c .before .before .before .before .args .c)))) (c .before .before .command-loc .ensures)
+
+pub take-spec : {M : Type 1} → statement M
+take-spec =
+    tie.close
+    (tie.spec
+    (λ c κs. search needs) (λ c. search needs) standing-after-requires (λ c. search needs) returns)

@@ -1,0 +1,32 @@
+use Prim.Native.Nat.{_-_, _≤_, ℕ}
+use Rattle.load.proofs.Stands.{one-sink}
+use Rattle.load.specs.Scan.{withSinks}
+use borrow.Author.Needs.{needs}
+use denote.Ref.{now}
+use mathlib.Core.Path.{_∙_, _≡_, ap, refl}
+use native.Mathlib.Omega.{arith}
+use Rattle.load.proofs.Scan.with_sinks.Statement.{statement}
+use Rattle.load.proofs.Scan.with_sinks.Tie as tie
+
+abbrev Inv-loop : tie.InvT-loop
+Inv-loop program r n s₀ x₀ s x = (s ≡ withSinks x program r s₀) × (x ≤ n)
+
+abbrev μ-loop : tie.MeasureT-loop
+μ-loop program r n s₀ x₀ s x = n - x
+
+loop-holds : tie.Need-loop-holds Inv-loop μ-loop
+unfolding withSinks
+loop-holds c = (refl, omega arith)
+
+loop-again : tie.Need-loop-again Inv-loop μ-loop
+loop-again c = (one-sink (now (c .before .before .before .before .before .before .args .program)) (c .before .before .before .before .before .before .args .r) (c .before .before .before .before .before .before .args .self) _ _ (c .before .before .before .loop .inv .0) (c .before .sink-loc .ensures) (c .stand .ensures), omega arith)
+
+returns : tie.Need-returns Inv-loop μ-loop
+returns c = c .before .loop .inv .0 ∙ ap (λ (x : ℕ). withSinks x (now (c .before .before .before .before .args .program)) (c .before .before .before .before .args .r) (c .before .before .before .before .args .self)) (omega arith)
+
+pub with-sinks-spec : {M : Type 1} → statement M
+with-sinks-spec =
+    tie.close
+    (tie.spec
+    Inv-loop μ-loop (λ c κs. search needs) loop-holds (λ c κs. search needs) (λ c. omega arith)
+    (λ c κs. search needs) (λ c. omega arith) (λ c. omega arith) loop-again returns)

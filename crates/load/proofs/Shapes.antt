@@ -1,0 +1,169 @@
+-- Every location but a value's has a shape as its kind: so it is before the first command, and so it stays. With it a Supply that is not
+-- refused names one of a byte's bits.
+-- Assumes nothing.
+use Prim.Native.Nat.{ℕ, zero, suc, _≤_, _<_}
+use mathlib.Core.Path.{_≡_, refl, sym, _∙_}
+use mathlib.Core.Bool.{Bool, true, false}
+use mathlib.Core.Logic.{_⊎_, inl, inr, ⊎-elim}
+use mathlib.Core.List.{List}
+use native.Mathlib.Omega.{arith}
+use lib.ListN.{getD, set, length, replicate, length-replicate, getD-replicate, List·getD-eq-default}
+use lib.Seq.{getD-set-same, getD-set-other, set-out}
+use Rattle.value.specs.Test.{need, pick, _=?_}
+use Rattle.value.proofs.Tests.{cases, below, eq?, eq×?, lt?, le?, both?, not-true}
+use Rattle.program.specs.Bytes.{shapes}
+use Rattle.program.specs.Command.{Cmd, decode, allocMono, makePoly, constant, global, supply, react, consume, sink, allocPoly, primitive, none}
+use Rattle.program.specs.declared.Command.{Command}
+use Rattle.program.proofs.Decode.{as-supply}
+use Rattle.load.specs.Scan.{standingAt, kindAt, stand, isPoint, isDeployment, formed, located, agreed, disorder, refusalOf, standingAfter, advance, afterOf, withSources, withSinks, beginOf}
+use Rattle.load.specs.Legal.{LegalTables, Shaped, FreeSource}
+use Rattle.load.specs.declared.Scan.{Scan}
+
+-- ---- what a stored entry is
+
+stored : (xs : List ℕ) (i v : ℕ) → (getD (set xs i v) i 0 ≡ v) ⊎ (getD (set xs i v) i 0 ≡ 0)
+stored xs i v =
+    ⊎-elim (λ (h : i < length xs). inl (getD-set-same xs i v 0 h))
+    (λ (h : length xs ≤ i). inr (rw (set-out xs i v h) (List·getD-eq-default xs 0 h)))
+    (below i (length xs))
+
+zeros : (n i : ℕ) → _≡_ {A = ℕ} (getD (replicate n 0) i 0) 0
+zeros n i =
+    ⊎-elim (λ (h : i < n). getD-replicate n i 0 0 h)
+    (λ (h : n ≤ i). List·getD-eq-default (replicate n 0) 0 (omega (arith, length-replicate {A = ℕ} n 0)))
+    (below i n)
+
+-- ---- a state stays shaped
+
+module _ (p : List ℕ) (some : 0 < shapes p) where
+  module _ (s : Scan) (l t k m : ℕ) (sh : Shaped p s) (h : 4 ≤ t → k < shapes p) where
+    here : 4 ≤ getD (set (s .standing) l t) l 0 → getD (set (s .kind) l k) l 0 < shapes p
+    here g =
+        ⊎-elim
+        (λ (y : getD (set (s .standing) l t) l 0 ≡ t).
+        let w : k < shapes p = h (omega arith) in
+        ⊎-elim
+        (λ (z : getD (set (s .kind) l k) l 0 ≡ k). omega arith)
+        (λ (z : getD (set (s .kind) l k) l 0 ≡ 0). omega arith)
+        (stored (s .kind) l k))
+        (λ (y : getD (set (s .standing) l t) l 0 ≡ 0). absurd (omega arith))
+        (stored (s .standing) l t)
+
+    elsewhere : (m ≡ l → ⊥) → 4 ≤ getD (set (s .standing) l t) m 0 → getD (set (s .kind) l k) m 0 < shapes p
+    unfolding standingAt kindAt
+    elsewhere d g =
+        let e = getD-set-other (s .standing) l m t 0 d in
+        let f = getD-set-other (s .kind) l m k 0 d in
+        let w = sh m (omega arith) in
+        omega arith
+
+    at : 4 ≤ getD (set (s .standing) l t) m 0 → getD (set (s .kind) l k) m 0 < shapes p
+    at g =
+        cases (m =? l)
+        (λ e. let q : m ≡ l = eq? e in rw q (here (rw q at g)))
+        (λ e. elsewhere (eq×? e) g)
+
+  shaped-stand : (s : Scan) (l t k : ℕ) → Shaped p s → (4 ≤ t → k < shapes p) → Shaped p (stand s l t k)
+  unfolding stand standingAt kindAt
+  shaped-stand s l t k sh h m g = at s l t k m sh h g
+
+  -- a value's kind may be any
+  value-stand : (s : Scan) (l k : ℕ) → Shaped p s → Shaped p (stand s l 1 k)
+  value-stand s l k sh = shaped-stand s l 1 k sh (λ g. absurd (omega arith))
+
+  sources-shaped : (r : ℕ) (s : Scan) → Shaped p s → (n : ℕ) → Shaped p (withSources n p r s)
+  unfolding withSources
+  sources-shaped r s sh zero = sh
+  sources-shaped r s sh (suc n) = value-stand _ _ _ (sources-shaped r s sh n)
+
+  sinks-shaped : (r : ℕ) (s : Scan) → Shaped p s → (n : ℕ) → Shaped p (withSinks n p r s)
+  unfolding withSinks
+  sinks-shaped r s sh zero = sh
+  sinks-shaped r s sh (suc n) = shaped-stand _ _ _ _ (sinks-shaped r s sh n) (λ g. some)
+
+  blank-shaped : Shaped p (record { standing = replicate 174 0; kind = replicate 174 0; next = 0 })
+  unfolding standingAt kindAt
+  blank-shaped l g = absurd (omega (arith, zeros 174 l))
+
+  pub begin-shaped : (r : ℕ) → Shaped p (beginOf p r)
+  unfolding beginOf
+  begin-shaped r = sinks-shaped r _ (sources-shaped r _ blank-shaped _) _
+
+  sources-next : (r : ℕ) (s : Scan) (n : ℕ) → withSources n p r s .next ≡ s .next
+  unfolding withSources stand
+  sources-next r s zero = refl
+  sources-next r s (suc n) = sources-next r s n
+
+  sinks-next : (r : ℕ) (s : Scan) (n : ℕ) → withSinks n p r s .next ≡ s .next
+  unfolding withSinks stand
+  sinks-next r s zero = refl
+  sinks-next r s (suc n) = sinks-next r s n
+
+  pub begin-next : (r : ℕ) → beginOf p r .next ≡ 0
+  unfolding beginOf
+  begin-next r = sinks-next r _ _ ∙ sources-next r _ _
+
+-- ---- a command that is not refused
+
+needed : (t : Bool) (n rest : ℕ) → 0 < n → need t n rest ≡ 0 → (t ≡ true) × (rest ≡ 0)
+unfolding pick
+needed true n rest h e = (refl, e)
+needed false n rest h e = absurd (omega arith)
+
+module _ (p : List ℕ) (r : ℕ) (s : Scan) (c : Command) where
+  pub record NotRefused (d : Cmd) : Type 0 where
+    pub formed : formed p c d ≡ true
+    pub located : located s d ≡ true
+    pub agreed : agreed p r s d ≡ true
+    pub ordered : disorder p r s d ≡ 0
+
+  not-refused : (d : Cmd) → refusalOf p r s c d ≡ 0 → NotRefused d
+  unfolding refusalOf
+  not-refused d e =
+      let a = needed _ 3 _ (omega arith) e in
+      let b = needed _ 3 _ (omega arith) (a .1) in
+      let f = needed _ 4 _ (omega arith) (b .1) in
+      let g = needed _ 5 _ (omega arith) (f .1) in
+      record { formed = b .0; located = f .0; agreed = g .0; ordered = g .1 }
+
+  module _ (legal : LegalTables p) (sh : Shaped p s) where
+    -- the kind of a deployment or a branch point is a shape
+    deployment-shape : (b : ℕ) → isDeployment s b ≡ true → kindAt s b < shapes p
+    unfolding isDeployment
+    deployment-shape b e = sh b (omega (arith, le? e))
+
+    point-shape : (b : ℕ) → isPoint s b ≡ true → kindAt s b < shapes p
+    unfolding isPoint
+    point-shape b e = sh b (le? (both? e .0))
+
+    standing-shaped : (here : ℕ) (d : Cmd) → NotRefused d → Shaped p (standingAfter p r s here d)
+    unfolding standingAfter formed located
+    standing-shaped here (allocMono x) n = shaped-stand p (legal .some-shape) s here _ _ sh (λ g. legal .shape x (lt? (both? (n .formed) .1)))
+    standing-shaped here (makePoly x) n = shaped-stand p (legal .some-shape) s here _ _ sh (λ g. lt? (both? (n .formed) .1))
+    standing-shaped here (constant x v) n = value-stand p (legal .some-shape) s here _ sh
+    standing-shaped here (global x) n = value-stand p (legal .some-shape) s here _ sh
+    standing-shaped here (supply x a b) n = shaped-stand p (legal .some-shape) s b _ _ sh (λ g. deployment-shape b (both? (n .located) .1))
+    standing-shaped here (react b) n = shaped-stand p (legal .some-shape) s b _ _ sh (λ g. deployment-shape b (n .located))
+    standing-shaped here (consume x b) n = value-stand p (legal .some-shape) s here _ sh
+    standing-shaped here (sink x a) n = shaped-stand p (legal .some-shape) s _ _ _ sh (λ g. legal .some-shape)
+    standing-shaped here (allocPoly a b) n =
+        let k = point-shape b (both? (n .located) .1) in
+        shaped-stand p (legal .some-shape) _ here _ _ (shaped-stand p (legal .some-shape) s b _ _ sh (λ g. k)) (λ g. k)
+    standing-shaped here (primitive x a b d) n = value-stand p (legal .some-shape) s here _ sh
+    standing-shaped here none n = sh
+
+    pub after-shaped : (d : Cmd) → refusalOf p r s c d ≡ 0 → Shaped p (afterOf p r s d)
+    unfolding afterOf advance standingAt kindAt
+    after-shaped d e = standing-shaped _ d (not-refused d e)
+
+    supply-free : NotRefused (supply (c .x) (c .a) (c .b)) → FreeSource s c
+    unfolding located agreed disorder
+    supply-free n =
+        let k = deployment-shape (c .b) (both? (n .located) .1) in
+        let f = legal .few-sources _ k in
+        let l = lt? (both? (n .agreed) .0) in
+        let o = needed _ 6 0 (omega arith) (n .ordered) in
+        (omega arith, not-true _ (both? (o .0) .1))
+
+    pub free-source : c .code ≡ 5 → refusalOf p r s c (decode c) ≡ 0 → FreeSource s c
+    free-source q e = supply-free (not-refused _ (rw (sym (as-supply (λ (d : Cmd). d) c q refl)) at e))

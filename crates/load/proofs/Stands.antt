@@ -1,0 +1,54 @@
+-- States that stand alike, and the state after a command.
+-- Assumes nothing.
+use Prim.Native.Nat.{ℕ, _+_}
+use mathlib.Core.Path.{_≡_, refl, sym, _∙_, ap}
+use mathlib.Core.List.{List}
+use native.Mathlib.Numerals.{add-one}
+use Rattle.program.specs.Bytes.{sourceKind, shapeOf}
+use Rattle.program.specs.Command.{Cmd, allocMono, makePoly, constant, global, supply, react, consume, sink, allocPoly, primitive, none}
+use Rattle.program.specs.Location.{sinkLoc}
+use Rattle.load.specs.Scan.{aValue, unsetSink, stand, standingAfter, advance, afterOf, withSources, withSinks}
+use Rattle.load.specs.declared.Scan.{Scan}
+
+pub stands : {u : Scan} (s : Scan) {l m t v k j : ℕ} → u ≡ stand s l t k → l ≡ m → t ≡ v → k ≡ j → u ≡ stand s m v j
+stands s e f g h = simp (← f, ← g, ← h) e
+
+module _ (p : List ℕ) (r : ℕ) (s : Scan) (here : ℕ) where
+  next-kept : (d : Cmd) → standingAfter p r s here d .next ≡ s .next
+  unfolding standingAfter stand
+  next-kept (allocMono x) = refl
+  next-kept (makePoly x) = refl
+  next-kept (constant x v) = refl
+  next-kept (global x) = refl
+  next-kept (supply x a b) = refl
+  next-kept (react b) = refl
+  next-kept (consume x b) = refl
+  next-kept (sink x a) = refl
+  next-kept (allocPoly a b) = refl
+  next-kept (primitive x a b c) = refl
+  next-kept none = refl
+
+  pub advanced : (d : Cmd) {u : Scan} → u ≡ standingAfter p r s here d →
+      _≡_ {A = Scan} (record { standing = u .standing; kind = u .kind; next = s .next + 1 }) (advance (standingAfter p r s here d))
+  unfolding advance
+  advanced d {u} e =
+      λ i. record {
+        standing = e i .standing;
+        kind = e i .kind;
+        next = sym (next-kept d) i + 1;
+      }
+
+pub after-next : (p : List ℕ) (r : ℕ) (s : Scan) (d : Cmd) → afterOf p r s d .next ≡ s .next + 1
+unfolding afterOf advance
+after-next p r s d = ap (λ (n : ℕ). n + 1) (next-kept p r s _ d)
+
+-- one source more, and one sink
+module _ (p : List ℕ) (r : ℕ) (s : Scan) where
+  pub one-source : (x k : ℕ) {t u : Scan} → t ≡ withSources x p r s → k ≡ sourceKind p (shapeOf p r) x → u ≡ stand t x aValue k →
+      u ≡ withSources (x + 1) p r s
+  unfolding withSources
+  one-source x k {t} e f g = rw add-one (g ∙ ap (λ (t : Scan). stand t x aValue k) e ∙ ap (λ (k : ℕ). stand (withSources x p r s) x aValue k) f)
+
+  pub one-sink : (x l : ℕ) {t u : Scan} → t ≡ withSinks x p r s → l ≡ sinkLoc p r x → u ≡ stand t l unsetSink 0 → u ≡ withSinks (x + 1) p r s
+  unfolding withSinks
+  one-sink x l {t} e f g = rw add-one (g ∙ ap (λ (t : Scan). stand t l unsetSink 0) e ∙ ap (λ (l : ℕ). stand (withSinks x p r s) l unsetSink 0) f)

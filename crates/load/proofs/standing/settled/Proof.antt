@@ -1,0 +1,15 @@
+use Rattle.load.specs.Scan.{settled}
+use Rattle.value.proofs.Tests.{same-eq, same-lt, same-or4}
+use mathlib.Core.Path.{refl}
+use Rattle.load.proofs.standing.settled.Statement.{statement}
+use Rattle.load.proofs.standing.settled.Tie as tie
+
+returns : tie.Need-returns
+unfolding settled
+returns c = same-or4 (same-lt refl refl) (same-eq refl refl) (same-eq refl refl) (same-eq refl refl)
+
+pub settled-spec : {M : Type 1} → statement M
+settled-spec =
+    tie.close
+    (tie.spec
+    returns)

@@ -1,0 +1,42 @@
+use Prim.Native.Nat.{_%_, _-_, _/_, ℕ}
+use Rattle.load.specs.Tables.{entryLegal, shapeLegal, tableLegal}
+use Rattle.program.specs.Bytes.{byte, entryAt, reactors, shapeAt, shapes, tablesEnd}
+use Rattle.value.proofs.Tests.{lt!, lt×, no, same-lt, yes}
+use borrow.Author.Needs.{needs}
+use denote.Ref.{now}
+use mathlib.Core.Path.{_∙_, ap, refl}
+use native.Mathlib.Omega.{arith}
+use Rattle.load.proofs.tables.table_legal.Statement.{statement}
+use Rattle.load.proofs.tables.table_legal.Tie as tie
+
+returns : tie.Need-returns
+unfolding tableLegal
+returns c = yes _ (lt! (omega arith)) (same-lt (c .byte .ensures) refl)
+
+cast-shape-legal : tie.Need-cast-shape-legal
+unfolding tablesEnd entryAt shapeAt shapes reactors byte
+cast-shape-legal c = omega (arith, c .before .before .before .before .shared-slice-known .given 1)
+
+returns-2 : tie.Need-returns-2
+unfolding tableLegal
+returns-2 c = no _ (lt× (omega arith))
+    (yes _ (lt! (omega arith))
+    (c .shape-legal .ensures ∙ ap (λ (s : ℕ). shapeLegal (now (c .before .before .before .before .before .before .args .program)) ((c .before .before .before .before .before .before .args .i - s) / 16) ((c .before .before .before .before .before .before .args .i - s) % 16)) (c .before .before .before .before .shape-at .ensures .0)))
+
+cast-entry-legal : tie.Need-cast-entry-legal
+unfolding tablesEnd entryAt shapeAt shapes reactors byte
+cast-entry-legal c = omega (arith, c .before .before .before .before .shared-slice-known .given 2)
+
+returns-3 : tie.Need-returns-3
+unfolding tableLegal
+returns-3 c = no _ (lt× (omega arith))
+    (no _ (lt× (omega arith))
+    (c .entry-legal .ensures ∙ ap (λ (e : ℕ). entryLegal (now (c .before .before .before .before .before .before .args .program)) ((c .before .before .before .before .before .before .args .i - e) / 4) ((c .before .before .before .before .before .before .args .i - e) % 4)) (c .before .before .entry-at .ensures)))
+
+pub table-legal-spec : {M : Type 1} → statement M
+table-legal-spec =
+    tie.close
+    (tie.spec
+    (λ c κs. search needs) (λ c κs. search needs) returns (λ c κs. search needs) cast-shape-legal
+    (λ c. omega arith) (λ c κs. search needs) returns-2 cast-entry-legal (λ c. omega arith)
+    (λ c κs. search needs) returns-3)

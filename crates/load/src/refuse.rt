@@ -1,0 +1,224 @@
+// Whether a command is refused: a test for each of 01's numbers 3 to 6, by the command's code.
+use crate::Scan;
+use crate::standing::is_ready;
+use program::Command;
+use program::content_legal;
+use program::declared;
+use program::globals;
+use program::reactors;
+use program::shape_of;
+use program::shapes;
+use program::sink_kind;
+use program::sink_loc;
+use program::sinks;
+use program::sinks_in;
+use program::source_kind;
+use program::sources_in;
+use value::is_primitive;
+use value::kinds_fit;
+use value::operands;
+ghost use mathlib.Core.Path.{_≡_};
+ghost use mathlib.Core.List.{List};
+ghost use Prim.Native.Nat.{ℕ};
+ghost use Rattle.value.specs.Test.{need, _<?_};
+ghost use Rattle.program.specs.Bytes as B;
+ghost use Rattle.program.specs.Command as C;
+ghost use Rattle.load.specs.Scan as S;
+
+// 3: a Constant's kind exists, and its value is of that kind.
+fn constant_formed(program: &[u8], c: Command) -> bool
+    ensures { λ r. ⌜ r ≡ S.formed (now (program .entry)) c (C.constant (c .x) (C.vOf c)) ⌝ }
+{
+    let v = c.v();
+    (c.a as u16 + c.b as u16 == 0)
+        & ((c.x as u16) < 2 + shapes(program) as u16)
+        & content_legal(program, c.x, v)
+}
+
+// 3: a primitive's number exists, and what it does not take is zero.
+fn primitive_formed(program: &[u8], c: Command) -> bool
+    ensures { λ r. ⌜ r ≡ S.formed (now (program .entry)) c (C.primitive (c .x) (c .a) (c .b) (c .v0)) ⌝ }
+{
+    let n = operands(c.x);
+    is_primitive(c.x)
+        & (c.v1 as u16 + c.v2 as u16 + c.v3 as u16 == 0)
+        & ((2 <= n) | (c.b == 0))
+        & ((3 <= n) | (c.v0 == 0))
+}
+
+// 3: x in its range, a legal constant, and zero in each byte that the command has no use for.
+pub(crate) fn formed(program: &[u8], c: Command) -> bool
+    ensures { λ r. ⌜ r ≡ S.formed (now (program .entry)) c (C.decode c) ⌝ }
+{
+    let code = c.code;
+    let x = c.x as u64;
+    let a = c.a as u64;
+    let b = c.b as u64;
+    let v = c.v() as u64;
+    match code {
+        Command::ALLOC_MONO => (a + b + v == 0) & (c.x < reactors(program)),
+        Command::MAKE_POLY => (a + b + v == 0) & (c.x < shapes(program)),
+        Command::CONSTANT => constant_formed(program, c),
+        Command::GLOBAL => (a + b + v == 0) & (c.x <= globals(program)),
+        Command::SUPPLY => v == 0,
+        Command::REACT => x + a + v == 0,
+        Command::CONSUME => a + v == 0,
+        Command::SINK => b + v == 0,
+        Command::ALLOC_POLY => x + v == 0,
+        Command::PRIMITIVE => primitive_formed(program, c),
+        _ => false,
+    }
+}
+
+impl Scan {
+    // 3: AllocMono and MakePoly among the D commands, the others among the R commands.
+    pub(crate) fn in_sequence(self, program: &[u8], r: u8, c: Command) -> bool
+        ensures { λ t. ⌜ t ≡ S.inSequence (C.sequenceOf (C.decode c)) (self .next <? B.declared (now (program .entry)) r) ⌝ }
+    {
+        let in_d = self.next < declared(program, r);
+        let code = c.code;
+        match code {
+            Command::ALLOC_MONO..=Command::MAKE_POLY => in_d,
+            Command::CONSTANT..=Command::PRIMITIVE => !in_d,
+            _ => false,
+        }
+    }
+
+    // 4 for a primitive: each operand that it takes is a value.
+    fn operands_located(self, c: Command) -> bool
+        ensures { λ r. ⌜ r ≡ S.located self (C.primitive (c .x) (c .a) (c .b) (c .v0)) ⌝ }
+    {
+        let n = operands(c.x);
+        self.is_value(c.a) & ((n < 2) | self.is_value(c.b)) & ((n < 3) | self.is_value(c.v0))
+    }
+
+    // 4: each operand names a location of the kind of thing that it must be, and an earlier one.
+    pub(crate) fn located(self, c: Command) -> bool
+        ensures { λ r. ⌜ r ≡ S.located self (C.decode c) ⌝ }
+    {
+        let code = c.code;
+        match code {
+            Command::SUPPLY => self.is_value(c.a) & self.is_deployment(c.b),
+            Command::REACT..=Command::CONSUME => self.is_deployment(c.b),
+            Command::SINK => self.is_value(c.a),
+            Command::ALLOC_POLY => self.is_value(c.a) & self.is_point(c.b),
+            Command::PRIMITIVE => self.operands_located(c),
+            _ => true,
+        }
+    }
+
+    // 5 for Supply: the deployment has source x, of the value's kind.
+    fn source_agreed(self, program: &[u8], c: Command) -> bool
+        ensures { λ t. ⌜ ((r : ℕ) → t ≡ S.agreed (now (program .entry)) r self (C.supply (c .x) (c .a) (c .b))) ⌝ }
+    {
+        let k = self.kind_at(c.a as usize);
+        let s = self.kind_at(c.b as usize);
+        (c.x < sources_in(program, s)) & (k == source_kind(program, s, c.x))
+    }
+
+    // 5 for Sink: the reactor has sink x, of the value's kind.
+    fn sink_agreed(self, program: &[u8], r: u8, c: Command) -> bool
+        ensures { λ t. ⌜ t ≡ S.agreed (now (program .entry)) r self (C.sink (c .x) (c .a)) ⌝ }
+    {
+        let k = self.kind_at(c.a as usize);
+        let s = shape_of(program, r);
+        (c.x < sinks(program, r)) & (k == sink_kind(program, s, c.x))
+    }
+
+    // 5 for Consume: the deployment has sink x.
+    fn port_agreed(self, program: &[u8], c: Command) -> bool
+        ensures { λ t. ⌜ ((r : ℕ) → t ≡ S.agreed (now (program .entry)) r self (C.consume (c .x) (c .b))) ⌝ }
+    {
+        let s = self.kind_at(c.b as usize);
+        c.x < sinks_in(program, s)
+    }
+
+    // 5 for a primitive: its operands have the kinds that its row of the table takes.
+    fn operands_agreed(self, c: Command) -> bool
+        ensures { λ t. ⌜ ((p : List ℕ) (r : ℕ) → t ≡ S.agreed p r self (C.primitive (c .x) (c .a) (c .b) (c .v0))) ⌝ }
+    {
+        let j = self.kind_at(c.a as usize);
+        let k = self.kind_at(c.b as usize);
+        let l = self.kind_at(c.v0 as usize);
+        kinds_fit(c.x, j, k, l)
+    }
+
+    // 5: ports exist, and kinds agree.
+    pub(crate) fn agreed(self, program: &[u8], r: u8, c: Command) -> bool
+        ensures { λ t. ⌜ t ≡ S.agreed (now (program .entry)) r self (C.decode c) ⌝ }
+    {
+        let code = c.code;
+        match code {
+            Command::SUPPLY => self.source_agreed(program, c),
+            Command::CONSUME => self.port_agreed(program, c),
+            Command::SINK => self.sink_agreed(program, r, c),
+            Command::ALLOC_POLY => {
+                self.kind_at(c.a as usize) as u16 == 2 + self.kind_at(c.b as usize) as u16
+            }
+            Command::PRIMITIVE => self.operands_agreed(c),
+            _ => true,
+        }
+    }
+
+    // 6 for Supply: no React yet, and source x not supplied.
+    fn supply_ordered(self, c: Command) -> bool
+        ensures { λ t. ⌜ ((p : List ℕ) (r : ℕ) → need t 6 0 ≡ S.disorder p r self (C.supply (c .x) (c .a) (c .b))) ⌝ }
+    {
+        (Scan::WAITING <= self.standing_at(c.b as usize)) & !self.is_supplied(c.b, c.x)
+    }
+
+    // 6 for React: every source supplied, and no React yet.
+    fn react_ordered(self, program: &[u8], c: Command) -> bool
+        ensures { λ t. ⌜ ((r : ℕ) → need t 6 0 ≡ S.disorder (now (program .entry)) r self (C.react (c .b))) ⌝ }
+    {
+        let k = self.kind_at(c.b as usize);
+        let n = sources_in(program, k);
+        is_ready(self.standing_at(c.b as usize), n)
+    }
+
+    // 6 for Sink: own sink x not set.
+    fn sink_ordered(self, program: &[u8], r: u8, c: Command) -> bool
+        ensures { λ t. ⌜ need t 6 0 ≡ S.disorder (now (program .entry)) r self (C.sink (c .x) (c .a)) ⌝ }
+    {
+        let l = sink_loc(program, r, c.x);
+        self.standing_at(l as usize) == Scan::UNSET_SINK
+    }
+
+    // 6: neither too early, nor twice, nor too late; AllocMono of a lower reactor.
+    pub(crate) fn ordered(self, program: &[u8], r: u8, c: Command) -> bool
+        ensures { λ t. ⌜ need t 6 0 ≡ S.disorder (now (program .entry)) r self (C.decode c) ⌝ }
+    {
+        let code = c.code;
+        match code {
+            Command::ALLOC_MONO => c.x < r,
+            Command::SUPPLY => self.supply_ordered(c),
+            Command::REACT => self.react_ordered(program, c),
+            Command::CONSUME => self.standing_at(c.b as usize) == Scan::REACTED,
+            Command::SINK => self.sink_ordered(program, r, c),
+            Command::ALLOC_POLY => self.standing_at(c.b as usize) == Scan::FREE_POINT,
+            _ => true,
+        }
+    }
+
+    // The refusal of a command as the next of reactor r, 3 to 6, or 0.
+    pub(crate) fn refuse(self, program: &[u8], r: u8, c: Command) -> u8
+        ensures { λ n. ⌜ n ≡ S.refusalOf (now (program .entry)) r self c (C.decode c) ⌝ }
+    {
+        if !self.in_sequence(program, r, c) {
+            return 3;
+        }
+        if !formed(program, c) {
+            return 3;
+        }
+        if !self.located(c) {
+            return 4;
+        }
+        if !self.agreed(program, r, c) {
+            return 5;
+        }
+        if !self.ordered(program, r, c) {
+            return 6;
+        }
+        0
+    }
+}

@@ -1,0 +1,107 @@
+// The standings and kinds of locations. Every function is total: past the tables a location stands
+// as nothing, and no change reaches it.
+use crate::Scan;
+ghost use mathlib.Core.Path.{_≡_};
+ghost use Rattle.value.specs.Test.{_=?_};
+ghost use Rattle.load.specs.Bits.{byteBit};
+ghost use Rattle.load.specs.Scan as S;
+
+// A deployment that awaits its React has WAITING and a bit for each source that is supplied.
+impl Scan {
+    pub const VALUE: u8 = 1;
+
+    pub const FREE_POINT: u8 = 4;
+
+    pub const USED_POINT: u8 = 5;
+
+    pub const UNSET_SINK: u8 = 6;
+
+    pub const SET_SINK: u8 = 7;
+
+    pub const REACTED: u8 = 127;
+
+    pub const WAITING: u8 = 128;
+
+    pub(crate) fn standing_at(self, l: usize) -> u8
+        ensures { λ r. ⌜ r ≡ S.standingAt self l ⌝ }
+    {
+        if l < 174 { self.standing[l] } else { 0 }
+    }
+
+    pub(crate) fn kind_at(self, l: usize) -> u8
+        ensures { λ r. ⌜ r ≡ S.kindAt self l ⌝ }
+    {
+        if l < 174 { self.kind[l] } else { 0 }
+    }
+
+    // The state with another standing and kind at l.
+    pub(crate) fn stand(self, l: usize, standing: u8, kind: u8) -> Scan
+        ensures { λ r. ⌜ r ≡ S.stand self l standing kind ⌝ }
+    {
+        let mut next = self;
+        if l < 174 {
+            next.standing[l] = standing;
+            next.kind[l] = kind;
+        }
+        next
+    }
+
+    pub(crate) fn is_value(self, l: u8) -> bool
+        ensures { λ r. ⌜ r ≡ S.isValue self l ⌝ }
+    {
+        self.standing_at(l as usize) == Scan::VALUE
+    }
+
+    pub(crate) fn is_point(self, l: u8) -> bool
+        ensures { λ r. ⌜ r ≡ S.isPoint self l ⌝ }
+    {
+        let s = self.standing_at(l as usize);
+        (Scan::FREE_POINT <= s) & (s <= Scan::USED_POINT)
+    }
+
+    pub(crate) fn is_deployment(self, l: u8) -> bool
+        ensures { λ r. ⌜ r ≡ S.isDeployment self l ⌝ }
+    {
+        Scan::REACTED <= self.standing_at(l as usize)
+    }
+
+    // Whether source x of the deployment at l is supplied.
+    pub(crate) fn is_supplied(self, l: u8, x: u8) -> bool
+        ensures { λ r. ⌜ r ≡ S.isSupplied self l x ⌝ }
+    {
+        let s = self.standing_at(l as usize);
+        s as u16 / bit(x) % 2 == 1
+    }
+}
+
+// The weight of bit x of a byte; 256, which no byte reaches, for a higher one.
+pub(crate) fn bit(x: u8) -> u16
+    ensures { λ r. ⌜ r ≡ byteBit x ⌝ }
+{
+    if 7 < x {
+        return 256;
+    }
+    let weights: [u16; 8] = [1, 2, 4, 8, 16, 32, 64, 128];
+    weights[x as usize]
+}
+
+// Whether a deployment of this standing has each of its n sources supplied, and no React yet.
+pub(crate) fn is_ready(standing: u8, n: u8) -> bool
+    ensures { λ r. ⌜ r ≡ (standing =? S.readyAt n) ⌝ }
+{
+    if 7 < n {
+        return false;
+    }
+    standing as u16 == Scan::WAITING as u16 + (bit(n) - 1)
+}
+
+// Whether a location may have this standing at its reactor's end: no React, AllocPoly or sink is
+// missing there.
+pub(crate) fn settled(standing: u8) -> bool
+    ensures { λ r. ⌜ r ≡ S.settled standing ⌝ }
+{
+    (standing < Scan::FREE_POINT)
+        | (standing == Scan::USED_POINT)
+        | (standing == Scan::SET_SINK)
+        | (standing == Scan::REACTED)
+}

@@ -1,0 +1,92 @@
+-- A command by its code: what holds of each row of the command table holds of what the bytes say.
+-- Assumes nothing.
+use Prim.Native.Nat.{ℕ, zero, suc, _<_, _≤_}
+use mathlib.Core.Path.{_≡_}
+use mathlib.Core.Logic.{_⊎_, inl, inr, ⊎-elim}
+use native.Mathlib.Omega.{arith}
+use Rattle.value.specs.Test.{pick, _=?_}
+use Rattle.value.proofs.Tests.{pick-any, eq?, eq×?, below}
+use Rattle.program.specs.Command.{Cmd, decode, allocMono, makePoly, constant, global, supply, react, consume, sink, allocPoly, primitive, none, vOf}
+use Rattle.program.specs.declared.Command.{Command}
+
+-- no code from 1 to 10
+abbrev pub NoCode : ℕ → Type 0
+NoCode n = (n < 1) ⊎ (10 < n)
+
+from-zero : (n : ℕ) → (n < 1) ⊎ (0 < n)
+from-zero zero = inl (omega arith)
+from-zero (suc n) = inr (omega arith)
+
+-- no code up to k, and not k + 1
+beyond : {k n : ℕ} → (n < 1) ⊎ (k < n) → (n ≡ suc k → ⊥) → (n < 1) ⊎ (suc k < n)
+beyond (inl h) d = inl h
+beyond {k} {n} (inr h) d = ⊎-elim (λ (q : suc k < n). inr q) (λ (q : n ≤ suc k). absurd (d (omega arith))) (below (suc k) n)
+
+pub by-code : (P : Cmd → Type 0) (c : Command) →
+    (c .code ≡ 1 → P (allocMono (c .x))) →
+    (c .code ≡ 2 → P (makePoly (c .x))) →
+    (c .code ≡ 3 → P (constant (c .x) (vOf c))) →
+    (c .code ≡ 4 → P (global (c .x))) →
+    (c .code ≡ 5 → P (supply (c .x) (c .a) (c .b))) →
+    (c .code ≡ 6 → P (react (c .b))) →
+    (c .code ≡ 7 → P (consume (c .x) (c .b))) →
+    (c .code ≡ 8 → P (sink (c .x) (c .a))) →
+    (c .code ≡ 9 → P (allocPoly (c .a) (c .b))) →
+    (c .code ≡ 10 → P (primitive (c .x) (c .a) (c .b) (c .v0))) →
+    (NoCode (c .code) → P none) →
+    P (decode c)
+unfolding decode
+by-code P c p1 p2 p3 p4 p5 p6 p7 p8 p9 p10 p0 =
+    pick-any P (c .code =? 1) (λ e. p1 (eq? e)) (λ n1.
+    (pick-any P (c .code =? 2) (λ e. p2 (eq? e)) (λ n2.
+    (pick-any P (c .code =? 3) (λ e. p3 (eq? e)) (λ n3.
+    (pick-any P (c .code =? 4) (λ e. p4 (eq? e)) (λ n4.
+    (pick-any P (c .code =? 5) (λ e. p5 (eq? e)) (λ n5.
+    (pick-any P (c .code =? 6) (λ e. p6 (eq? e)) (λ n6.
+    (pick-any P (c .code =? 7) (λ e. p7 (eq? e)) (λ n7.
+    (pick-any P (c .code =? 8) (λ e. p8 (eq? e)) (λ n8.
+    (pick-any P (c .code =? 9) (λ e. p9 (eq? e)) (λ n9.
+    (pick-any P (c .code =? 10) (λ e. p10 (eq? e)) (λ n10.
+    p0 (beyond (beyond (beyond (beyond (beyond (beyond (beyond (beyond (beyond (beyond (from-zero (c .code)) (eq×? n1)) (eq×? n2)) (eq×? n3)) (eq×? n4)) (eq×? n5)) (eq×? n6)) (eq×? n7)) (eq×? n8)) (eq×? n9)) (eq×? n10)))))))))))))))))))))
+
+-- what the bytes say is the row of their code
+module _ {A : Type 0} (F : Cmd → A) (c : Command) {z : A} where
+  pub as-mono : c .code ≡ 1 → z ≡ F (allocMono (c .x)) → z ≡ F (decode c)
+  unfolding decode pick _=?_
+  as-mono e h = rw e h
+
+  pub as-make : c .code ≡ 2 → z ≡ F (makePoly (c .x)) → z ≡ F (decode c)
+  unfolding decode pick _=?_
+  as-make e h = rw e h
+
+  pub as-constant : c .code ≡ 3 → z ≡ F (constant (c .x) (vOf c)) → z ≡ F (decode c)
+  unfolding decode pick _=?_
+  as-constant e h = rw e h
+
+  pub as-global : c .code ≡ 4 → z ≡ F (global (c .x)) → z ≡ F (decode c)
+  unfolding decode pick _=?_
+  as-global e h = rw e h
+
+  pub as-supply : c .code ≡ 5 → z ≡ F (supply (c .x) (c .a) (c .b)) → z ≡ F (decode c)
+  unfolding decode pick _=?_
+  as-supply e h = rw e h
+
+  pub as-react : c .code ≡ 6 → z ≡ F (react (c .b)) → z ≡ F (decode c)
+  unfolding decode pick _=?_
+  as-react e h = rw e h
+
+  pub as-consume : c .code ≡ 7 → z ≡ F (consume (c .x) (c .b)) → z ≡ F (decode c)
+  unfolding decode pick _=?_
+  as-consume e h = rw e h
+
+  pub as-sink : c .code ≡ 8 → z ≡ F (sink (c .x) (c .a)) → z ≡ F (decode c)
+  unfolding decode pick _=?_
+  as-sink e h = rw e h
+
+  pub as-poly : c .code ≡ 9 → z ≡ F (allocPoly (c .a) (c .b)) → z ≡ F (decode c)
+  unfolding decode pick _=?_
+  as-poly e h = rw e h
+
+  pub as-primitive : c .code ≡ 10 → z ≡ F (primitive (c .x) (c .a) (c .b) (c .v0)) → z ≡ F (decode c)
+  unfolding decode pick _=?_
+  as-primitive e h = rw e h

@@ -1,0 +1,4 @@
+pub mod Same
+pub mod Places
+pub mod Contents
+pub mod Decode

@@ -1,0 +1,21 @@
+use Rattle.program.specs.Bytes.{byte}
+use borrow.Author.Needs.{needs}
+use denote.Ref.{now}
+use lib.ListN.{List·getD-eq-default}
+use mathlib.Core.Path.{sym}
+use Rattle.program.proofs.bytes.byte.Statement.{statement}
+use Rattle.program.proofs.bytes.byte.Tie as tie
+
+shared-slice-read-result : tie.Need-shared-slice-read-result
+shared-slice-read-result c = search needs
+
+returns : tie.Need-returns
+unfolding byte
+returns c = search needs
+
+returns-2 : tie.Need-returns-2
+unfolding byte
+returns-2 c = sym (List·getD-eq-default (now (c .before .args .program)) 0 (c .if1 .left))
+
+pub byte-spec : {M : Type 1} → statement M
+byte-spec = tie.close (tie.spec shared-slice-read-result returns returns-2)

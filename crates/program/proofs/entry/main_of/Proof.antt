@@ -1,0 +1,19 @@
+use Rattle.program.specs.Bytes.{mainOf}
+use borrow.Author.Needs.{needs}
+use native.Mathlib.Omega.{arith}
+use Rattle.program.proofs.entry.main_of.Statement.{statement}
+use Rattle.program.proofs.entry.main_of.Tie as tie
+
+reactors-requires : tie.Need-reactors-requires
+reactors-requires c κs = search needs
+
+returns : tie.Need-returns
+unfolding mainOf
+returns c = omega arith
+
+returns-2 : tie.Need-returns-2
+unfolding mainOf
+returns-2 c = omega arith
+
+pub main-of-spec : {M : Type 1} → statement M
+main-of-spec = tie.close (tie.spec reactors-requires returns returns-2)

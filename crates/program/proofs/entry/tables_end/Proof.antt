@@ -1,0 +1,18 @@
+use Rattle.program.specs.Bytes.{entryAt, tablesEnd}
+use borrow.Author.Needs.{needs}
+use mathlib.Core.Path.{_∙_, ap}
+use Rattle.program.proofs.entry.tables_end.Statement.{statement}
+use Rattle.program.proofs.entry.tables_end.Tie as tie
+
+reactors-requires : tie.Need-reactors-requires
+reactors-requires c κs = search needs
+
+entry-at-requires : tie.Need-entry-at-requires
+entry-at-requires c κs = search needs
+
+returns : tie.Need-returns
+unfolding tablesEnd
+returns c = c .entry-at .ensures ∙ ap (entryAt _) (c .before .reactors .ensures)
+
+pub tables-end-spec : {M : Type 1} → statement M
+tables-end-spec = tie.close (tie.spec reactors-requires entry-at-requires returns)

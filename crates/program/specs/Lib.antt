@@ -1,0 +1,5 @@
+pub mod Bytes
+pub mod Header
+pub mod Command
+pub mod Location
+pub mod Kind

@@ -1,0 +1,84 @@
+// Commands, 8 bytes each:
+//
+//     code | x | a | b | v0 v1 v2 v3, low byte first
+//
+//      1 AllocMono   D  x reactor
+//      2 MakePoly    D  x shape
+//      3 Constant    R  x kind, v value
+//      4 Global      R  x global
+//      5 Supply      R  x source, a value, b deployment
+//      6 React       R  b deployment
+//      7 Consume     R  x sink, b deployment
+//      8 Sink        R  x own sink, a value
+//      9 AllocPoly   R  a operator, b branch point
+//     10 Primitive   R  x primitive, a b v0 operands
+use crate::Command;
+use crate::bytes::byte;
+use crate::entry::commands_at;
+ghost use mathlib.Core.Path.{_≡_};
+ghost use Rattle.program.specs.Bytes as B;
+ghost use Rattle.program.specs.Command as C;
+
+impl Command {
+    pub const ALLOC_MONO: u8 = 1;
+
+    pub const MAKE_POLY: u8 = 2;
+
+    pub const CONSTANT: u8 = 3;
+
+    pub const GLOBAL: u8 = 4;
+
+    pub const SUPPLY: u8 = 5;
+
+    pub const REACT: u8 = 6;
+
+    pub const CONSUME: u8 = 7;
+
+    pub const SINK: u8 = 8;
+
+    pub const ALLOC_POLY: u8 = 9;
+
+    pub const PRIMITIVE: u8 = 10;
+
+    // The number that the four bytes v make.
+    pub fn v(self) -> u32
+        ensures { λ r. ⌜ r ≡ C.vOf self ⌝ }
+    {
+        self.v0 as u32
+            + 256 * (self.v1 as u32)
+            + 65536 * (self.v2 as u32)
+            + 16777216 * (self.v3 as u32)
+    }
+}
+
+// The eight bytes from byte `at` on.
+pub fn bytes_at(program: &[u8], at: u32) -> Command
+    ensures { λ c. ⌜ c ≡ C.bytesAt (now (program .entry)) at ⌝ }
+{
+    let i = at as usize;
+    Command {
+        code: byte(program, i),
+        x: byte(program, i + 1),
+        a: byte(program, i + 2),
+        b: byte(program, i + 3),
+        v0: byte(program, i + 4),
+        v1: byte(program, i + 5),
+        v2: byte(program, i + 6),
+        v3: byte(program, i + 7),
+    }
+}
+
+// The byte at which command i of reactor r stands.
+pub fn command_at(program: &[u8], r: u8, i: u8) -> u32
+    ensures { λ at. ⌜ at ≡ B.commandAt (now (program .entry)) r i ⌝ }
+{
+    commands_at(program, r) + 8 * (i as u32)
+}
+
+// Command i of reactor r.
+pub fn bytes_of(program: &[u8], r: u8, i: u8) -> Command
+    ensures { λ c. ⌜ c ≡ C.bytesOf (now (program .entry)) r i ⌝ }
+{
+    let at = command_at(program, r, i);
+    bytes_at(program, at)
+}

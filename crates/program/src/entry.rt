@@ -1,0 +1,88 @@
+// The entries of the reactors, 4 bytes each: shape, D commands, R commands, zero. The commands
+// follow, reactor by reactor, 8 bytes each. The last reactor is main.
+use crate::bytes::byte;
+use crate::bytes::reactors;
+use crate::bytes::shapes;
+use crate::shape::shape_at;
+ghost use mathlib.Core.Path.{_≡_};
+ghost use Prim.Native.Nat.{_<_};
+ghost use Rattle.program.specs.Bytes as B;
+
+// The byte at which the entry of reactor r stands.
+pub fn entry_at(program: &[u8], r: u8) -> u16
+    ensures { λ e. ⌜ e ≡ B.entryAt (now (program .entry)) r ⌝ }
+{
+    let n = shapes(program);
+    shape_at(program, n) + 4 * (r as u16)
+}
+
+pub fn shape_of(program: &[u8], r: u8) -> u8
+    ensures { λ s. ⌜ s ≡ B.shapeOf (now (program .entry)) r ⌝ }
+{
+    let e = entry_at(program, r);
+    byte(program, e as usize)
+}
+
+// How many D commands reactor r has.
+pub fn declared(program: &[u8], r: u8) -> u8
+    ensures { λ n. ⌜ n ≡ B.declared (now (program .entry)) r ⌝ }
+{
+    let e = entry_at(program, r);
+    byte(program, e as usize + 1)
+}
+
+// How many R commands.
+pub fn running(program: &[u8], r: u8) -> u8
+    ensures { λ n. ⌜ n ≡ B.running (now (program .entry)) r ⌝ }
+{
+    let e = entry_at(program, r);
+    byte(program, e as usize + 2)
+}
+
+pub fn commands_in(program: &[u8], r: u8) -> u16
+    ensures is { λ n. ⌜ n ≡ B.commandsIn (now (program .entry)) r ⌝ }
+    ensures few { λ n. ⌜ n < 511 ⌝ }
+{
+    declared(program, r) as u16 + running(program, r) as u16
+}
+
+// The last reactor.
+pub fn main_of(program: &[u8]) -> u8
+    ensures { λ r. ⌜ r ≡ B.mainOf (now (program .entry)) ⌝ }
+{
+    let n = reactors(program);
+    if n < 1 {
+        return 0;
+    }
+    n - 1
+}
+
+// The byte after the tables.
+pub fn tables_end(program: &[u8]) -> u16
+    ensures { λ e. ⌜ e ≡ B.tablesEnd (now (program .entry)) ⌝ }
+{
+    let n = reactors(program);
+    entry_at(program, n)
+}
+
+// The byte at which the commands of reactor r begin: the sum over the reactors before it.
+pub fn commands_at(program: &[u8], r: u8) -> u32
+    ensures is { λ at. ⌜ at ≡ B.commandsAt (now (program .entry)) r ⌝ }
+    ensures small { λ at. ⌜ at < 2000000 ⌝ }
+{
+    let mut at = tables_end(program) as u32;
+    let mut i: u8 = 0;
+    while i < r {
+        at = at + 8 * (commands_in(program, i) as u32);
+        i = i + 1;
+    }
+    at
+}
+
+// The length that the counts call for.
+pub fn whole_length(program: &[u8]) -> u32
+    ensures { λ n. ⌜ n ≡ B.wholeLength (now (program .entry)) ⌝ }
+{
+    let n = reactors(program);
+    commands_at(program, n)
+}
