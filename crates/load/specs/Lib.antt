@@ -6,3 +6,5 @@ pub mod Rules
 pub mod Bits
 pub mod Legal
 pub mod Accepted
+pub mod Open
+pub mod Cases

@@ -13,27 +13,45 @@ use Rattle.load.proofs.Scan.agreed.Tie as tie
 
 returns : tie.Need-returns
 unfolding agreed
-returns c = as-supply (agreed (now (c .before .before .before .args .program)) (c .before .before .before .args .r) (c .before .before .before .args .self)) (c .before .before .before .args .c) (omega arith) (c .source-agreed .ensures (c .before .before .before .args .r))
+returns c =
+    let args = c .before .before .before .args in
+    as-supply (agreed (now (args .program)) (args .r) (args .self)) (args .c) (omega arith)
+    (c .source-agreed .ensures (args .r))
 
 returns-2 : tie.Need-returns-2
 unfolding agreed
-returns-2 c = as-consume (agreed (now (c .before .before .before .args .program)) (c .before .before .before .args .r) (c .before .before .before .args .self)) (c .before .before .before .args .c) (omega arith) (c .port-agreed .ensures (c .before .before .before .args .r))
+returns-2 c =
+    let args = c .before .before .before .args in
+    as-consume (agreed (now (args .program)) (args .r) (args .self)) (args .c) (omega arith)
+    (c .port-agreed .ensures (args .r))
 
 returns-3 : tie.Need-returns-3
 unfolding agreed
-returns-3 c = as-sink (agreed (now (c .before .before .before .args .program)) (c .before .before .before .args .r) (c .before .before .before .args .self)) (c .before .before .before .args .c) (omega arith) (c .sink-agreed .ensures)
+returns-3 c =
+    let args = c .before .before .before .args in
+    as-sink (agreed (now (args .program)) (args .r) (args .self)) (args .c) (omega arith)
+    (c .sink-agreed .ensures)
 
 returns-4 : tie.Need-returns-4
 unfolding agreed
-returns-4 c = as-poly (agreed (now (c .before .before .before .before .before .before .args .program)) (c .before .before .before .before .before .before .args .r) (c .before .before .before .before .before .before .args .self)) (c .before .before .before .before .before .before .args .c) (omega arith) (same-eq (c .before .before .kind-at .ensures) (ap (λ (k : ℕ). 2 + k) (c .kind-at2 .ensures)))
+returns-4 c =
+    let args = c .before .before .before .before .before .before .args in
+    as-poly (agreed (now (args .program)) (args .r) (args .self)) (args .c) (omega arith)
+    (same-eq (c .before .before .kind-at .ensures) (ap (λ (k : ℕ). 2 + k) (c .kind-at2 .ensures)))
 
 returns-5 : tie.Need-returns-5
 unfolding agreed
-returns-5 c = as-primitive (agreed (now (c .before .before .before .args .program)) (c .before .before .before .args .r) (c .before .before .before .args .self)) (c .before .before .before .args .c) (omega arith) (c .operands-agreed .ensures (now (c .before .before .before .args .program)) (c .before .before .before .args .r))
+returns-5 c =
+    let args = c .before .before .before .args in
+    as-primitive (agreed (now (args .program)) (args .r) (args .self)) (args .c) (omega arith)
+    (c .operands-agreed .ensures (now (args .program)) (args .r))
 
 returns-6 : tie.Need-returns-6
 unfolding agreed
-returns-6 c = by-code (λ (d : Cmd). true ≡ agreed (now (c .before .before .args .program)) (c .before .before .args .r) (c .before .before .args .self) d) (c .before .before .args .c) (λ e. refl) (λ e. refl) (λ e. refl) (λ e. refl)
+returns-6 c =
+    let args = c .before .before .args in
+    by-code (λ (d : Cmd). true ≡ agreed (now (args .program)) (args .r) (args .self) d) (args .c) (λ e. refl)
+    (λ e. refl) (λ e. refl) (λ e. refl)
     (λ e. absurd (c .match .rest .0 .0 .0 .0 .1 e)) (λ e. refl)
     (λ e. absurd (c .match .rest .0 .0 .0 .1 e))
     (λ e. absurd (c .match .rest .0 .0 .1 e))

@@ -19,13 +19,20 @@ loop-holds : tie.Need-loop-holds Inv-loop μ-loop
 loop-holds c = (refl, omega arith)
 
 returns : tie.Need-returns Inv-loop μ-loop
-returns c = sweep-found (λ (l : ℕ). settled (standingAt (c .before .before .before .before .before .args .self) l)) _ 174 (omega arith) (refused (c .before .settled .ensures ∙ ap settled (c .before .before .standing-at .ensures)) (c .if1 .taken)) ∙ sym (c .before .before .before .before .loop .inv .0)
+returns c =
+    sweep-found (λ (l : ℕ). settled (standingAt (c .before .before .before .before .before .args .self) l)) _
+    174 (omega arith)
+    (refused (c .before .settled .ensures ∙ ap settled (c .before .before .standing-at .ensures)) (c .if1 .taken))
+    ∙ sym (c .before .before .before .before .loop .inv .0)
 
 loop-again : tie.Need-loop-again Inv-loop μ-loop
-loop-again c = (c .before .before .before .before .loop .inv .0 ∙ sweep-next (λ (l : ℕ). settled (standingAt (c .before .before .before .before .before .args .self) l)) _ 174 (omega arith) (passed (c .before .settled .ensures ∙ ap settled (c .before .before .standing-at .ensures)) (c .if1 .left)), omega arith)
+loop-again c =
+    (c .before .before .before .before .loop .inv .0 ∙ sweep-next (λ (l : ℕ). settled (standingAt (c .before .before .before .before .before .args .self) l)) _ 174 (omega arith) (passed (c .before .settled .ensures ∙ ap settled (c .before .before .standing-at .ensures)) (c .if1 .left)), omega arith)
 
 returns-2 : tie.Need-returns-2 Inv-loop μ-loop
-returns-2 c = sweep-done (λ (l : ℕ). settled (standingAt (c .before .before .args .self) l)) _ 174 (omega arith) ∙ sym (c .before .loop .inv .0)
+returns-2 c =
+    sweep-done (λ (l : ℕ). settled (standingAt (c .before .before .args .self) l)) _ 174 (omega arith) ∙ sym
+    (c .before .loop .inv .0)
 
 pub first-unsettled-spec : {M : Type 1} → statement M
 first-unsettled-spec =

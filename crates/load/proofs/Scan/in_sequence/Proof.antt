@@ -17,21 +17,52 @@ use Rattle.load.proofs.Scan.in_sequence.Tie as tie
 
 returns : tie.Need-returns
 unfolding inSequence sequenceOf
-returns c = by-code (λ (d : Cmd). ltb (c .before .before .before .before .before .args .self .next) (c .before .before .before .declared .result) ≡ inSequence (sequenceOf d) (c .before .before .before .before .before .args .self .next <? declared (now (c .before .before .before .before .before .args .program)) (c .before .before .before .before .before .args .r))) (c .before .before .before .before .before .args .c) (λ e. same-lt refl (c .before .before .before .declared .ensures)) (λ e. same-lt refl (c .before .before .before .declared .ensures)) (λ e. absurd (omega arith)) (λ e. absurd (omega arith)) (λ e. absurd (omega arith)) (λ e. absurd (omega arith)) (λ e. absurd (omega arith)) (λ e. absurd (omega arith)) (λ e. absurd (omega arith)) (λ e. absurd (omega arith))
+returns c =
+    let args = c .before .before .before .before .before .args in
+    let declared′ = c .before .before .before .declared in
+    by-code
+    (λ (d : Cmd). ltb (args .self .next) (declared′ .result) ≡ inSequence (sequenceOf d) (args .self .next <? declared (now (args .program)) (args .r)))
+    (args .c) (λ e. same-lt refl (declared′ .ensures)) (λ e. same-lt refl (declared′ .ensures))
+    (λ e. absurd (omega arith)) (λ e. absurd (omega arith)) (λ e. absurd (omega arith))
+    (λ e. absurd (omega arith)) (λ e. absurd (omega arith)) (λ e. absurd (omega arith))
+    (λ e. absurd (omega arith)) (λ e. absurd (omega arith))
     (λ w. absurd (⊎-elim (λ (q : _ < 1). omega arith) (λ (q : 10 < _). omega arith) w))
 
 returns-2 : tie.Need-returns-2
 unfolding inSequence sequenceOf
-returns-2 c = by-code (λ (d : Cmd). not (ltb (c .before .before .before .before .before .before .args .self .next) (c .before .before .before .before .declared .result)) ≡ inSequence (sequenceOf d) (c .before .before .before .before .before .before .args .self .next <? declared (now (c .before .before .before .before .before .before .args .program)) (c .before .before .before .before .before .before .args .r))) (c .before .before .before .before .before .before .args .c) (λ e. absurd (omega arith)) (λ e. absurd (omega arith)) (λ e. ap not (same-lt refl (c .before .before .before .before .declared .ensures))) (λ e. ap not (same-lt refl (c .before .before .before .before .declared .ensures))) (λ e. ap not (same-lt refl (c .before .before .before .before .declared .ensures))) (λ e. ap not (same-lt refl (c .before .before .before .before .declared .ensures))) (λ e. ap not (same-lt refl (c .before .before .before .before .declared .ensures))) (λ e. ap not (same-lt refl (c .before .before .before .before .declared .ensures))) (λ e. ap not (same-lt refl (c .before .before .before .before .declared .ensures))) (λ e. ap not (same-lt refl (c .before .before .before .before .declared .ensures)))
+returns-2 c =
+    let args = c .before .before .before .before .before .before .args in
+    let declared′ = c .before .before .before .before .declared in
+    by-code
+    (λ (d : Cmd). not (ltb (args .self .next) (declared′ .result)) ≡ inSequence (sequenceOf d) (args .self .next <? declared (now (args .program)) (args .r)))
+    (args .c) (λ e. absurd (omega arith)) (λ e. absurd (omega arith))
+    (λ e. ap not (same-lt refl (declared′ .ensures))) (λ e. ap not (same-lt refl (declared′ .ensures)))
+    (λ e. ap not (same-lt refl (declared′ .ensures))) (λ e. ap not (same-lt refl (declared′ .ensures)))
+    (λ e. ap not (same-lt refl (declared′ .ensures))) (λ e. ap not (same-lt refl (declared′ .ensures)))
+    (λ e. ap not (same-lt refl (declared′ .ensures))) (λ e. ap not (same-lt refl (declared′ .ensures)))
     (λ w. absurd (⊎-elim (λ (q : _ < 1). omega arith) (λ (q : 10 < _). omega arith) w))
 
 returns-3 : tie.Need-returns-3
 unfolding inSequence sequenceOf
-returns-3 c = by-code (λ (d : Cmd). false ≡ inSequence (sequenceOf d) (c .before .before .before .before .args .self .next <? declared (now (c .before .before .before .before .args .program)) (c .before .before .before .before .args .r))) (c .before .before .before .before .args .c) (λ e. absurd (omega arith)) (λ e. absurd (omega arith)) (λ e. absurd (omega arith)) (λ e. absurd (omega arith)) (λ e. absurd (omega arith)) (λ e. absurd (omega arith)) (λ e. absurd (omega arith)) (λ e. absurd (omega arith)) (λ e. absurd (omega arith)) (λ e. absurd (omega arith)) (λ w. refl)
+returns-3 c =
+    let args = c .before .before .before .before .args in
+    by-code
+    (λ (d : Cmd). false ≡ inSequence (sequenceOf d) (args .self .next <? declared (now (args .program)) (args .r)))
+    (args .c) (λ e. absurd (omega arith)) (λ e. absurd (omega arith)) (λ e. absurd (omega arith))
+    (λ e. absurd (omega arith)) (λ e. absurd (omega arith)) (λ e. absurd (omega arith))
+    (λ e. absurd (omega arith)) (λ e. absurd (omega arith)) (λ e. absurd (omega arith))
+    (λ e. absurd (omega arith)) (λ w. refl)
 
 returns-4 : tie.Need-returns-4
 unfolding inSequence sequenceOf
-returns-4 c = by-code (λ (d : Cmd). false ≡ inSequence (sequenceOf d) (c .before .before .before .before .before .before .args .self .next <? declared (now (c .before .before .before .before .before .before .args .program)) (c .before .before .before .before .before .before .args .r))) (c .before .before .before .before .before .before .args .c) (λ e. absurd (omega arith)) (λ e. absurd (omega arith)) (λ e. absurd (omega arith)) (λ e. absurd (omega arith)) (λ e. absurd (omega arith)) (λ e. absurd (omega arith)) (λ e. absurd (omega arith)) (λ e. absurd (omega arith)) (λ e. absurd (omega arith)) (λ e. absurd (omega arith)) (λ w. refl)
+returns-4 c =
+    let args = c .before .before .before .before .before .before .args in
+    by-code
+    (λ (d : Cmd). false ≡ inSequence (sequenceOf d) (args .self .next <? declared (now (args .program)) (args .r)))
+    (args .c) (λ e. absurd (omega arith)) (λ e. absurd (omega arith)) (λ e. absurd (omega arith))
+    (λ e. absurd (omega arith)) (λ e. absurd (omega arith)) (λ e. absurd (omega arith))
+    (λ e. absurd (omega arith)) (λ e. absurd (omega arith)) (λ e. absurd (omega arith))
+    (λ e. absurd (omega arith)) (λ w. refl)
 
 pub in-sequence-spec : {M : Type 1} → statement M
 in-sequence-spec =

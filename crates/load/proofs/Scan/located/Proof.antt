@@ -13,33 +13,58 @@ use Rattle.load.proofs.Scan.located.Tie as tie
 
 returns : tie.Need-returns
 unfolding located
-returns c = as-supply (located (c .before .before .before .args .self)) (c .before .before .before .args .c) (omega arith) (same-and (c .before .is-value .ensures) (c .is-deployment .ensures))
+returns c =
+    let args = c .before .before .before .args in
+    as-supply (located (args .self)) (args .c) (omega arith)
+    (same-and (c .before .is-value .ensures) (c .is-deployment .ensures))
 
 returns-2 : tie.Need-returns-2
 unfolding located
-returns-2 c = as-sink (located (c .before .before .args .self)) (c .before .before .args .c) (omega arith) (c .is-value2 .ensures)
+returns-2 c =
+    let args = c .before .before .args in
+    as-sink (located (args .self)) (args .c) (omega arith) (c .is-value2 .ensures)
 
 returns-3 : tie.Need-returns-3
 unfolding located
-returns-3 c = as-poly (located (c .before .before .before .args .self)) (c .before .before .before .args .c) (omega arith) (same-and (c .before .is-value3 .ensures) (c .is-point .ensures))
+returns-3 c =
+    let args = c .before .before .before .args in
+    as-poly (located (args .self)) (args .c) (omega arith)
+    (same-and (c .before .is-value3 .ensures) (c .is-point .ensures))
 
 returns-4 : tie.Need-returns-4
 unfolding located
-returns-4 c = as-primitive (located (c .before .before .args .self)) (c .before .before .args .c) (omega arith) (c .operands-located .ensures)
+returns-4 c =
+    let args = c .before .before .args in
+    as-primitive (located (args .self)) (args .c) (omega arith) (c .operands-located .ensures)
 
 returns-5 : tie.Need-returns-5
 unfolding located
-returns-5 c = by-code (λ (d : Cmd). c .is-deployment2 .result ≡ located (c .before .before .before .before .args .self) d) (c .before .before .before .before .args .c) (λ e. absurd (omega arith)) (λ e. absurd (omega arith)) (λ e. absurd (omega arith)) (λ e. absurd (omega arith)) (λ e. absurd (omega arith)) (λ e. c .is-deployment2 .ensures) (λ e. c .is-deployment2 .ensures) (λ e. absurd (omega arith)) (λ e. absurd (omega arith)) (λ e. absurd (omega arith))
+returns-5 c =
+    let args = c .before .before .before .before .args in
+    by-code (λ (d : Cmd). c .is-deployment2 .result ≡ located (args .self) d) (args .c)
+    (λ e. absurd (omega arith)) (λ e. absurd (omega arith)) (λ e. absurd (omega arith))
+    (λ e. absurd (omega arith)) (λ e. absurd (omega arith)) (λ e. c .is-deployment2 .ensures)
+    (λ e. c .is-deployment2 .ensures) (λ e. absurd (omega arith)) (λ e. absurd (omega arith))
+    (λ e. absurd (omega arith))
     (λ w. absurd (⊎-elim (λ (q : _ < 1). omega arith) (λ (q : 10 < _). omega arith) w))
 
 returns-6 : tie.Need-returns-6
 unfolding located
-returns-6 c = by-code (λ (d : Cmd). true ≡ located (c .before .before .args .self) d) (c .before .before .args .c) (λ e. refl) (λ e. refl) (λ e. refl) (λ e. refl) (λ e. absurd (omega arith)) (λ e. absurd (omega arith)) (λ e. absurd (omega arith)) (λ e. absurd (omega arith)) (λ e. absurd (omega arith)) (λ e. absurd (omega arith)) (λ e. refl)
+returns-6 c =
+    let args = c .before .before .args in
+    by-code (λ (d : Cmd). true ≡ located (args .self) d) (args .c) (λ e. refl) (λ e. refl) (λ e. refl)
+    (λ e. refl) (λ e. absurd (omega arith)) (λ e. absurd (omega arith)) (λ e. absurd (omega arith))
+    (λ e. absurd (omega arith)) (λ e. absurd (omega arith)) (λ e. absurd (omega arith)) (λ e. refl)
 
 returns-7 : tie.Need-returns-7
 unfolding located
-returns-7 c = by-code (λ (d : Cmd). true ≡ located (c .before .before .before .args .self) d) (c .before .before .before .args .c) (λ e. absurd (omega arith)) (λ e. absurd (omega arith)) (λ e. absurd (omega arith)) (λ e. absurd (omega arith)) (λ e. absurd (omega arith)) (λ e. absurd (omega arith)) (λ e. absurd (omega arith))
-    (λ e. absurd (c .before .before .match .rest .0 .0 .1 e)) (λ e. absurd (c .before .before .match .rest .0 .1 e)) (λ e. absurd (c .before .before .match .rest .1 e)) (λ e. refl)
+returns-7 c =
+    let args = c .before .before .before .args in
+    let match = c .before .before .match in
+    by-code (λ (d : Cmd). true ≡ located (args .self) d) (args .c) (λ e. absurd (omega arith))
+    (λ e. absurd (omega arith)) (λ e. absurd (omega arith)) (λ e. absurd (omega arith))
+    (λ e. absurd (omega arith)) (λ e. absurd (omega arith)) (λ e. absurd (omega arith))
+    (λ e. absurd (match .rest .0 .0 .1 e)) (λ e. absurd (match .rest .0 .1 e)) (λ e. absurd (match .rest .1 e)) (λ e. refl)
 
 pub located-spec : {M : Type 1} → statement M
 located-spec =

@@ -7,7 +7,11 @@ use Rattle.load.proofs.Scan.operands_located.Tie as tie
 
 returns : tie.Need-returns
 unfolding located
-returns c = same-and3 (c .before .before .is-value .ensures) (same-or (same-lt (c .before .before .before .operands .ensures) refl) (c .before .is-value2 .ensures)) (same-or (same-lt (c .before .before .before .operands .ensures) refl) (c .is-value3 .ensures))
+returns c =
+    let operands = c .before .before .before .operands in
+    same-and3 (c .before .before .is-value .ensures)
+    (same-or (same-lt (operands .ensures) refl) (c .before .is-value2 .ensures))
+    (same-or (same-lt (operands .ensures) refl) (c .is-value3 .ensures))
 
 pub operands-located-spec : {M : Type 1} → statement M
 operands-located-spec =

@@ -13,31 +13,51 @@ use Rattle.load.proofs.Scan.ordered.Tie as tie
 
 returns : tie.Need-returns
 unfolding disorder
-returns c = as-mono (disorder (now (c .before .before .before .args .program)) (c .before .before .before .args .r) (c .before .before .before .args .self)) (c .before .before .before .args .c) (omega arith) (ap (λ (t : Bool). need t 6 0) (same-lt refl refl))
+returns c =
+    let args = c .before .before .before .args in
+    as-mono (disorder (now (args .program)) (args .r) (args .self)) (args .c) (omega arith)
+    (ap (λ (t : Bool). need t 6 0) (same-lt refl refl))
 
 returns-2 : tie.Need-returns-2
 unfolding disorder
-returns-2 c = as-supply (disorder (now (c .before .before .before .args .program)) (c .before .before .before .args .r) (c .before .before .before .args .self)) (c .before .before .before .args .c) (omega arith) (c .supply-ordered .ensures (now (c .before .before .before .args .program)) (c .before .before .before .args .r))
+returns-2 c =
+    let args = c .before .before .before .args in
+    as-supply (disorder (now (args .program)) (args .r) (args .self)) (args .c) (omega arith)
+    (c .supply-ordered .ensures (now (args .program)) (args .r))
 
 returns-3 : tie.Need-returns-3
 unfolding disorder
-returns-3 c = as-react (disorder (now (c .before .before .before .args .program)) (c .before .before .before .args .r) (c .before .before .before .args .self)) (c .before .before .before .args .c) (omega arith) (c .react-ordered .ensures (c .before .before .before .args .r))
+returns-3 c =
+    let args = c .before .before .before .args in
+    as-react (disorder (now (args .program)) (args .r) (args .self)) (args .c) (omega arith)
+    (c .react-ordered .ensures (args .r))
 
 returns-4 : tie.Need-returns-4
 unfolding disorder
-returns-4 c = as-consume (disorder (now (c .before .before .before .before .args .program)) (c .before .before .before .before .args .r) (c .before .before .before .before .args .self)) (c .before .before .before .before .args .c) (omega arith) (ap (λ (t : Bool). need t 6 0) (same-eq (c .standing-at .ensures) refl))
+returns-4 c =
+    let args = c .before .before .before .before .args in
+    as-consume (disorder (now (args .program)) (args .r) (args .self)) (args .c) (omega arith)
+    (ap (λ (t : Bool). need t 6 0) (same-eq (c .standing-at .ensures) refl))
 
 returns-5 : tie.Need-returns-5
 unfolding disorder
-returns-5 c = as-sink (disorder (now (c .before .before .before .args .program)) (c .before .before .before .args .r) (c .before .before .before .args .self)) (c .before .before .before .args .c) (omega arith) (c .sink-ordered .ensures)
+returns-5 c =
+    let args = c .before .before .before .args in
+    as-sink (disorder (now (args .program)) (args .r) (args .self)) (args .c) (omega arith)
+    (c .sink-ordered .ensures)
 
 returns-6 : tie.Need-returns-6
 unfolding disorder
-returns-6 c = as-poly (disorder (now (c .before .before .before .before .args .program)) (c .before .before .before .before .args .r) (c .before .before .before .before .args .self)) (c .before .before .before .before .args .c) (omega arith) (ap (λ (t : Bool). need t 6 0) (same-eq (c .standing-at2 .ensures) refl))
+returns-6 c =
+    let args = c .before .before .before .before .args in
+    as-poly (disorder (now (args .program)) (args .r) (args .self)) (args .c) (omega arith)
+    (ap (λ (t : Bool). need t 6 0) (same-eq (c .standing-at2 .ensures) refl))
 
 returns-7 : tie.Need-returns-7
 unfolding disorder pick
-returns-7 c = by-code (λ (d : Cmd). 0 ≡ disorder (now (c .before .before .args .program)) (c .before .before .args .r) (c .before .before .args .self) d) (c .before .before .args .c)
+returns-7 c =
+    let args = c .before .before .args in
+    by-code (λ (d : Cmd). 0 ≡ disorder (now (args .program)) (args .r) (args .self) d) (args .c)
     (λ e. absurd (c .match .rest .0 .0 .0 .0 .0 .1 e)) (λ e. refl) (λ e. refl) (λ e. refl)
     (λ e. absurd (c .match .rest .0 .0 .0 .0 .1 e))
     (λ e. absurd (c .match .rest .0 .0 .0 .1 e))

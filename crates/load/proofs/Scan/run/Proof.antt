@@ -23,10 +23,20 @@ loop-holds : tie.Need-loop-holds Inv-loop μ-loop
 loop-holds c = (refl, refl, c .before .pre .1 .0)
 
 returns : tie.Need-returns Inv-loop μ-loop
-returns c = scan-refused (now (c .before .before .before .before .before .before .before .args .program)) (c .before .before .before .before .before .before .before .args .r) (c .before .before .before .before .before .loop .s) (c .before .before .before .before .before .before .before .args .first) (c .before .before .before .before .before .before .before .pre .1 .1 .0) (c .before .before .before .before .before .loop .left) (c .before .before .bytes-at .result) (c .before .refuse .result) (omega arith) (c .before .before .bytes-at .ensures) (c .before .refuse .ensures) (c .if1 .taken) ∙ sym (c .before .before .before .before .before .loop .inv .0)
+returns c =
+    let args = c .before .before .before .before .before .before .before .args in
+    let loop = c .before .before .before .before .before .loop in
+    let bytes-at = c .before .before .bytes-at in
+    let refuse = c .before .refuse in
+    scan-refused (now (args .program)) (args .r) (loop .s) (args .first)
+    (c .before .before .before .before .before .before .before .pre .1 .1 .0) (loop .left) (bytes-at .result)
+    (refuse .result) (omega arith) (bytes-at .ensures) (refuse .ensures) (c .if1 .taken) ∙ sym (loop .inv .0)
 
 take-requires : tie.Need-take-requires Inv-loop μ-loop
-take-requires c κs = (omega arith, λ q. free-source (now (c .before .before .before .before .before .before .before .args .program)) (c .before .before .before .before .before .before .before .args .r) (c .before .before .before .before .before .loop .s) (c .before .before .bytes-at .result) (c .before .before .before .before .before .before .before .pre .0) (c .before .before .before .before .before .loop .inv .2) q (sym (c .before .refuse .ensures) ∙ c .if1 .left))
+take-requires c κs =
+    let args = c .before .before .before .before .before .before .before .args in
+    let loop = c .before .before .before .before .before .loop in
+    (omega arith, λ q. free-source (now (args .program)) (args .r) (loop .s) (c .before .before .bytes-at .result) (c .before .before .before .before .before .before .before .pre .0) (loop .inv .2) q (sym (c .before .refuse .ensures) ∙ c .if1 .left))
 
 loop-again : tie.Need-loop-again Inv-loop μ-loop
 loop-again c = (

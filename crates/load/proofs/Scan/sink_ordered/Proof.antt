@@ -9,7 +9,9 @@ use Rattle.load.proofs.Scan.sink_ordered.Tie as tie
 
 returns : tie.Need-returns
 unfolding disorder
-returns c = ap (λ (t : Bool). need t 6 0) (same-eq (c .standing-at .ensures ∙ ap (standingAt (c .before .before .before .args .self)) (c .before .sink-loc .ensures)) refl)
+returns c =
+    ap (λ (t : Bool). need t 6 0)
+    (same-eq (c .standing-at .ensures ∙ ap (standingAt (c .before .before .before .args .self)) (c .before .sink-loc .ensures)) refl)
 
 pub sink-ordered-spec : {M : Type 1} → statement M
 sink-ordered-spec =

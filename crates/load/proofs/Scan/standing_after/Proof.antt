@@ -14,47 +14,81 @@ after-supply-requires c κs = c .before .before .pre (omega arith)
 
 returns : tie.Need-returns
 unfolding standingAfter
-returns c = as-mono (standingAfter (now (c .before .before .before .before .args .program)) (c .before .before .before .before .args .r) (c .before .before .before .before .args .self) (c .before .before .before .before .args .here)) (c .before .before .before .before .args .c) (omega arith) (stands (c .before .before .before .before .args .self) (c .stand .ensures) refl refl (c .before .shape-of .ensures))
+returns c =
+    let args = c .before .before .before .before .args in
+    as-mono (standingAfter (now (args .program)) (args .r) (args .self) (args .here)) (args .c) (omega arith)
+    (stands (args .self) (c .stand .ensures) refl refl (c .before .shape-of .ensures))
 
 returns-2 : tie.Need-returns-2
 unfolding standingAfter
-returns-2 c = as-make (standingAfter (now (c .before .before .before .args .program)) (c .before .before .before .args .r) (c .before .before .before .args .self) (c .before .before .before .args .here)) (c .before .before .before .args .c) (omega arith) (c .stand2 .ensures)
+returns-2 c =
+    let args = c .before .before .before .args in
+    as-make (standingAfter (now (args .program)) (args .r) (args .self) (args .here)) (args .c) (omega arith)
+    (c .stand2 .ensures)
 
 returns-3 : tie.Need-returns-3
 unfolding standingAfter
-returns-3 c = as-constant (standingAfter (now (c .before .before .before .args .program)) (c .before .before .before .args .r) (c .before .before .before .args .self) (c .before .before .before .args .here)) (c .before .before .before .args .c) (omega arith) (c .stand3 .ensures)
+returns-3 c =
+    let args = c .before .before .before .args in
+    as-constant (standingAfter (now (args .program)) (args .r) (args .self) (args .here)) (args .c)
+    (omega arith) (c .stand3 .ensures)
 
 returns-4 : tie.Need-returns-4
 unfolding standingAfter
-returns-4 c = as-global (standingAfter (now (c .before .before .before .before .args .program)) (c .before .before .before .before .args .r) (c .before .before .before .before .args .self) (c .before .before .before .before .args .here)) (c .before .before .before .before .args .c) (omega arith) (stands (c .before .before .before .before .args .self) (c .stand4 .ensures) refl refl (c .before .global-kind .ensures))
+returns-4 c =
+    let args = c .before .before .before .before .args in
+    as-global (standingAfter (now (args .program)) (args .r) (args .self) (args .here)) (args .c) (omega arith)
+    (stands (args .self) (c .stand4 .ensures) refl refl (c .before .global-kind .ensures))
 
 returns-5 : tie.Need-returns-5
 unfolding standingAfter
-returns-5 c = as-supply (standingAfter (now (c .before .before .before .args .program)) (c .before .before .before .args .r) (c .before .before .before .args .self) (c .before .before .before .args .here)) (c .before .before .before .args .c) (omega arith) (c .after-supply .ensures (now (c .before .before .before .args .program)) (c .before .before .before .args .r) (c .before .before .before .args .here))
+returns-5 c =
+    let args = c .before .before .before .args in
+    as-supply (standingAfter (now (args .program)) (args .r) (args .self) (args .here)) (args .c) (omega arith)
+    (c .after-supply .ensures (now (args .program)) (args .r) (args .here))
 
 returns-6 : tie.Need-returns-6
 unfolding standingAfter
-returns-6 c = as-react (standingAfter (now (c .before .before .before .args .program)) (c .before .before .before .args .r) (c .before .before .before .args .self) (c .before .before .before .args .here)) (c .before .before .before .args .c) (omega arith) (c .after-react .ensures (now (c .before .before .before .args .program)) (c .before .before .before .args .r) (c .before .before .before .args .here))
+returns-6 c =
+    let args = c .before .before .before .args in
+    as-react (standingAfter (now (args .program)) (args .r) (args .self) (args .here)) (args .c) (omega arith)
+    (c .after-react .ensures (now (args .program)) (args .r) (args .here))
 
 returns-7 : tie.Need-returns-7
 unfolding standingAfter
-returns-7 c = as-consume (standingAfter (now (c .before .before .before .args .program)) (c .before .before .before .args .r) (c .before .before .before .args .self) (c .before .before .before .args .here)) (c .before .before .before .args .c) (omega arith) (c .after-consume .ensures (c .before .before .before .args .r))
+returns-7 c =
+    let args = c .before .before .before .args in
+    as-consume (standingAfter (now (args .program)) (args .r) (args .self) (args .here)) (args .c) (omega arith)
+    (c .after-consume .ensures (args .r))
 
 returns-8 : tie.Need-returns-8
 unfolding standingAfter
-returns-8 c = as-sink (standingAfter (now (c .before .before .before .args .program)) (c .before .before .before .args .r) (c .before .before .before .args .self) (c .before .before .before .args .here)) (c .before .before .before .args .c) (omega arith) (c .after-sink .ensures (c .before .before .before .args .here))
+returns-8 c =
+    let args = c .before .before .before .args in
+    as-sink (standingAfter (now (args .program)) (args .r) (args .self) (args .here)) (args .c) (omega arith)
+    (c .after-sink .ensures (args .here))
 
 returns-9 : tie.Need-returns-9
 unfolding standingAfter
-returns-9 c = as-poly (standingAfter (now (c .before .before .before .args .program)) (c .before .before .before .args .r) (c .before .before .before .args .self) (c .before .before .before .args .here)) (c .before .before .before .args .c) (omega arith) (c .after-poly .ensures (now (c .before .before .before .args .program)) (c .before .before .before .args .r))
+returns-9 c =
+    let args = c .before .before .before .args in
+    as-poly (standingAfter (now (args .program)) (args .r) (args .self) (args .here)) (args .c) (omega arith)
+    (c .after-poly .ensures (now (args .program)) (args .r))
 
 returns-10 : tie.Need-returns-10
 unfolding standingAfter
-returns-10 c = as-primitive (standingAfter (now (c .before .before .before .args .program)) (c .before .before .before .args .r) (c .before .before .before .args .self) (c .before .before .before .args .here)) (c .before .before .before .args .c) (omega arith) (c .after-primitive .ensures (now (c .before .before .before .args .program)) (c .before .before .before .args .r))
+returns-10 c =
+    let args = c .before .before .before .args in
+    as-primitive (standingAfter (now (args .program)) (args .r) (args .self) (args .here)) (args .c)
+    (omega arith) (c .after-primitive .ensures (now (args .program)) (args .r))
 
 returns-11 : tie.Need-returns-11
 unfolding standingAfter
-returns-11 c = by-code (λ (d : Cmd). c .before .before .args .self ≡ standingAfter (now (c .before .before .args .program)) (c .before .before .args .r) (c .before .before .args .self) (c .before .before .args .here) d) (c .before .before .args .c)
+returns-11 c =
+    let args = c .before .before .args in
+    by-code
+    (λ (d : Cmd). args .self ≡ standingAfter (now (args .program)) (args .r) (args .self) (args .here) d)
+    (args .c)
     (λ e. absurd (c .match .rest .0 .0 .0 .0 .0 .0 .0 .0 .0 .1 e))
     (λ e. absurd (c .match .rest .0 .0 .0 .0 .0 .0 .0 .0 .1 e))
     (λ e. absurd (c .match .rest .0 .0 .0 .0 .0 .0 .0 .1 e))

@@ -13,8 +13,12 @@ standing-after-requires c κs = c .before .before .pre .1
 
 returns : tie.Need-returns
 unfolding afterOf
-returns c = advanced (now (c .before .before .before .before .args .program)) (c .before .before .before .before .args .r) (c .before .before .before .before .args .self) (c .before .before .command-loc .result) (decode (c .before .before .before .before .args .c)) (c .before .standing-after .ensures)
-    ∙ ap (λ (l : ℕ). advance (standingAfter (now (c .before .before .before .before .args .program)) (c .before .before .before .before .args .r) (c .before .before .before .before .args .self) l (decode (c .before .before .before .before .args .c)))) (c .before .before .command-loc .ensures)
+returns c =
+    let args = c .before .before .before .before .args in
+    let command-loc = c .before .before .command-loc in
+    advanced (now (args .program)) (args .r) (args .self) (command-loc .result) (decode (args .c))
+    (c .before .standing-after .ensures)
+    ∙ ap (λ (l : ℕ). advance (standingAfter (now (args .program)) (args .r) (args .self) l (decode (args .c)))) (command-loc .ensures)
 
 pub take-spec : {M : Type 1} → statement M
 take-spec =

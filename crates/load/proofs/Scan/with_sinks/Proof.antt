@@ -19,10 +19,15 @@ unfolding withSinks
 loop-holds c = (refl, omega arith)
 
 loop-again : tie.Need-loop-again Inv-loop μ-loop
-loop-again c = (one-sink (now (c .before .before .before .before .before .before .args .program)) (c .before .before .before .before .before .before .args .r) (c .before .before .before .before .before .before .args .self) _ _ (c .before .before .before .loop .inv .0) (c .before .sink-loc .ensures) (c .stand .ensures), omega arith)
+loop-again c =
+    let args = c .before .before .before .before .before .before .args in
+    (one-sink (now (args .program)) (args .r) (args .self) _ _ (c .before .before .before .loop .inv .0) (c .before .sink-loc .ensures) (c .stand .ensures), omega arith)
 
 returns : tie.Need-returns Inv-loop μ-loop
-returns c = c .before .loop .inv .0 ∙ ap (λ (x : ℕ). withSinks x (now (c .before .before .before .before .args .program)) (c .before .before .before .before .args .r) (c .before .before .before .before .args .self)) (omega arith)
+returns c =
+    let args = c .before .before .before .before .args in
+    c .before .loop .inv .0 ∙ ap (λ (x : ℕ). withSinks x (now (args .program)) (args .r) (args .self))
+    (omega arith)
 
 pub with-sinks-spec : {M : Type 1} → statement M
 with-sinks-spec =

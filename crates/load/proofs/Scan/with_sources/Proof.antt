@@ -26,7 +26,10 @@ loop-again c = (
 )
 
 returns : tie.Need-returns Inv-loop μ-loop
-returns c = c .before .loop .inv .0 ∙ ap (λ (x : ℕ). withSources x (now (c .before .before .before .before .before .args .program)) (c .before .before .before .before .before .args .r) (c .before .before .before .before .before .args .self)) (omega arith)
+returns c =
+    let args = c .before .before .before .before .before .args in
+    c .before .loop .inv .0 ∙ ap (λ (x : ℕ). withSources x (now (args .program)) (args .r) (args .self))
+    (omega arith)
 
 pub with-sources-spec : {M : Type 1} → statement M
 with-sources-spec =

@@ -9,7 +9,9 @@ use Rattle.load.proofs.refuse.constant_formed.Tie as tie
 
 returns : tie.Need-returns
 unfolding formed
-returns c = same-and3 (same-eq refl refl) (same-lt refl (omega arith)) (c .content-legal .ensures ∙ ap (contentLegal _ _) (c .before .before .before .before .before .v .ensures))
+returns c =
+    same-and3 (same-eq refl refl) (same-lt refl (omega arith))
+    (c .content-legal .ensures ∙ ap (contentLegal _ _) (c .before .before .before .before .before .v .ensures))
 
 pub constant-formed-spec : {M : Type 1} → statement M
 constant-formed-spec =

@@ -13,47 +13,77 @@ use Rattle.load.proofs.refuse.formed.Tie as tie
 
 returns : tie.Need-returns
 unfolding formed
-returns c = as-mono (formed (now (c .before .before .before .before .before .before .before .before .args .program)) (c .before .before .before .before .before .before .before .before .args .c)) (c .before .before .before .before .before .before .before .before .args .c) (omega arith) (same-and (same-eq (ap (λ (v : ℕ). c .before .before .before .before .before .before .before .before .args .c .a + c .before .before .before .before .before .before .before .before .args .c .b + v) (c .before .before .before .v .ensures)) refl) (same-lt refl (c .before .reactors .ensures)))
+returns c =
+    let args = c .before .before .before .before .before .before .before .before .args in
+    as-mono (formed (now (args .program)) (args .c)) (args .c) (omega arith)
+    (same-and (same-eq (ap (λ (v : ℕ). args .c .a + args .c .b + v) (c .before .before .before .v .ensures)) refl) (same-lt refl (c .before .reactors .ensures)))
 
 returns-2 : tie.Need-returns-2
 unfolding formed
-returns-2 c = as-make (formed (now (c .before .before .before .before .before .before .before .before .args .program)) (c .before .before .before .before .before .before .before .before .args .c)) (c .before .before .before .before .before .before .before .before .args .c) (omega arith) (same-and (same-eq (ap (λ (v : ℕ). c .before .before .before .before .before .before .before .before .args .c .a + c .before .before .before .before .before .before .before .before .args .c .b + v) (c .before .before .before .v .ensures)) refl) (same-lt refl (c .before .shapes .ensures)))
+returns-2 c =
+    let args = c .before .before .before .before .before .before .before .before .args in
+    as-make (formed (now (args .program)) (args .c)) (args .c) (omega arith)
+    (same-and (same-eq (ap (λ (v : ℕ). args .c .a + args .c .b + v) (c .before .before .before .v .ensures)) refl) (same-lt refl (c .before .shapes .ensures)))
 
 returns-3 : tie.Need-returns-3
 unfolding formed
-returns-3 c = as-constant (formed (now (c .before .before .before .before .before .before .before .args .program)) (c .before .before .before .before .before .before .before .args .c)) (c .before .before .before .before .before .before .before .args .c) (omega arith) (c .constant-formed .ensures)
+returns-3 c =
+    let args = c .before .before .before .before .before .before .before .args in
+    as-constant (formed (now (args .program)) (args .c)) (args .c) (omega arith) (c .constant-formed .ensures)
 
 returns-4 : tie.Need-returns-4
 unfolding formed
-returns-4 c = as-global (formed (now (c .before .before .before .before .before .before .before .before .args .program)) (c .before .before .before .before .before .before .before .before .args .c)) (c .before .before .before .before .before .before .before .before .args .c) (omega arith) (same-and (same-eq (ap (λ (v : ℕ). c .before .before .before .before .before .before .before .before .args .c .a + c .before .before .before .before .before .before .before .before .args .c .b + v) (c .before .before .before .v .ensures)) refl) (same-le refl (c .before .globals .ensures)))
+returns-4 c =
+    let args = c .before .before .before .before .before .before .before .before .args in
+    as-global (formed (now (args .program)) (args .c)) (args .c) (omega arith)
+    (same-and (same-eq (ap (λ (v : ℕ). args .c .a + args .c .b + v) (c .before .before .before .v .ensures)) refl) (same-le refl (c .before .globals .ensures)))
 
 returns-5 : tie.Need-returns-5
 unfolding formed
-returns-5 c = as-supply (formed (now (c .before .before .before .before .before .before .args .program)) (c .before .before .before .before .before .before .args .c)) (c .before .before .before .before .before .before .args .c) (omega arith) (same-eq (ap (λ (v : ℕ). v) (c .before .v .ensures)) refl)
+returns-5 c =
+    let args = c .before .before .before .before .before .before .args in
+    as-supply (formed (now (args .program)) (args .c)) (args .c) (omega arith)
+    (same-eq (ap (λ (v : ℕ). v) (c .before .v .ensures)) refl)
 
 returns-6 : tie.Need-returns-6
 unfolding formed
-returns-6 c = as-react (formed (now (c .before .before .before .before .before .before .args .program)) (c .before .before .before .before .before .before .args .c)) (c .before .before .before .before .before .before .args .c) (omega arith) (same-eq (ap (λ (v : ℕ). c .before .before .before .before .before .before .args .c .x + c .before .before .before .before .before .before .args .c .a + v) (c .before .v .ensures)) refl)
+returns-6 c =
+    let args = c .before .before .before .before .before .before .args in
+    as-react (formed (now (args .program)) (args .c)) (args .c) (omega arith)
+    (same-eq (ap (λ (v : ℕ). args .c .x + args .c .a + v) (c .before .v .ensures)) refl)
 
 returns-7 : tie.Need-returns-7
 unfolding formed
-returns-7 c = as-consume (formed (now (c .before .before .before .before .before .before .args .program)) (c .before .before .before .before .before .before .args .c)) (c .before .before .before .before .before .before .args .c) (omega arith) (same-eq (ap (λ (v : ℕ). c .before .before .before .before .before .before .args .c .a + v) (c .before .v .ensures)) refl)
+returns-7 c =
+    let args = c .before .before .before .before .before .before .args in
+    as-consume (formed (now (args .program)) (args .c)) (args .c) (omega arith)
+    (same-eq (ap (λ (v : ℕ). args .c .a + v) (c .before .v .ensures)) refl)
 
 returns-8 : tie.Need-returns-8
 unfolding formed
-returns-8 c = as-sink (formed (now (c .before .before .before .before .before .before .args .program)) (c .before .before .before .before .before .before .args .c)) (c .before .before .before .before .before .before .args .c) (omega arith) (same-eq (ap (λ (v : ℕ). c .before .before .before .before .before .before .args .c .b + v) (c .before .v .ensures)) refl)
+returns-8 c =
+    let args = c .before .before .before .before .before .before .args in
+    as-sink (formed (now (args .program)) (args .c)) (args .c) (omega arith)
+    (same-eq (ap (λ (v : ℕ). args .c .b + v) (c .before .v .ensures)) refl)
 
 returns-9 : tie.Need-returns-9
 unfolding formed
-returns-9 c = as-poly (formed (now (c .before .before .before .before .before .before .args .program)) (c .before .before .before .before .before .before .args .c)) (c .before .before .before .before .before .before .args .c) (omega arith) (same-eq (ap (λ (v : ℕ). c .before .before .before .before .before .before .args .c .x + v) (c .before .v .ensures)) refl)
+returns-9 c =
+    let args = c .before .before .before .before .before .before .args in
+    as-poly (formed (now (args .program)) (args .c)) (args .c) (omega arith)
+    (same-eq (ap (λ (v : ℕ). args .c .x + v) (c .before .v .ensures)) refl)
 
 returns-10 : tie.Need-returns-10
 unfolding formed
-returns-10 c = as-primitive (formed (now (c .before .before .before .before .before .before .before .args .program)) (c .before .before .before .before .before .before .before .args .c)) (c .before .before .before .before .before .before .before .args .c) (omega arith) (c .primitive-formed .ensures)
+returns-10 c =
+    let args = c .before .before .before .before .before .before .before .args in
+    as-primitive (formed (now (args .program)) (args .c)) (args .c) (omega arith) (c .primitive-formed .ensures)
 
 returns-11 : tie.Need-returns-11
 unfolding formed
-returns-11 c = by-code (λ (d : Cmd). false ≡ formed (now (c .before .before .before .before .before .before .args .program)) (c .before .before .before .before .before .before .args .c) d) (c .before .before .before .before .before .before .args .c)
+returns-11 c =
+    let args = c .before .before .before .before .before .before .args in
+    by-code (λ (d : Cmd). false ≡ formed (now (args .program)) (args .c) d) (args .c)
     (λ e. absurd (c .match .rest .0 .0 .0 .0 .0 .0 .0 .0 .0 .1 e))
     (λ e. absurd (c .match .rest .0 .0 .0 .0 .0 .0 .0 .0 .1 e))
     (λ e. absurd (c .match .rest .0 .0 .0 .0 .0 .0 .0 .1 e))

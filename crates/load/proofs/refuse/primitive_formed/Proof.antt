@@ -7,9 +7,11 @@ use Rattle.load.proofs.refuse.primitive_formed.Tie as tie
 
 returns : tie.Need-returns
 unfolding formed
-returns c = same-and4 (c .before .before .before .before .before .is-primitive .ensures) (same-eq refl refl)
-    (same-or (same-le refl (c .before .before .before .before .before .before .operands .ensures)) (same-eq refl refl))
-    (same-or (same-le refl (c .before .before .before .before .before .before .operands .ensures)) (same-eq refl refl))
+returns c =
+    let operands = c .before .before .before .before .before .before .operands in
+    same-and4 (c .before .before .before .before .before .is-primitive .ensures) (same-eq refl refl)
+    (same-or (same-le refl (operands .ensures)) (same-eq refl refl))
+    (same-or (same-le refl (operands .ensures)) (same-eq refl refl))
 
 pub primitive-formed-spec : {M : Type 1} → statement M
 primitive-formed-spec =

@@ -20,13 +20,18 @@ loop-holds : tie.Need-loop-holds Inv-loop μ-loop
 loop-holds c = (refl, omega arith)
 
 returns : tie.Need-returns Inv-loop μ-loop
-returns c = sweep-found (headerLegal (now (c .before .before .before .before .before .args .program))) _ 8 (omega arith) (refused (c .before .header-legal .ensures) (c .if1 .taken)) ∙ sym (c .before .before .before .loop .inv .0)
+returns c =
+    sweep-found (headerLegal (now (c .before .before .before .before .before .args .program))) _ 8 (omega arith)
+    (refused (c .before .header-legal .ensures) (c .if1 .taken)) ∙ sym (c .before .before .before .loop .inv .0)
 
 loop-again : tie.Need-loop-again Inv-loop μ-loop
-loop-again c = (c .before .before .before .loop .inv .0 ∙ sweep-next (headerLegal (now (c .before .before .before .before .before .args .program))) _ 8 (omega arith) (passed (c .before .header-legal .ensures) (c .if1 .left)), omega arith)
+loop-again c =
+    (c .before .before .before .loop .inv .0 ∙ sweep-next (headerLegal (now (c .before .before .before .before .before .args .program))) _ 8 (omega arith) (passed (c .before .header-legal .ensures) (c .if1 .left)), omega arith)
 
 returns-2 : tie.Need-returns-2 Inv-loop μ-loop
-returns-2 c = sweep-done (headerLegal (now (c .before .before .before .args .program))) _ 8 (omega arith) ∙ sym (c .before .loop .inv .0)
+returns-2 c =
+    sweep-done (headerLegal (now (c .before .before .before .args .program))) _ 8 (omega arith) ∙ sym
+    (c .before .loop .inv .0)
 
 pub header-fault-spec : {M : Type 1} → statement M
 header-fault-spec =

@@ -20,13 +20,22 @@ loop-holds : tie.Need-loop-holds Inv-loop μ-loop
 loop-holds c = (refl, omega arith)
 
 returns : tie.Need-returns Inv-loop μ-loop
-returns c = sweep-found (λ (x : ℕ). sinkKind (now (c .before .before .before .before .before .args .program)) (c .before .before .before .before .before .args .s) x <? 2) _ 7 (omega arith) (refused (same-lt (c .before .sink-kind .ensures) refl) (c .if1 .taken)) ∙ sym (c .before .before .before .loop .inv .0)
+returns c =
+    let args = c .before .before .before .before .before .args in
+    sweep-found (λ (x : ℕ). sinkKind (now (args .program)) (args .s) x <? 2) _ 7 (omega arith)
+    (refused (same-lt (c .before .sink-kind .ensures) refl) (c .if1 .taken)) ∙ sym
+    (c .before .before .before .loop .inv .0)
 
 loop-again : tie.Need-loop-again Inv-loop μ-loop
-loop-again c = (c .before .before .before .loop .inv .0 ∙ sweep-next (λ (x : ℕ). sinkKind (now (c .before .before .before .before .before .args .program)) (c .before .before .before .before .before .args .s) x <? 2) _ 7 (omega arith) (passed (same-lt (c .before .sink-kind .ensures) refl) (c .if1 .left)), omega arith)
+loop-again c =
+    let args = c .before .before .before .before .before .args in
+    (c .before .before .before .loop .inv .0 ∙ sweep-next (λ (x : ℕ). sinkKind (now (args .program)) (args .s) x <? 2) _ 7 (omega arith) (passed (same-lt (c .before .sink-kind .ensures) refl) (c .if1 .left)), omega arith)
 
 returns-2 : tie.Need-returns-2 Inv-loop μ-loop
-returns-2 c = sweep-done (λ (x : ℕ). sinkKind (now (c .before .before .before .args .program)) (c .before .before .before .args .s) x <? 2) _ 7 (omega arith) ∙ sym (c .before .loop .inv .0)
+returns-2 c =
+    let args = c .before .before .before .args in
+    sweep-done (λ (x : ℕ). sinkKind (now (args .program)) (args .s) x <? 2) _ 7 (omega arith) ∙ sym
+    (c .before .loop .inv .0)
 
 pub reactor-sink-spec : {M : Type 1} → statement M
 reactor-sink-spec =

@@ -22,13 +22,21 @@ unfolding tablesEnd entryAt shapeAt
 loop-holds c = (refl, omega arith)
 
 returns : tie.Need-returns Inv-loop μ-loop
-returns c = sweep-found (tableLegal (now (c .before .before .before .before .before .before .args .program))) _ (tablesEnd (now (c .before .before .before .before .before .before .args .program))) (omega arith) (refused (c .before .table-legal .ensures) (c .if1 .taken)) ∙ sym (c .before .before .before .loop .inv .0)
+returns c =
+    let args = c .before .before .before .before .before .before .args in
+    sweep-found (tableLegal (now (args .program))) _ (tablesEnd (now (args .program))) (omega arith)
+    (refused (c .before .table-legal .ensures) (c .if1 .taken)) ∙ sym (c .before .before .before .loop .inv .0)
 
 loop-again : tie.Need-loop-again Inv-loop μ-loop
-loop-again c = (c .before .before .before .loop .inv .0 ∙ sweep-next (tableLegal (now (c .before .before .before .before .before .before .args .program))) _ (tablesEnd (now (c .before .before .before .before .before .before .args .program))) (omega arith) (passed (c .before .table-legal .ensures) (c .if1 .left)), omega arith)
+loop-again c =
+    let args = c .before .before .before .before .before .before .args in
+    (c .before .before .before .loop .inv .0 ∙ sweep-next (tableLegal (now (args .program))) _ (tablesEnd (now (args .program))) (omega arith) (passed (c .before .table-legal .ensures) (c .if1 .left)), omega arith)
 
 returns-2 : tie.Need-returns-2 Inv-loop μ-loop
-returns-2 c = sweep-done (tableLegal (now (c .before .before .before .before .args .program))) _ (tablesEnd (now (c .before .before .before .before .args .program))) (omega arith) ∙ sym (c .before .loop .inv .0)
+returns-2 c =
+    let args = c .before .before .before .before .args in
+    sweep-done (tableLegal (now (args .program))) _ (tablesEnd (now (args .program))) (omega arith) ∙ sym
+    (c .before .loop .inv .0)
 
 pub table-fault-spec : {M : Type 1} → statement M
 table-fault-spec =

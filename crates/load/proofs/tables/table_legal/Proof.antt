@@ -19,9 +19,11 @@ cast-shape-legal c = omega (arith, c .before .before .before .before .shared-sli
 
 returns-2 : tie.Need-returns-2
 unfolding tableLegal
-returns-2 c = no _ (lt× (omega arith))
+returns-2 c =
+    let args = c .before .before .before .before .before .before .args in
+    no _ (lt× (omega arith))
     (yes _ (lt! (omega arith))
-    (c .shape-legal .ensures ∙ ap (λ (s : ℕ). shapeLegal (now (c .before .before .before .before .before .before .args .program)) ((c .before .before .before .before .before .before .args .i - s) / 16) ((c .before .before .before .before .before .before .args .i - s) % 16)) (c .before .before .before .before .shape-at .ensures .0)))
+    (c .shape-legal .ensures ∙ ap (λ (s : ℕ). shapeLegal (now (args .program)) ((args .i - s) / 16) ((args .i - s) % 16)) (c .before .before .before .before .shape-at .ensures .0)))
 
 cast-entry-legal : tie.Need-cast-entry-legal
 unfolding tablesEnd entryAt shapeAt shapes reactors byte
@@ -29,9 +31,11 @@ cast-entry-legal c = omega (arith, c .before .before .before .before .shared-sli
 
 returns-3 : tie.Need-returns-3
 unfolding tableLegal
-returns-3 c = no _ (lt× (omega arith))
+returns-3 c =
+    let args = c .before .before .before .before .before .before .args in
+    no _ (lt× (omega arith))
     (no _ (lt× (omega arith))
-    (c .entry-legal .ensures ∙ ap (λ (e : ℕ). entryLegal (now (c .before .before .before .before .before .before .args .program)) ((c .before .before .before .before .before .before .args .i - e) / 4) ((c .before .before .before .before .before .before .args .i - e) % 4)) (c .before .before .entry-at .ensures)))
+    (c .entry-legal .ensures ∙ ap (λ (e : ℕ). entryLegal (now (args .program)) ((args .i - e) / 4) ((args .i - e) % 4)) (c .before .before .entry-at .ensures)))
 
 pub table-legal-spec : {M : Type 1} → statement M
 table-legal-spec =

@@ -47,7 +47,11 @@ returns-5 c =
     (stops _ (eq× (λ e. c .if5 .taken (e ∙ sym (c .before .whole-length .ensures)))) refl))))
 
 check-reactors-requires : tie.Need-check-reactors-requires
-check-reactors-requires c κs = legal-tables (now (c .before .before .before .before .before .before .before .before .before .before .args .program)) (sym (c .before .before .before .before .before .before .before .header-fault .ensures) ∙ c .before .before .before .before .before .before .if2 .left) (sym (c .before .before .before .table-fault .ensures) ∙ c .before .before .if4 .left ∙ c .before .before .before .before .before .tables-end .ensures)
+check-reactors-requires c κs =
+    legal-tables
+    (now (c .before .before .before .before .before .before .before .before .before .before .args .program))
+    (sym (c .before .before .before .before .before .before .before .header-fault .ensures) ∙ c .before .before .before .before .before .before .if2 .left)
+    (sym (c .before .before .before .table-fault .ensures) ∙ c .before .before .if4 .left ∙ c .before .before .before .before .before .tables-end .ensures)
 
 returns-6 : tie.Need-returns-6
 unfolding checkOf

@@ -18,7 +18,9 @@ globals-requires c κs = search needs
 
 returns : tie.Need-returns
 unfolding headerOf
-returns c = same-header (c .before .before .before .byte .ensures) (c .before .before .shapes .ensures) (c .before .reactors .ensures) (c .globals .ensures)
+returns c =
+    same-header (c .before .before .before .byte .ensures) (c .before .before .shapes .ensures)
+    (c .before .reactors .ensures) (c .globals .ensures)
 
 pub from-bytes-spec : {M : Type 1} → statement M
 from-bytes-spec =

@@ -51,7 +51,12 @@ byte-requires-8 c κs = search needs
 
 returns : tie.Need-returns
 unfolding bytesAt
-returns c = same-command (c .before .before .before .before .before .before .before .byte .ensures) (c .before .before .before .before .before .before .byte2 .ensures) (c .before .before .before .before .before .byte3 .ensures) (c .before .before .before .before .byte4 .ensures) (c .before .before .before .byte5 .ensures) (c .before .before .byte6 .ensures) (c .before .byte7 .ensures) (c .byte8 .ensures)
+returns c =
+    same-command (c .before .before .before .before .before .before .before .byte .ensures)
+    (c .before .before .before .before .before .before .byte2 .ensures)
+    (c .before .before .before .before .before .byte3 .ensures)
+    (c .before .before .before .before .byte4 .ensures) (c .before .before .before .byte5 .ensures)
+    (c .before .before .byte6 .ensures) (c .before .byte7 .ensures) (c .byte8 .ensures)
 
 pub bytes-at-spec : {M : Type 1} → statement M
 bytes-at-spec =

@@ -42,7 +42,8 @@ loop-less : tie.Need-loop-less Inv-loop μ-loop
 loop-less c = omega arith
 
 loop-again : tie.Need-loop-again Inv-loop μ-loop
-loop-again c = (omega (arith, commands-next (now (c .before .before .before .before .before .args .program)) (c .before .before .loop .i)), omega arith, omega arith)
+loop-again c =
+    (omega (arith, commands-next (now (c .before .before .before .before .before .args .program)) (c .before .before .loop .i)), omega arith, omega arith)
 
 returns : tie.Need-returns Inv-loop μ-loop
 returns c = (c .before .loop .inv .0 ∙ ap (commandsAt _) (omega arith), omega arith)

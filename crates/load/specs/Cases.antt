@@ -1,0 +1,74 @@
+-- The bench programs of 01, and its starred cases about the check as one table with one claim: each row's check answers as it says.
+use Prim.Native.Nat.{ℕ}
+use mathlib.Core.Path.{_≡_, refl}
+use mathlib.Core.List.{List, [], _∷_, _++_}
+use lib.ListN.{replicate, take, set}
+use Rattle.load.specs.Check.{checkOf, numberOf, placeOf}
+use Rattle.load.specs.Open.{opened}
+
+abbrev pub zeros : ℕ → List ℕ
+zeros n = replicate n 0
+
+abbrev pub joined : List (List ℕ) → List ℕ
+joined [] = []
+joined (l ∷ ls) = l ++ joined ls
+
+abbrev pub command : ℕ → ℕ → ℕ → ℕ → ℕ → List ℕ
+command code x a b v = code ∷ x ∷ a ∷ b ∷ v ∷ 0 ∷ 0 ∷ 0 ∷ []
+
+-- "Clock program, hex: 01 01 01 00 00 00 00 00 | 00 01, then 14 times 00 | 00 00 02 00 | 04, then 7 times 00 | 08, then 7 times 00.
+-- 44 bytes."
+abbrev pub clock : List ℕ
+clock = joined ((1 ∷ 1 ∷ 1 ∷ zeros 5) ∷ (0 ∷ 1 ∷ zeros 14) ∷ (0 ∷ 0 ∷ 2 ∷ 0 ∷ []) ∷ (4 ∷ zeros 7) ∷ (8 ∷ zeros 7) ∷ [])
+
+-- "Nest program: one reactor, no sources, one number sink; D MakePoly shape 0; R Constant of kind 2 value 0, AllocPoly, React,
+-- Consume, Sink. 76 bytes, size 17."
+abbrev pub nest : List ℕ
+nest =
+    joined (
+    (1 ∷ 1 ∷ 1 ∷ zeros 5) ∷ (0 ∷ 1 ∷ zeros 14) ∷ (0 ∷ 1 ∷ 5 ∷ 0 ∷ [])
+    ∷ command 2 0 0 0 0  -- 0 a branch point of shape 0
+    ∷ command 3 2 0 0 0 ∷ command 9 0 1 0 0 ∷ command 6 0 0 2 0 ∷ command 7 0 0 2 0 ∷ command 8 0 4 0 0 ∷ [])
+
+-- "Toggle program: plus and minus (reactors 0 and 1, size 13), main of size 39 chooses minus on odd time."
+abbrev pub toggle : List ℕ
+toggle =
+    joined (
+    (1 ∷ 2 ∷ 3 ∷ 2 ∷ zeros 4) ∷ (0 ∷ 0 ∷ [])
+    ∷ (2 ∷ 1 ∷ zeros 14) ∷ (0 ∷ 1 ∷ zeros 14)
+    ∷ (0 ∷ 0 ∷ 2 ∷ 0 ∷ []) ∷ (0 ∷ 0 ∷ 2 ∷ 0 ∷ []) ∷ (1 ∷ 1 ∷ 16 ∷ 0 ∷ [])
+    ∷ command 10 0 0 1 0 ∷ command 8 0 2 0 0  -- plus
+    ∷ command 10 1 0 1 0 ∷ command 8 0 2 0 0  -- minus
+    ∷ command 2 0 0 0 0  -- 0 a branch point
+    ∷ command 4 0 0 0 0 ∷ command 4 1 0 0 0 ∷ command 4 2 0 0 0  -- 1 the time, 2 and 3 the readings
+    ∷ command 3 0 0 0 2 ∷ command 3 0 0 0 1  -- 4 two, 5 one
+    ∷ command 10 4 1 4 0 ∷ command 10 6 6 5 0  -- 6 the time's remainder by two, 7 whether it is one
+    ∷ command 3 2 0 0 0 ∷ command 3 2 0 0 1 ∷ command 10 11 7 9 8  -- 8 plus, 9 minus, 10 the operator
+    ∷ command 9 0 10 0 0 ∷ command 5 0 2 11 0 ∷ command 5 1 3 11 0  -- 11 the deployment, supplied
+    ∷ command 6 0 0 11 0 ∷ command 7 0 0 11 0 ∷ command 8 0 15 0 0 ∷ [])
+
+-- a program, and the number and place that its check gives
+pub record Case : Type 0 where
+  pub program : List ℕ
+  pub number : ℕ
+  pub place : ℕ
+
+abbrev case : List ℕ → ℕ → ℕ → Case
+case p n q = record { program = p; number = n; place = q }
+
+abbrev pub starred : List Case
+starred =
+    case clock 0 9  -- "* Check: 0, 9."
+    ∷ case (take 43 clock) 1 43  -- "* Its first 43 bytes: 1, 43."
+    ∷ case (set clock 38 1) 4 36  -- "* Last command's a set to 1: 4, 36."
+    ∷ case nest 0 17  -- "76 bytes, size 17."
+    ∷ case toggle 0 39  -- "main of size 39"
+    ∷ []
+
+abbrev pub answers : List Case → List Case
+answers [] = []
+answers (r ∷ rs) = let c = checkOf (r .program) in case (r .program) (numberOf c) (placeOf c) ∷ answers rs
+
+pub starred-hold : answers starred ≡ starred
+unfolding opened
+starred-hold = refl
