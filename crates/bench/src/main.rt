@@ -1,7 +1,13 @@
-// The bench cases of document 01, run through the proved code and printed. The file stdout beside
-// src/ holds what 01 says they come to, and the gate compares the two.
+// The bench cases of document 01, run through the proved code and printed, and vectors from another
+// implementation. The file stdout beside src/ holds what 01 says they come to, and the gate compares
+// the two.
 mod primitives;
+mod programs;
+mod text;
+mod vectors;
 
 fn main() {
     primitives::print_all();
+    programs::print_checks();
+    vectors::run();
 }

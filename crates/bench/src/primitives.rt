@@ -1,5 +1,6 @@
 // The cases of 01 about primitives: the starred ones first, then its rules on bounds and blanks.
-use libc::STDOUT_FILENO;
+use crate::text::put;
+use crate::text::put_decimal;
 use value::Value;
 
 const ADD: u8 = 0;
@@ -32,15 +33,11 @@ const LOWEST: i32 = -2147483648;
 
 const HIGHEST: i32 = 2147483647;
 
-fn put(text: &[u8]) {
-    io::write_all(STDOUT_FILENO, text);
-}
-
 fn put_integer(z: i32) {
     if z < 0 {
         put(b"-");
     }
-    io::print_decimal(STDOUT_FILENO, value::magnitude(z) as u64);
+    put_decimal(value::magnitude(z) as u64);
 }
 
 fn put_value(v: Value) {

@@ -9,8 +9,7 @@ use program::sinks;
 use program::source_kind;
 use program::sources;
 ghost use mathlib.Core.Path.{_≡_};
-ghost use Prim.Native.Nat.{ℕ, _+_, _≤_, _<_};
-ghost use Rattle.value.specs.Test.{sweep};
+ghost use Prim.Native.Nat.{_+_, _≤_, _<_};
 ghost use Rattle.program.specs.Bytes as B;
 ghost use Rattle.program.specs.Location as L;
 ghost use Rattle.load.specs.Legal.{LegalTables, Shaped};
@@ -92,24 +91,17 @@ impl Scan {
         }
     }
 
-    // The first location whose standing may not stay at the end; 174 if there is none.
-    fn first_unsettled(self) -> usize
-        ensures { λ l. ⌜ l ≡ sweep (λ (l : ℕ). S.settled (S.standingAt self l)) 0 174 ⌝ }
-    {
-        let mut l: usize = 0;
-        while l < 174 {
-            if !settled(self.standing_at(l)) {
-                return l;
-            }
-            l = l + 1;
-        }
-        l
-    }
-
-    // Whether no React, no AllocPoly and no sink is missing at the end.
+    // Whether no React, no AllocPoly and no sink is missing at the end. The loop has no way out, so
+    // that it can go many locations at a time.
     pub(crate) fn complete(self) -> bool
         ensures { λ t. ⌜ t ≡ S.complete self ⌝ }
     {
-        self.first_unsettled() == 174
+        let mut all = true;
+        let mut l: usize = 0;
+        while l < 174 {
+            all = all & settled(self.standing[l]);
+            l = l + 1;
+        }
+        all
     }
 }

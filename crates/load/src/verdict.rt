@@ -14,6 +14,7 @@ use program::size_of;
 use program::tables_end;
 use program::whole_length;
 ghost use mathlib.Core.Path.{_≡_};
+ghost use Rattle.value.specs.Test.{_and_, _≤?_};
 ghost use Rattle.program.specs.Bytes as B;
 ghost use Rattle.program.specs.Location as L;
 ghost use Rattle.load.specs.Check.{checkOf, reactorsOf};
@@ -58,12 +59,19 @@ fn check_reactors(program: &[u8]) -> Checked
     Checked::Accepted(size_of(program, main_of(program)) as usize)
 }
 
+// Whether a program may have n bytes: the header's at least, and "at most 65,535".
+fn length_legal(n: usize) -> bool
+    ensures { λ t. ⌜ t ≡ ((8 ≤? n) and (n ≤? 65535)) ⌝ }
+{
+    (8 <= n) & (n <= Header::MOST_BYTES)
+}
+
 // Accepted with the size of main, or refused with the number and the place that 01's table gives.
 pub fn check(program: &[u8]) -> Checked
     ensures { λ c. ⌜ c ≡ checkOf (now (program .entry)) ⌝ }
 {
     let n = program.len();
-    if !((8 <= n) & (n <= Header::MOST_BYTES)) {
+    if !length_legal(n) {
         return Checked::Refused(Refusal::ProgramLength(n));
     }
     let h = header_fault(program);

@@ -5,8 +5,8 @@ use mathlib.Core.Path.{_≡_, refl, sym, _∙_, subst}
 use mathlib.Core.Bool.{Bool, true, false}
 use mathlib.Core.Logic.{_↔_}
 use native.Mathlib.Omega.{arith}
-use Rattle.value.specs.Test.{guard, sweep, _<?_, _=?_}
-use Rattle.value.proofs.Tests.{cases, clash, lt?, lt×?, eq?, eq!, goes, stops}
+use Rattle.value.specs.Test.{guard, sweep, _<?_, _=?_, _and_}
+use Rattle.value.proofs.Tests.{cases, same-test, both?, both!, clash, lt?, lt×?, eq?, eq!, goes, stops}
 
 -- what holds at a place, and at those after it, holds at each from that place on
 pub from-more : (P : ℕ → Type 0) (at end : ℕ) → P at → ((i : ℕ) → at + 1 ≤ i → i < end → P i) → (i : ℕ) → at ≤ i → i < end → P i
@@ -72,3 +72,15 @@ module _ (ok : ℕ → Bool) where
   pub sweep-done : (at end : ℕ) → end ≤ at → at ≡ sweep ok at (end - at)
   unfolding sweep
   sweep-done at end h = let e : end - at ≡ 0 = omega arith in rw e
+
+  -- one place more, where each test is asked
+  pub sweep-more : (n : ℕ) → ((sweep ok 0 n =? n) and ok n) ≡ (sweep ok 0 (n + 1) =? n + 1)
+  sweep-more n =
+      let to-n = sweeps? 0 n n (omega arith) in
+      let to-next = sweeps? 0 (n + 1) (n + 1) (omega arith) in
+      same-test _ _
+      (λ e.
+      let b = both? e in
+      to-next .1 (λ i low high.
+      cases (i <? n) (λ q. to-n .0 (b .0) i low (lt? q)) (λ q. subst (λ (j : ℕ). ok j ≡ true) (omega (arith, lt×? q)) (b .1))))
+      (λ e. let h = to-next .0 e in both! (to-n .1 (λ i low high. h i low (omega arith))) (h n (omega arith) (omega arith)))

@@ -20,6 +20,12 @@ cases false f g = g refl
 pub clash : {t : Bool} {C : Type 0} → t ≡ true → t ≡ false → C
 clash e f = absurd (true≢false (sym e ∙ f))
 
+-- two tests that hold at once are one
+pub same-test : (s t : Bool) → (s ≡ true → t ≡ true) → (t ≡ true → s ≡ true) → s ≡ t
+same-test true t f g = sym (f refl)
+same-test false true f g = g refl
+same-test false false f g = refl
+
 -- the one of two that is left
 pub remains : {A B : Type 0} → (A → ⊥) → A ⊎ B → B
 remains d (inl a) = absurd (d a)

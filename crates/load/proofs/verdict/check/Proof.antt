@@ -3,7 +3,7 @@ use Rattle.load.proofs.TableBytes.{legal-tables}
 use Rattle.load.specs.Check.{checkOf}
 use Rattle.load.specs.declared.Checked.the-variants.{Refused}
 use Rattle.load.specs.declared.Refusal.the-variants.{TableByte}
-use Rattle.value.proofs.Tests.{eq!, eq×, goes, le!, le×, passed, refused, same-and, same-le, stops}
+use Rattle.value.proofs.Tests.{eq!, eq×, goes, le!, le×, passed, refused, stops}
 use borrow.Author.Needs.{needs}
 use denote.Ref.{now}
 use mathlib.Core.Path.{_∙_, ap, refl, sym}
@@ -14,25 +14,25 @@ use Rattle.load.proofs.verdict.check.Tie as tie
 returns : tie.Need-returns
 unfolding checkOf
 returns c =
-    stops _ (refused (same-and (same-le refl refl) (same-le refl refl)) (c .if1 .taken)) refl
+    stops _ (refused (c .before .length-legal .ensures) (c .if1 .taken)) refl
 
 returns-2 : tie.Need-returns-2
 unfolding checkOf
 returns-2 c =
-    goes _ _ (passed (same-and (same-le refl refl) (same-le refl refl)) (c .before .before .if1 .left))
+    goes _ _ (passed (c .before .before .before .length-legal .ensures) (c .before .before .if1 .left))
     (stops _ (eq× (λ e. c .if2 .taken (c .before .header-fault .ensures ∙ e))) (ap (λ (h : ℕ). Refused (TableByte h)) (c .before .header-fault .ensures)))
 
 returns-3 : tie.Need-returns-3
 unfolding checkOf
 returns-3 c =
-    goes _ _ (passed (same-and (same-le refl refl) (same-le refl refl)) (c .before .before .before .before .if1 .left))
+    goes _ _ (passed (c .before .before .before .before .before .length-legal .ensures) (c .before .before .before .before .if1 .left))
     (goes _ _ (eq! (sym (c .before .before .before .header-fault .ensures) ∙ c .before .before .if2 .left))
     (stops _ (le× (omega arith)) refl))
 
 returns-4 : tie.Need-returns-4
 unfolding checkOf
 returns-4 c =
-    goes _ _ (passed (same-and (same-le refl refl) (same-le refl refl)) (c .before .before .before .before .before .before .if1 .left))
+    goes _ _ (passed (c .before .before .before .before .before .before .before .length-legal .ensures) (c .before .before .before .before .before .before .if1 .left))
     (goes _ _ (eq! (sym (c .before .before .before .before .before .header-fault .ensures) ∙ c .before .before .before .before .if2 .left))
     (goes _ _ (le! (omega arith))
     (stops _ (eq× (λ e. c .if4 .taken (c .before .table-fault .ensures ∙ e ∙ sym (c .before .before .before .tables-end .ensures)))) (ap (λ (t : ℕ). Refused (TableByte t)) (c .before .table-fault .ensures)))))
@@ -40,7 +40,7 @@ returns-4 c =
 returns-5 : tie.Need-returns-5
 unfolding checkOf
 returns-5 c =
-    goes _ _ (passed (same-and (same-le refl refl) (same-le refl refl)) (c .before .before .before .before .before .before .before .before .if1 .left))
+    goes _ _ (passed (c .before .before .before .before .before .before .before .before .before .length-legal .ensures) (c .before .before .before .before .before .before .before .before .if1 .left))
     (goes _ _ (eq! (sym (c .before .before .before .before .before .before .before .header-fault .ensures) ∙ c .before .before .before .before .before .before .if2 .left))
     (goes _ _ (le! (omega arith))
     (goes _ _ (eq! (sym (c .before .before .before .table-fault .ensures) ∙ c .before .before .if4 .left ∙ c .before .before .before .before .before .tables-end .ensures))
@@ -49,14 +49,14 @@ returns-5 c =
 check-reactors-requires : tie.Need-check-reactors-requires
 check-reactors-requires c κs =
     legal-tables
-    (now (c .before .before .before .before .before .before .before .before .before .before .args .program))
+    (now (c .before .before .before .before .before .before .before .before .before .before .before .args .program))
     (sym (c .before .before .before .before .before .before .before .header-fault .ensures) ∙ c .before .before .before .before .before .before .if2 .left)
     (sym (c .before .before .before .table-fault .ensures) ∙ c .before .before .if4 .left ∙ c .before .before .before .before .before .tables-end .ensures)
 
 returns-6 : tie.Need-returns-6
 unfolding checkOf
 returns-6 c =
-    goes _ _ (passed (same-and (same-le refl refl) (same-le refl refl)) (c .before .before .before .before .before .before .before .before .before .if1 .left))
+    goes _ _ (passed (c .before .before .before .before .before .before .before .before .before .before .length-legal .ensures) (c .before .before .before .before .before .before .before .before .before .if1 .left))
     (goes _ _ (eq! (sym (c .before .before .before .before .before .before .before .before .header-fault .ensures) ∙ c .before .before .before .before .before .before .before .if2 .left))
     (goes _ _ (le! (omega arith))
     (goes _ _ (eq! (sym (c .before .before .before .before .table-fault .ensures) ∙ c .before .before .before .if4 .left ∙ c .before .before .before .before .before .before .tables-end .ensures))
@@ -67,6 +67,6 @@ pub check-spec : {M : Type 1} → statement M
 check-spec =
     tie.close
     (tie.spec
-    returns (λ c κs. search needs) (λ c. search needs) returns-2 (λ c κs. search needs)
-    (λ c. search needs) returns-3 (λ c κs. search needs) (λ c. search needs) returns-4
-    (λ c κs. search needs) (λ c. search needs) returns-5 check-reactors-requires returns-6)
+    (λ c κs. search needs) returns (λ c κs. search needs) (λ c. search needs) returns-2
+    (λ c κs. search needs) (λ c. search needs) returns-3 (λ c κs. search needs) (λ c. search needs)
+    returns-4 (λ c κs. search needs) (λ c. search needs) returns-5 check-reactors-requires returns-6)

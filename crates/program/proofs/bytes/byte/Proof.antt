@@ -6,9 +6,6 @@ use mathlib.Core.Path.{sym}
 use Rattle.program.proofs.bytes.byte.Statement.{statement}
 use Rattle.program.proofs.bytes.byte.Tie as tie
 
-shared-slice-read-result : tie.Need-shared-slice-read-result
-shared-slice-read-result c = search needs
-
 returns : tie.Need-returns
 unfolding byte
 returns c = search needs
@@ -18,4 +15,7 @@ unfolding byte
 returns-2 c = sym (List·getD-eq-default (now (c .before .args .program)) 0 (c .if1 .left))
 
 pub byte-spec : {M : Type 1} → statement M
-byte-spec = tie.close (tie.spec shared-slice-read-result returns returns-2)
+byte-spec =
+    tie.close
+    (tie.spec
+    (λ c. search needs) returns returns-2)

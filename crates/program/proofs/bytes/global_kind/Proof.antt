@@ -10,15 +10,12 @@ returns : tie.Need-returns
 unfolding globalKind
 returns c = yes _ (eq! (omega arith)) refl
 
-add-byte : tie.Need-add-byte
-add-byte c = search needs
-
-byte-requires : tie.Need-byte-requires
-byte-requires c κs = search needs
-
 returns-2 : tie.Need-returns-2
 unfolding globalKind
 returns-2 c = no _ (eq× (c .before .if1 .left)) (c .byte .ensures)
 
 pub global-kind-spec : {M : Type 1} → statement M
-global-kind-spec = tie.close (tie.spec returns add-byte byte-requires returns-2)
+global-kind-spec =
+    tie.close
+    (tie.spec
+    returns (λ c. search needs) (λ c κs. search needs) returns-2)

@@ -3,12 +3,12 @@ use borrow.Author.Needs.{needs}
 use Rattle.program.proofs.bytes.globals.Statement.{statement}
 use Rattle.program.proofs.bytes.globals.Tie as tie
 
-byte-requires : tie.Need-byte-requires
-byte-requires c κs = search needs
-
 returns : tie.Need-returns
 unfolding globals
 returns c = c .byte .ensures
 
 pub globals-spec : {M : Type 1} → statement M
-globals-spec = tie.close (tie.spec byte-requires returns)
+globals-spec =
+    tie.close
+    (tie.spec
+    (λ c κs. search needs) returns)

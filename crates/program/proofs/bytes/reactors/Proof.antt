@@ -3,12 +3,12 @@ use borrow.Author.Needs.{needs}
 use Rattle.program.proofs.bytes.reactors.Statement.{statement}
 use Rattle.program.proofs.bytes.reactors.Tie as tie
 
-byte-requires : tie.Need-byte-requires
-byte-requires c κs = search needs
-
 returns : tie.Need-returns
 unfolding reactors
 returns c = c .byte .ensures
 
 pub reactors-spec : {M : Type 1} → statement M
-reactors-spec = tie.close (tie.spec byte-requires returns)
+reactors-spec =
+    tie.close
+    (tie.spec
+    (λ c κs. search needs) returns)

@@ -4,9 +4,6 @@ use native.Mathlib.Omega.{arith}
 use Rattle.program.proofs.entry.main_of.Statement.{statement}
 use Rattle.program.proofs.entry.main_of.Tie as tie
 
-reactors-requires : tie.Need-reactors-requires
-reactors-requires c κs = search needs
-
 returns : tie.Need-returns
 unfolding mainOf
 returns c = omega arith
@@ -16,4 +13,7 @@ unfolding mainOf
 returns-2 c = omega arith
 
 pub main-of-spec : {M : Type 1} → statement M
-main-of-spec = tie.close (tie.spec reactors-requires returns returns-2)
+main-of-spec =
+    tie.close
+    (tie.spec
+    (λ c κs. search needs) returns returns-2)

@@ -5,18 +5,12 @@ use native.Mathlib.Omega.{arith}
 use Rattle.program.proofs.entry.shape_of.Statement.{statement}
 use Rattle.program.proofs.entry.shape_of.Tie as tie
 
-entry-at-requires : tie.Need-entry-at-requires
-entry-at-requires c κs = search needs
-
-cast-byte : tie.Need-cast-byte
-cast-byte c = search needs
-
-byte-requires : tie.Need-byte-requires
-byte-requires c κs = search needs
-
 returns : tie.Need-returns
 unfolding shapeOf
 returns c = c .byte .ensures ∙ ap (byte _) (omega arith)
 
 pub shape-of-spec : {M : Type 1} → statement M
-shape-of-spec = tie.close (tie.spec entry-at-requires cast-byte byte-requires returns)
+shape-of-spec =
+    tie.close
+    (tie.spec
+    (λ c κs. search needs) (λ c. search needs) (λ c κs. search needs) returns)

@@ -4,15 +4,12 @@ use mathlib.Core.Path.{_∙_, ap}
 use Rattle.program.proofs.entry.tables_end.Statement.{statement}
 use Rattle.program.proofs.entry.tables_end.Tie as tie
 
-reactors-requires : tie.Need-reactors-requires
-reactors-requires c κs = search needs
-
-entry-at-requires : tie.Need-entry-at-requires
-entry-at-requires c κs = search needs
-
 returns : tie.Need-returns
 unfolding tablesEnd
 returns c = c .entry-at .ensures ∙ ap (entryAt _) (c .before .reactors .ensures)
 
 pub tables-end-spec : {M : Type 1} → statement M
-tables-end-spec = tie.close (tie.spec reactors-requires entry-at-requires returns)
+tables-end-spec =
+    tie.close
+    (tie.spec
+    (λ c κs. search needs) (λ c κs. search needs) returns)

@@ -12,20 +12,8 @@ returns-2 : tie.Need-returns-2
 unfolding _<?_
 returns-2 c = truth-content _ _ _ (omega arith) (omega arith)
 
-reactors-requires : tie.Need-reactors-requires
-reactors-requires c κs = search needs
-
-cast-if3 : tie.Need-cast-if3
-cast-if3 c = search needs
-
 returns-3 : tie.Need-returns-3
 returns-3 c = no-reactor _ _ _ (omega arith) (omega arith)
-
-cast-shape-of : tie.Need-cast-shape-of
-cast-shape-of c = search needs
-
-shape-of-requires : tie.Need-shape-of-requires
-shape-of-requires c κs = search needs
 
 returns-4 : tie.Need-returns-4
 unfolding _=?_
@@ -35,11 +23,5 @@ pub content-legal-spec : {M : Type 1} → statement M
 content-legal-spec =
     tie.close
     (tie.spec
-    returns
-    returns-2
-    reactors-requires
-    cast-if3
-    returns-3
-    cast-shape-of
-    shape-of-requires
-    returns-4)
+    returns returns-2 (λ c κs. search needs) (λ c. search needs) returns-3 (λ c. search needs)
+    (λ c κs. search needs) returns-4)

@@ -4,15 +4,12 @@ use mathlib.Core.Path.{_∙_, ap}
 use Rattle.program.proofs.location.locations.Statement.{statement}
 use Rattle.program.proofs.location.locations.Tie as tie
 
-sinks-requires : tie.Need-sinks-requires
-sinks-requires c κs = search needs
-
-sink-loc-requires : tie.Need-sink-loc-requires
-sink-loc-requires c κs = search needs
-
 returns : tie.Need-returns
 unfolding locations
 returns c = c .sink-loc .ensures ∙ ap (sinkLoc _ _) (c .before .sinks .ensures)
 
 pub locations-spec : {M : Type 1} → statement M
-locations-spec = tie.close (tie.spec sinks-requires sink-loc-requires returns)
+locations-spec =
+    tie.close
+    (tie.spec
+    (λ c κs. search needs) (λ c κs. search needs) returns)

@@ -5,15 +5,12 @@ use mathlib.Core.Path.{_∙_, ap}
 use Rattle.program.proofs.location.sinks.Statement.{statement}
 use Rattle.program.proofs.location.sinks.Tie as tie
 
-shape-of-requires : tie.Need-shape-of-requires
-shape-of-requires c κs = search needs
-
-sinks-in-requires : tie.Need-sinks-in-requires
-sinks-in-requires c κs = search needs
-
 returns : tie.Need-returns
 unfolding sinks
 returns c = c .sinks-in .ensures ∙ ap (sinksIn _) (c .before .shape-of .ensures)
 
 pub sinks-spec : {M : Type 1} → statement M
-sinks-spec = tie.close (tie.spec shape-of-requires sinks-in-requires returns)
+sinks-spec =
+    tie.close
+    (tie.spec
+    (λ c κs. search needs) (λ c κs. search needs) returns)

@@ -5,15 +5,12 @@ use native.Mathlib.Omega.{arith}
 use Rattle.program.proofs.shape.sink_kind.Statement.{statement}
 use Rattle.program.proofs.shape.sink_kind.Tie as tie
 
-add-shape-byte : tie.Need-add-shape-byte
-add-shape-byte c = search needs
-
-shape-byte-requires : tie.Need-shape-byte-requires
-shape-byte-requires c κs = search needs
-
 returns : tie.Need-returns
 unfolding sinkKind
 returns c = c .shape-byte .ensures ∙ ap (byte _) (omega arith)
 
 pub sink-kind-spec : {M : Type 1} → statement M
-sink-kind-spec = tie.close (tie.spec add-shape-byte shape-byte-requires returns)
+sink-kind-spec =
+    tie.close
+    (tie.spec
+    (λ c. search needs) (λ c κs. search needs) returns)

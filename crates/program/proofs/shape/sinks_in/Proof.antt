@@ -5,12 +5,12 @@ use native.Mathlib.Omega.{arith}
 use Rattle.program.proofs.shape.sinks_in.Statement.{statement}
 use Rattle.program.proofs.shape.sinks_in.Tie as tie
 
-shape-byte-requires : tie.Need-shape-byte-requires
-shape-byte-requires c κs = search needs
-
 returns : tie.Need-returns
 unfolding sinksIn
 returns c = c .shape-byte .ensures ∙ ap (byte _) (omega arith)
 
 pub sinks-in-spec : {M : Type 1} → statement M
-sinks-in-spec = tie.close (tie.spec shape-byte-requires returns)
+sinks-in-spec =
+    tie.close
+    (tie.spec
+    (λ c κs. search needs) returns)

@@ -5,12 +5,12 @@ use native.Mathlib.Omega.{arith}
 use Rattle.program.proofs.shape.sources_in.Statement.{statement}
 use Rattle.program.proofs.shape.sources_in.Tie as tie
 
-shape-byte-requires : tie.Need-shape-byte-requires
-shape-byte-requires c κs = search needs
-
 returns : tie.Need-returns
 unfolding sourcesIn
 returns c = c .shape-byte .ensures ∙ ap (byte _) (omega arith)
 
 pub sources-in-spec : {M : Type 1} → statement M
-sources-in-spec = tie.close (tie.spec shape-byte-requires returns)
+sources-in-spec =
+    tie.close
+    (tie.spec
+    (λ c κs. search needs) returns)
