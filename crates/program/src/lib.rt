@@ -9,6 +9,7 @@ mod entry;
 mod kind;
 mod location;
 mod shape;
+mod wide;
 
 pub use bytes::byte;
 pub use bytes::global_kind;
@@ -40,6 +41,11 @@ pub use shape::sink_kind;
 pub use shape::sinks_in;
 pub use shape::source_kind;
 pub use shape::sources_in;
+pub use wide::wide_declared;
+pub use wide::wide_shape_of;
+pub use wide::wide_size_of;
+pub use wide::wide_slot_at;
+pub use wide::wide_sources;
 
 // What a program's first bytes say: the format, and how many shapes, reactors and outside globals
 // there are.

@@ -1,5 +1,4 @@
--- What the rules give of one reactor, position by position, for a proof about its run.
--- `Static`: what stands before each command. `Single`: what comes once, and does come.
+-- What the rules give of one reactor, position by position, for a proof about its run. `Static`: what stands before each command. `Single`: what comes once.
 use Prim.Native.Nat.{ℕ, _≤_, _<_}
 use mathlib.Core.Path.{_≡_}
 use mathlib.Core.Bool.{true, false}
@@ -9,16 +8,12 @@ use lib.ListN.{length}
 use Rattle.value.specs.Value.{reactorKind}
 use Rattle.value.specs.Primitive.{rowOf, table, operands, kindGiven}
 use Rattle.program.specs.Bytes.{shapes, reactors, globals, globalKind, shapeOf, sourcesIn, sinksIn, declared, commandsIn}
-use Rattle.program.specs.Command.{Cmd, cmdOf, sequenceOf, givesValue, D, R, allocMono, makePoly, constant, global, supply, react, consume, sink, allocPoly, primitive}
+use Rattle.program.specs.Command.{cmdOf, sequenceOf, givesValue, D, R, allocMono, makePoly, constant, global, supply, react, consume, sink, allocPoly, primitive}
 use Rattle.program.specs.Location.{sources, sinks, commandLoc, sinkLoc, shapeThere}
 use Rattle.program.specs.Kind.{kindOf, Content}
 use Rattle.load.proofs.Exact.Fits.{KindsFit}
 
 module _ (p : List ℕ) (r : ℕ) where
-  -- command i of the reactor is c
-  abbrev pub Has : ℕ → Cmd → Type 0
-  Has i c = (i < commandsIn p r) × (cmdOf p r i ≡ c)
-
   -- location a has a value when command i runs
   pub data ValueBefore (i : ℕ) : ℕ → Type 0 where
     source : {a : ℕ} → a < sources p r → ValueBefore i a
@@ -26,53 +21,48 @@ module _ (p : List ℕ) (r : ℕ) where
 
   -- location b is that of a deployment of shape s when command i runs
   pub data DeploymentBefore (i s : ℕ) : ℕ → Type 0 where
-    mono : {b : ℕ} (j x : ℕ) → j < i → b ≡ commandLoc p r j → Has j (allocMono x) → shapeOf p x ≡ s → DeploymentBefore i s b
-    poly : {b : ℕ} (j a e : ℕ) → j < i → b ≡ commandLoc p r j → Has j (allocPoly a e) → shapeThere p r e ≡ s →
-        DeploymentBefore i s b
+    mono : {b : ℕ} (j x : ℕ) → j < i → b ≡ commandLoc p r j → cmdOf p r j ≡ allocMono x → shapeOf p x ≡ s → DeploymentBefore i s b
+    poly : {b : ℕ} (j a e : ℕ) → j < i → b ≡ commandLoc p r j → cmdOf p r j ≡ allocPoly a e → shapeThere p r e ≡ s → DeploymentBefore i s b
 
   -- location b is that of a branch point of shape s when command i runs
   abbrev pub PointBefore : ℕ → ℕ → ℕ → Type 0
-  PointBefore i s b = (j : ℕ) × (j < i) × (j < declared p r) × (b ≡ commandLoc p r j) × Has j (makePoly s)
+  PointBefore i s b = (j : ℕ) × (j < i) × (j < declared p r) × (b ≡ commandLoc p r j) × (cmdOf p r j ≡ makePoly s)
 
   -- what stands before each command, with its kinds
   pub record Static : Type 0 where
-    pub more : declared p r < commandsIn p r
-    pub few : commandsIn p r ≤ 160
     pub in-D : (i : ℕ) → i < declared p r → sequenceOf (cmdOf p r i) ≡ D
     pub in-R : (i : ℕ) → declared p r ≤ i → i < commandsIn p r → sequenceOf (cmdOf p r i) ≡ R
-    pub monos : (i x : ℕ) → Has i (allocMono x) → (i < declared p r) × (x < reactors p) × (x < r)
-    pub points : (i s : ℕ) → Has i (makePoly s) → (i < declared p r) × (s < shapes p)
-    pub constants : (i k v : ℕ) → Has i (constant k v) →
+    pub monos : (i x : ℕ) → i < commandsIn p r → cmdOf p r i ≡ allocMono x → (i < declared p r) × (x < reactors p) × (x < r)
+    pub points : (i s : ℕ) → i < commandsIn p r → cmdOf p r i ≡ makePoly s → (i < declared p r) × (s < shapes p)
+    pub constants : (i k v : ℕ) → i < commandsIn p r → cmdOf p r i ≡ constant k v →
         (kindOf p r (commandLoc p r i) ≡ k) × (k < reactorKind (shapes p)) × Content p k v
-    pub globals : (i x : ℕ) → Has i (global x) → (kindOf p r (commandLoc p r i) ≡ globalKind p x) × (x ≤ globals p)
-    pub supplies : (i x a b : ℕ) → Has i (supply x a b) →
-        ValueBefore i a
-        × ((s : ℕ) × DeploymentBefore i s b × (x < sourcesIn p s) × ((q : ℕ) → shapeOf p q ≡ s → kindOf p q x ≡ kindOf p r a))
-    pub reacts : (i b : ℕ) → Has i (react b) →
-        (s : ℕ) × DeploymentBefore i s b
-        × ((x : ℕ) → x < sourcesIn p s → (j : ℕ) × (a : ℕ) × (j < i) × Has j (supply x a b))
-    pub consumes : (i x b : ℕ) → Has i (consume x b) →
-        (s : ℕ) × DeploymentBefore i s b × (x < sinksIn p s) × ((j : ℕ) × (j < i) × Has j (react b))
+    pub globals : (i x : ℕ) → i < commandsIn p r → cmdOf p r i ≡ global x → (kindOf p r (commandLoc p r i) ≡ globalKind p x) × (x ≤ globals p)
+    pub supplies : (i x a b : ℕ) → i < commandsIn p r → cmdOf p r i ≡ supply x a b →
+        ValueBefore i a × ((s : ℕ) × DeploymentBefore i s b × (x < sourcesIn p s) × ((q : ℕ) → shapeOf p q ≡ s → kindOf p q x ≡ kindOf p r a))
+    pub reacts : (i b : ℕ) → i < commandsIn p r → cmdOf p r i ≡ react b →
+        (s : ℕ) × DeploymentBefore i s b × ((x : ℕ) → x < sourcesIn p s → (j : ℕ) × (a : ℕ) × (j < i) × (cmdOf p r j ≡ supply x a b))
+    pub consumes : (i x b : ℕ) → i < commandsIn p r → cmdOf p r i ≡ consume x b →
+        (s : ℕ) × DeploymentBefore i s b × (x < sinksIn p s) × ((j : ℕ) × (j < i) × (cmdOf p r j ≡ react b))
         × ((q : ℕ) → shapeOf p q ≡ s → kindOf p q (sinkLoc p q x) ≡ kindOf p r (commandLoc p r i))
-    pub sinks-of : (i x a : ℕ) → Has i (sink x a) →
+    pub sinks-of : (i x a : ℕ) → i < commandsIn p r → cmdOf p r i ≡ sink x a →
         ValueBefore i a × (x < sinks p r) × (kindOf p r (sinkLoc p r x) ≡ kindOf p r a)
-    pub polys : (i a b : ℕ) → Has i (allocPoly a b) →
+    pub polys : (i a b : ℕ) → i < commandsIn p r → cmdOf p r i ≡ allocPoly a b →
         ValueBefore i a × ((s : ℕ) × PointBefore i s b × (kindOf p r a ≡ reactorKind s))
-    pub primitives : (i x a b c : ℕ) → Has i (primitive x a b c) →
+    pub primitives : (i x a b c : ℕ) → i < commandsIn p r → cmdOf p r i ≡ primitive x a b c →
         (x < length table) × ValueBefore i a × ((operands x < 2) ⊎ ValueBefore i b) × ((operands x < 3) ⊎ ValueBefore i c)
         × KindsFit (rowOf x .takes) (kindOf p r a) (kindOf p r b) (kindOf p r c)
         × (kindOf p r (commandLoc p r i) ≡ kindGiven (rowOf x .gives) (kindOf p r b))
     -- a command that gives no value has kind 0, so no reactor's
     pub no-kind : (i : ℕ) → i < commandsIn p r → givesValue (cmdOf p r i) ≡ false → kindOf p r (commandLoc p r i) ≡ 0
 
-  -- what comes once, and does come
+  -- what comes once, and what does not fail to come
   pub record Single : Type 0 where
-    pub one-supply : (i k x a a′ b : ℕ) → Has i (supply x a b) → Has k (supply x a′ b) → i ≡ k
-    pub one-react : (i k b : ℕ) → Has i (react b) → Has k (react b) → i ≡ k
-    pub one-sink : (i k x a a′ : ℕ) → Has i (sink x a) → Has k (sink x a′) → i ≡ k
-    pub one-poly : (i k a a′ b : ℕ) → Has i (allocPoly a b) → Has k (allocPoly a′ b) → i ≡ k
-    pub supply-first : (i k x a b : ℕ) → Has i (supply x a b) → Has k (react b) → i < k
-    pub react-first : (i k x b : ℕ) → Has i (react b) → Has k (consume x b) → i < k
-    pub all-react : (b s : ℕ) → DeploymentBefore (commandsIn p r) s b → (i : ℕ) × Has i (react b)
-    pub all-sinks : (x : ℕ) → x < sinks p r → (i : ℕ) × (a : ℕ) × Has i (sink x a)
-    pub all-points : (b s : ℕ) → PointBefore (commandsIn p r) s b → (i : ℕ) × (a : ℕ) × Has i (allocPoly a b)
+    pub one-supply : (i k x a a′ b : ℕ) → i < commandsIn p r → k < commandsIn p r → cmdOf p r i ≡ supply x a b → cmdOf p r k ≡ supply x a′ b → i ≡ k
+    pub one-react : (i k b : ℕ) → i < commandsIn p r → k < commandsIn p r → cmdOf p r i ≡ react b → cmdOf p r k ≡ react b → i ≡ k
+    pub one-sink : (i k x a a′ : ℕ) → i < commandsIn p r → k < commandsIn p r → cmdOf p r i ≡ sink x a → cmdOf p r k ≡ sink x a′ → i ≡ k
+    pub one-poly : (i k a a′ b : ℕ) → i < commandsIn p r → k < commandsIn p r → cmdOf p r i ≡ allocPoly a b → cmdOf p r k ≡ allocPoly a′ b → i ≡ k
+    pub supply-first : (i k x a b : ℕ) → i < commandsIn p r → k < commandsIn p r → cmdOf p r i ≡ supply x a b → cmdOf p r k ≡ react b → i < k
+    pub react-first : (i k x b : ℕ) → i < commandsIn p r → k < commandsIn p r → cmdOf p r i ≡ consume x b → cmdOf p r k ≡ react b → k < i
+    pub all-react : (b s : ℕ) → DeploymentBefore (commandsIn p r) s b → (i : ℕ) × (i < commandsIn p r) × (cmdOf p r i ≡ react b)
+    pub all-sinks : (x : ℕ) → x < sinks p r → (i : ℕ) × (a : ℕ) × (i < commandsIn p r) × (cmdOf p r i ≡ sink x a)
+    pub all-points : (b s : ℕ) → PointBefore (commandsIn p r) s b → (i : ℕ) × (a : ℕ) × (i < commandsIn p r) × (cmdOf p r i ≡ allocPoly a b)

@@ -1,0 +1,195 @@
+-- Names: the lists of children against `Owner`, and the table that counts names against `NamedOnce`.
+use Prim.Native.Nat.{ℕ, zero, suc, _+_, _≤_, _<_, min}
+use mathlib.Core.Path.{_≡_, refl, sym, _∙_, ap, subst}
+use mathlib.Core.Bool.{true}
+use mathlib.Core.Logic.{_↔_, _≢_}
+use mathlib.Core.List.{List, [], _∷_, _++_, List·Memᴰ·head as first, List·Memᴰ·not-nil as in-nil, List·Memᴰ·eq-of-singleton as in-one}
+use native.Mathlib.Omega.{arith}
+use lib.ListN.{length, getD, length-set}
+use lib.Seq.{getD-set-other}
+use Rattle.value.specs.Test.{pick, _<?_, _=?_}
+use Rattle.value.proofs.Tests.{cases, lt?, lt×?, eq!, eq?, yes, no}
+use Rattle.program.specs.Bytes.{reactors, declared}
+use Rattle.program.specs.Command.{allocMono, makePoly, nothing, madeBy, cmdOf}
+use Rattle.program.specs.Location.{commandLoc}
+use Rattle.image.specs.Memory.{reactor, content}
+use Rattle.image.specs.Sound.{Deployed, Names, by-mono, by-point, Owner, NamedOnce}
+use Rattle.image.specs.Passes.{over, startTable, membersFrom, namedBy, childrenFrom, childrenOf, name, nameTable}
+use Rattle.image.proofs.Exact.Lists.{_∈_, same, from, from-in, from-rising, total, OneOf, total-one, is, is-same, is-other, count, count-none, count-in, count-most, flat, flat-in, count-flat}
+use Rattle.image.proofs.Exact.Tables.{over-flat, writes-here}
+use Rattle.image.proofs.Exact.Tiling.{Laid, starts, start-in, start-rising, start-entry, start-length, deployed-small}
+use Rattle.image.proofs.Exact.Chains.{chain-above, members, members-once}
+use Rattle.image.proofs.Exact.SlotTests.{Makes, a-deployment, a-point, neither, makes, made-mono, made-point, SlotsRight}
+
+module _ (p m : List ℕ) where
+  -- what D command j of o names, as a list
+  abbrev pub owned : ℕ → ℕ → List ℕ
+  owned o j = namedBy p m o (commandLoc p (reactor m o) j) (madeBy (cmdOf p (reactor m o) j))
+
+  module _ (o j : ℕ) where
+    owned-mono : {x : ℕ} → cmdOf p (reactor m o) j ≡ allocMono x → owned o j ≡ content p m o (commandLoc p (reactor m o) j) ∷ []
+    unfolding namedBy
+    owned-mono e = ap (namedBy p m o (commandLoc p (reactor m o) j)) (made-mono e)
+
+    owned-point : {x : ℕ} → cmdOf p (reactor m o) j ≡ makePoly x →
+        owned o j ≡ membersFrom p m (reactors p) (content p m o (commandLoc p (reactor m o) j))
+    unfolding namedBy
+    owned-point e = ap (namedBy p m o (commandLoc p (reactor m o) j)) (made-point e)
+
+    owned-none : madeBy (cmdOf p (reactor m o) j) ≡ nothing → owned o j ≡ []
+    unfolding namedBy
+    owned-none e = ap (namedBy p m o (commandLoc p (reactor m o) j)) e
+
+  -- the D commands of o
+  abbrev commands : ℕ → List ℕ
+  commands o = from (declared p (reactor m o)) 0
+
+  command-in : (o j : ℕ) → (j ∈ commands o) ↔ (j < declared p (reactor m o))
+  command-in o j = let w = from-in (declared p (reactor m o)) 0 j in (λ i. omega (arith, w .0 i), λ l. w .1 (omega arith))
+
+  children-flat : (n j o : ℕ) → childrenFrom p m n j o ≡ flat (owned o) (from n j)
+  unfolding childrenFrom flat from
+  children-flat zero j o = refl
+  children-flat (suc n) j o = ap (λ (l : List ℕ). owned o j ++ l) (children-flat n (j + 1) o)
+
+  children-list : (o : ℕ) → childrenOf p m o ≡ flat (owned o) (commands o)
+  unfolding childrenOf
+  children-list o = children-flat (declared p (reactor m o)) 0 o
+
+  -- how often o names d
+  abbrev times : ℕ → ℕ → ℕ
+  times d o = count d (childrenOf p m o)
+
+  times-total : (d o : ℕ) → times d o ≡ total (λ j. count d (owned o j)) (commands o)
+  times-total d o = ap (count d) (children-list o) ∙ count-flat d (owned o) (commands o)
+
+  -- ---- the lists of children
+
+  module _ (laid : Laid p m) {o : ℕ} (right : SlotsRight p m o) {j : ℕ} (l : j < declared p (reactor m o)) where
+    names-above : {d : ℕ} → Names p m o j d → (Deployed p m d × (o < d))
+    names-above (by-mono x e q) = let s = right .monos j x l e in (subst (Deployed p m) q (s .child), subst (λ (d : ℕ). o < d) q (s .above))
+    names-above (by-point x e i) = chain-above p m (right .points j x l e .chain) i
+
+    names-owned : {d : ℕ} → Names p m o j d → d ∈ owned o j
+    names-owned {d} (by-mono x e q) = subst (λ (k : List ℕ). d ∈ k) (sym (owned-mono o j e)) (first (sym q))
+    names-owned {d} (by-point x e i) =
+        subst (λ (k : List ℕ). d ∈ k) (sym (owned-point o j e)) (members p m laid o x d (right .points j x l e .chain) .1 i)
+
+    owned-names : (d : ℕ) → Makes (cmdOf p (reactor m o) j) → d ∈ owned o j → Names p m o j d
+    owned-names d (a-deployment x e) i = by-mono x e (sym (in-one (subst (λ (k : List ℕ). d ∈ k) (owned-mono o j e) i)))
+    owned-names d (a-point x e) i =
+        by-point x e (members p m laid o x d (right .points j x l e .chain) .0 (subst (λ (k : List ℕ). d ∈ k) (owned-point o j e) i))
+    owned-names d (neither e) i = absurd (in-nil (subst (λ (k : List ℕ). d ∈ k) (owned-none o j e) i))
+
+    -- one command names none twice
+    owned-once : (d : ℕ) → Makes (cmdOf p (reactor m o) j) → count d (owned o j) ≤ 1
+    owned-once d (a-deployment x e) = omega (arith, count-most d (owned o j), ap length (owned-mono o j e))
+    owned-once d (a-point x e) =
+        subst (λ (k : List ℕ). count d k ≤ 1) (sym (owned-point o j e)) (members-once p m (reactors p) d (right .points j x l e .chain))
+    owned-once d (neither e) = omega (arith, count-most d (owned o j), ap length (owned-none o j e))
+
+  module _ (laid : Laid p m) (right : (o : ℕ) → Deployed p m o → SlotsRight p m o) where
+    -- what is named is deployed above its owner
+    pub owner-above : {o j d : ℕ} → Owner p m o j d → (Deployed p m d × (o < d))
+    owner-above {o} w = names-above laid (right o (w .deployed)) (w .low) (w .names)
+
+    owner-owned : {o j d : ℕ} → Owner p m o j d → d ∈ owned o j
+    owner-owned {o} w = names-owned laid (right o (w .deployed)) (w .low) (w .names)
+
+    owned-owner : {o j d : ℕ} → Deployed p m o → j < declared p (reactor m o) → d ∈ owned o j → Owner p m o j d
+    owned-owner {o} {j} {d} h l i = record { deployed = h; low = l; names = owned-names laid (right o h) l d (makes (cmdOf p (reactor m o) j)) i }
+
+    pub owner-child : {o j d : ℕ} → Owner p m o j d → d ∈ childrenOf p m o
+    owner-child {o} {j} {d} w =
+        subst (λ (l : List ℕ). d ∈ l) (sym (children-list o)) (flat-in d (owned o) (commands o) .1 (j, command-in o j .1 (w .low), owner-owned w))
+
+    pub child-owner : {o d : ℕ} → Deployed p m o → d ∈ childrenOf p m o → (j : ℕ) × Owner p m o j d
+    child-owner {o} {d} h i =
+        let k = flat-in d (owned o) (commands o) .0 (subst (λ (l : List ℕ). d ∈ l) (children-list o) i) in
+        (k .0, owned-owner h (command-in o (k .0) .0 (k .1)) (k .2))
+
+    -- ---- named once
+
+    once? : (d : ℕ) → total (times d) (starts p m) ≡ 1 → NamedOnce p m d
+    once? d h =
+        let a = total-one (times d) (start-rising p m laid) .0 h in
+        let o = a .which in
+        let b = total-one (λ j. count d (owned o j)) (from-rising (declared p (reactor m o)) 0) .0 (sym (times-total d o) ∙ a .one) in
+        let j = b .which in
+        record {
+          owner = o;
+          command = j;
+          named = owned-owner (start-in p m laid o .0 (a .there)) (command-in o j .0 (b .there)) (count-in d (owned o j) (omega (arith, b .one)));
+          only = λ o′ j′ w.
+              let e : o′ ≡ o = same o′ o (λ q. q) (λ n. absurd (count-none d _ .0 (a .others o′ (start-in p m laid o′ .1 (w .deployed)) n) (owner-child w))) in
+              let v : Owner p m o j′ d = subst (λ (x : ℕ). Owner p m x j′ d) e w in
+              (e, same j′ j (λ q. q) (λ n. absurd (count-none d _ .0 (b .others j′ (command-in o j′ .1 (v .low)) n) (owner-owned v))));
+        }
+
+    once! : (d : ℕ) → NamedOnce p m d → total (times d) (starts p m) ≡ 1
+    once! d h =
+        let o = h .owner in
+        let j = h .command in
+        let w = h .named in
+        let by-one : OneOf (λ k. count d (owned o k)) (commands o) =
+        record {
+          which = j;
+          there = command-in o j .1 (w .low);
+          one =
+              let some : count d (owned o j) ≢ 0 = (λ z. count-none d (owned o j) .0 z (owner-owned w)) in
+              omega (arith, owned-once laid (right o (w .deployed)) (w .low) d (makes (cmdOf p (reactor m o) j)));
+          others = λ k i n. count-none d (owned o k) .1 (λ e. n (h .only o k (owned-owner (w .deployed) (command-in o k .0 i) e) .1));
+        } in
+        total-one (times d) (start-rising p m laid) .1
+        (record {
+          which = o;
+          there = start-in p m laid o .1 (w .deployed);
+          one = times-total d o ∙ total-one (λ k. count d (owned o k)) (from-rising (declared p (reactor m o)) 0) .1 by-one;
+          others = λ a i n.
+              count-none d (childrenOf p m a) .1 (λ e. let k = child-owner (start-in p m laid a .0 i) e in n (h .only a (k .0) (k .1) .0));
+        })
+
+  -- ---- the table
+
+  name-length : (t : List ℕ) (c : ℕ) → length (name p m t c) ≡ length t
+  unfolding name
+  name-length t c = length-set t c _
+
+  -- one more, up to 3
+  more : ℕ → ℕ
+  more v = pick (v <? 3) (v + 1) 3
+
+  more-entry : (v : ℕ) → v ≤ 3 → more v ≡ min 3 (v + 1)
+  unfolding more
+  more-entry v h =
+      cases (v <? 3)
+      (λ e. let l : v < 3 = lt? e in sym (yes 3 e (omega arith)))
+      (λ e. let l : 3 ≤ v = lt×? e in sym (no (v + 1) e (omega arith)))
+
+  name-entry : (d a : ℕ) (t : List ℕ) → d < length t → getD t d 0 ≤ 3 → getD (name p m t a) d 0 ≡ min 3 (getD t d 0 + is d a)
+  unfolding name more
+  name-entry d a t h g =
+      same d a
+      (λ e.
+      let before : getD t d 0 ≡ getD t a 0 = ap (λ (x : ℕ). getD t x 0) e in
+      omega (arith, writes-here (λ s x. more (getD s x 0)) t e h, more-entry (getD t a 0) (omega arith), is-same {d = d} {a = a} (sym e)))
+      (λ e. omega (arith, getD-set-other t a d (more (getD t a 0)) 0 e, is-other {d = d} {a = a} (λ q. e (sym q))))
+
+  -- an entry grows by the number of times that it is named, up to 3
+  names-entry : (d : ℕ) (l t : List ℕ) → d < length t → getD t d 0 ≤ 3 → getD (over (name p m) t l) d 0 ≡ min 3 (getD t d 0 + count d l)
+  unfolding over total
+  names-entry d [] t h g = omega arith
+  names-entry d (a ∷ l) t h g =
+      let k = name-entry d a t h g in
+      omega (arith, names-entry d l (name p m t a) (rw name-length h) (omega arith))
+
+  pub named-test : Laid p m → ((o : ℕ) → Deployed p m o → SlotsRight p m o) → {d : ℕ} → Deployed p m d →
+      ((getD (nameTable p m (startTable (starts p m)) (starts p m)) d 0 =? 2) ≡ true) ↔ NamedOnce p m d
+  unfolding nameTable
+  named-test laid right {d} i =
+      let t = startTable (starts p m) in
+      let first = start-entry p m laid i in
+      let joined = ap (λ (s : List ℕ). getD s d 0) (over-flat (name p m) (childrenOf p m) (starts p m) t) in
+      let entry = names-entry d (flat (childrenOf p m) (starts p m)) t (omega (arith, start-length p m laid, deployed-small p m laid i)) (omega arith) in
+      let sum = count-flat d (childrenOf p m) (starts p m) in
+      (λ e. once? laid right d (omega (arith, eq? e)), λ h. eq! (omega (arith, once! laid right d h)))

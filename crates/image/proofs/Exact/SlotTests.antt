@@ -1,0 +1,124 @@
+-- One deployment's own words: the test of each, against what a sound image asks of it.
+use Prim.Native.Nat.{ℕ, _<_}
+use mathlib.Core.Path.{_≡_, refl, sym, _∙_, ap, subst}
+use mathlib.Core.Bool.{true}
+use mathlib.Core.Logic.{_↔_}
+use mathlib.Core.List.{List}
+use native.Mathlib.Omega.{arith}
+use Rattle.value.specs.Value.{blank}
+use Rattle.value.proofs.Tests.{lt!, lt?, eq!, eq?, both!, both?}
+use Rattle.value.proofs.Sweeps.{sweeps?}
+use Rattle.program.specs.Bytes.{declared}
+use Rattle.program.specs.Command.{Cmd, allocMono, makePoly, constant, global, supply, react, consume, sink, allocPoly, primitive, none, Made, deployment, point, nothing, madeBy, cmdOf}
+use Rattle.program.specs.Location.{commandLoc, locations}
+use Rattle.image.specs.Memory.{used, reactor, wired, content, valueAt}
+use Rattle.image.specs.Sound.{Deployed, InD, MonoSlot, PointSlot}
+use Rattle.image.specs.Passes.{startTable, slotSound, ownSound}
+use Rattle.image.proofs.Exact.Tiling.{Laid, starts, start-test, in-to}
+use Rattle.image.proofs.Exact.Zeros.{clear}
+use Rattle.image.proofs.Exact.Chains.{chain}
+
+-- which of a command's three meanings between turns it has
+pub data Makes (c : Cmd) : Type 0 where
+  a-deployment : (x : ℕ) → c ≡ allocMono x → Makes c
+  a-point : (x : ℕ) → c ≡ makePoly x → Makes c
+  neither : madeBy c ≡ nothing → Makes c
+
+pub makes : (c : Cmd) → Makes c
+unfolding madeBy
+makes (allocMono x) = a-deployment x refl
+makes (makePoly x) = a-point x refl
+makes (constant x v) = neither refl
+makes (global x) = neither refl
+makes (supply x a b) = neither refl
+makes (react b) = neither refl
+makes (consume x b) = neither refl
+makes (sink x a) = neither refl
+makes (allocPoly a b) = neither refl
+makes (primitive x a b c) = neither refl
+makes none = neither refl
+
+pub made-mono : {c : Cmd} {x : ℕ} → c ≡ allocMono x → madeBy c ≡ deployment x
+unfolding madeBy
+made-mono e = ap madeBy e
+
+pub made-point : {c : Cmd} {x : ℕ} → c ≡ makePoly x → madeBy c ≡ point x
+unfolding madeBy
+made-point e = ap madeBy e
+
+module _ (p m : List ℕ) where
+  -- what D slot l of o has to hold, by what its command makes
+  abbrev pub SlotRight : ℕ → ℕ → Made → Type 0
+  SlotRight o l (deployment x) = MonoSlot p m o l x
+  SlotRight o l (point x) = PointSlot p m o l x
+  SlotRight o l nothing = Unit {0}
+
+  -- the same of all D slots, by commands
+  pub record SlotsRight (o : ℕ) : Type 0 where
+    pub monos : (j x : ℕ) → j < declared p (reactor m o) → cmdOf p (reactor m o) j ≡ allocMono x →
+        MonoSlot p m o (commandLoc p (reactor m o) j) x
+    pub points : (j x : ℕ) → j < declared p (reactor m o) → cmdOf p (reactor m o) j ≡ makePoly x →
+        PointSlot p m o (commandLoc p (reactor m o) j) x
+
+  -- a deployment's own words are right
+  pub record Own (o : ℕ) : Type 0 where
+    pub is-wired : wired m o ≡ 1
+    pub empty : (l : ℕ) → l < locations p (reactor m o) → (InD p m (reactor m o) l → ⊥) → valueAt p m o l ≡ blank
+    pub slots : SlotsRight o
+
+  slots-right : (o : ℕ) →
+      ((j : ℕ) → j < declared p (reactor m o) → SlotRight o (commandLoc p (reactor m o) j) (madeBy (cmdOf p (reactor m o) j))) ↔ SlotsRight o
+  slots-right o = (
+    λ h.
+        record {
+          monos = λ j x l e. subst (SlotRight o (commandLoc p (reactor m o) j)) (made-mono e) (h j l);
+          points = λ j x l e. subst (SlotRight o (commandLoc p (reactor m o) j)) (made-point e) (h j l);
+        },
+    λ r j l. by r j l (cmdOf p (reactor m o) j) refl (makes (cmdOf p (reactor m o) j)),
+  )
+    where
+      by : SlotsRight o → (j : ℕ) → j < declared p (reactor m o) → (c : Cmd) → cmdOf p (reactor m o) j ≡ c → Makes c →
+          SlotRight o (commandLoc p (reactor m o) j) (madeBy c)
+      by r j l c q (a-deployment x e) = subst (SlotRight o (commandLoc p (reactor m o) j)) (sym (made-mono e)) (r .monos j x l (q ∙ e))
+      by r j l c q (a-point x e) = subst (SlotRight o (commandLoc p (reactor m o) j)) (sym (made-point e)) (r .points j x l (q ∙ e))
+      by r j l c q (neither e) = subst (SlotRight o (commandLoc p (reactor m o) j)) (sym e) tt
+
+  module _ (laid : Laid p m) where
+    slot-test : (o l : ℕ) (k : Made) → 0 < used m → (slotSound p m (startTable (starts p m)) o l k ≡ true) ↔ SlotRight o l k
+    unfolding slotSound
+    slot-test o l (deployment x) h = (
+      λ e.
+          let a = both? e in
+          let b = both? (a .1) in
+          let c = both? (b .1) in
+          let d = both? (c .1) in
+          record { marked = eq? (a .0); child = start-test p m laid (content p m o l) .0 (c .0); its = eq? (d .0); alone = eq? (d .1); above = lt? (b .0) },
+      λ r.
+          both! (eq! (r .marked))
+          (both! (lt! (r .above)) (both! (start-test p m laid (content p m o l) .1 (r .child)) (both! (eq! (r .its)) (eq! (r .alone))))),
+    )
+    slot-test o l (point x) h =
+        let w = chain p m laid o x (content p m o l) h in (
+          λ e. let a = both? e in record { marked = eq? (a .0); chain = w .0 (a .1) },
+          λ r. both! (eq! (r .marked)) (w .1 (r .chain)),
+        )
+    slot-test o l nothing h = (λ e. tt, λ r. refl)
+
+    pub own-test : {o : ℕ} → Deployed p m o → (ownSound p m (startTable (starts p m)) o ≡ true) ↔ Own o
+    unfolding ownSound
+    own-test {o} i =
+        let r = reactor m o in
+        let some : 0 < used m = omega (arith, in-to p m i) in
+        let w = sweeps? (λ j. slotSound p m (startTable (starts p m)) o (commandLoc p r j) (madeBy (cmdOf p r j))) 0 (declared p r) (declared p r) (omega arith) in (
+          λ e.
+              let a = both? e in
+              let b = both? (a .1) in
+              record {
+                is-wired = eq? (a .0);
+                empty = clear p m o .0 (b .0);
+                slots = slots-right o .0 (λ j l. slot-test o _ (madeBy (cmdOf p r j)) some .0 (w .0 (b .1) j (omega arith) l));
+              },
+          λ h.
+              both! (eq! (h .is-wired))
+              (both! (clear p m o .1 (h .empty)) (w .1 (λ j g l. slot-test o _ (madeBy (cmdOf p r j)) some .1 (slots-right o .1 (h .slots) j l)))),
+        )

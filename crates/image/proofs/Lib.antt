@@ -1,0 +1,11 @@
+pub mod Ands
+pub mod Zeros
+pub mod Tiles
+pub mod Lists
+pub mod Chains
+pub mod Made
+pub mod Positions
+pub mod Walks
+pub mod Starts
+pub mod Memory
+pub mod Exact

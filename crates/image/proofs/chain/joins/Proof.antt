@@ -1,0 +1,11 @@
+use Rattle.value.proofs.Tests.{same-and, same-eq}
+use borrow.Author.Needs.{needs}
+use mathlib.Core.Path.{refl}
+use Rattle.image.proofs.chain.joins.Statement.{statement}
+use Rattle.image.proofs.chain.joins.Tie as tie
+
+returns : tie.Need-returns
+returns c = same-and (same-eq (c .before .wide-shape-of .ensures) refl) (same-eq (c .entry .ensures) refl)
+
+pub joins-spec : {M : Type 1} → statement M
+joins-spec = tie.close (tie.spec (λ c κs. search needs) (λ c κs. search needs) returns)

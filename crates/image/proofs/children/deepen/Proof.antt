@@ -1,0 +1,12 @@
+use Rattle.image.specs.Walk.{deepened}
+use borrow.Author.Needs.{needs}
+use Rattle.image.proofs.children.deepen.Statement.{statement}
+use Rattle.image.proofs.children.deepen.Tie as tie
+
+returns : tie.Need-returns
+unfolding deepened
+returns c = cc
+
+pub deepen-spec : {M : Type 1} → statement M
+deepen-spec =
+    tie.close (tie.spec (λ c κs. search needs) (λ c κs. search needs) (λ c κs. search needs) (λ c. search needs) returns)

@@ -1,0 +1,48 @@
+use Prim.Native.Nat.{_-_}
+use Rattle.image.proofs.Chains.{children-done, children-next}
+use Rattle.image.proofs.Walks.{children-first}
+use Rattle.image.specs.Passes.{childrenFrom, over}
+use Rattle.image.specs.Walk.{step, stepAll}
+use Rattle.program.specs.Bytes.{declared}
+use borrow.Author.Needs.{needs}
+use lib.ListN.{length}
+use mathlib.Core.Path.{_∙_, _≡_, ap, refl}
+use Rattle.image.proofs.children.step_children.Statement.{statement}
+use Rattle.image.proofs.children.step_children.Tie as tie
+
+abbrev Inv-loop : tie.InvT-loop
+Inv-loop pass program at memory table₀ o r n j₀ table j = (length table ≡ length table₀) × (over (step pass o) table (childrenFrom program memory (n - j) j o) ≡ stepAll program memory pass table₀ o)
+
+abbrev μ-loop : tie.MeasureT-loop
+μ-loop pass program at memory table₀ o r n j₀ table j = n - j
+
+loop-holds : tie.Need-loop-holds Inv-loop μ-loop
+loop-holds c = (refl, children-first _ _ _ _ _ _ (c .wide-declared .ensures ∙ ap (declared _) (c .before .reactor .ensures)))
+
+step-command-requires : tie.Need-step-command-requires Inv-loop μ-loop
+step-command-requires c κs = c .before .before .before .before .before .before .before .before .pre
+
+loop-again : tie.Need-loop-again Inv-loop μ-loop
+loop-again c = (cc, children-next _ _ _ _ _ _ _ _ (c .before .before .before .before .loop-test .taken) (c .before .before .step-command .ensures) ∙ c .before .before .before .before .before .loop .inv .1)
+
+same-length : tie.Need-same-length Inv-loop μ-loop
+same-length c = cc
+
+returns : tie.Need-returns Inv-loop μ-loop
+returns c = children-done _ _ _ _ _ _ _ (c .loop-test .left) ∙ c .before .loop .inv .1
+
+pub step-children-spec : {M : Type 1} → statement M
+step-children-spec =
+    tie.close
+    (tie.spec
+    Inv-loop
+    μ-loop
+    (λ c κs. search needs)
+    (λ c κs. search needs)
+    loop-holds
+    step-command-requires
+    (λ c. search needs)
+    (λ c. search needs)
+    loop-again
+    same-length
+    returns)

@@ -1,0 +1,38 @@
+use Rattle.image.proofs.Ands.{and-goes, and-stops}
+use Rattle.image.specs.Passes.{ownSound}
+use Rattle.image.specs.Walk.{commandSound}
+use Rattle.program.specs.Bytes.{declared}
+use Rattle.value.proofs.Tests.{eq!, eq×, passed, refused, same-eq}
+use borrow.Author.Needs.{needs}
+use mathlib.Core.Path.{_∙_, ap}
+use native.Mathlib.Omega.{arith}
+use Rattle.image.proofs.own.own_sound.Statement.{statement}
+use Rattle.image.proofs.own.own_sound.Tie as tie
+
+returns : tie.Need-returns
+unfolding ownSound
+returns c = and-stops _ (eq× (λ e. c .if1 .taken (c .before .wired .ensures ∙ e)))
+
+returns-2 : tie.Need-returns-2
+unfolding ownSound
+returns-2 c = and-goes (eq! (omega arith)) (and-stops _ (refused (c .before .clear-at .ensures) (c .if2 .taken)))
+
+first-wrong-requires : tie.Need-first-wrong-requires
+first-wrong-requires c κs = c .before .before .before .before .before .before .before .before .pre
+
+returns-3 : tie.Need-returns-3
+unfolding ownSound commandSound
+returns-3 c = and-goes (eq! (omega arith)) (and-goes (passed (c .before .before .before .before .clear-at .ensures) (c .before .before .before .if2 .left)) (same-eq (c .before .first-wrong .ensures) (c .wide-declared .ensures ∙ ap (declared _) (c .before .before .reactor .ensures))))
+
+pub own-sound-spec : {M : Type 1} → statement M
+own-sound-spec =
+    tie.close
+    (tie.spec
+    (λ c κs. search needs)
+    returns
+    (λ c κs. search needs)
+    returns-2
+    (λ c κs. search needs)
+    first-wrong-requires
+    (λ c κs. search needs)
+    returns-3)

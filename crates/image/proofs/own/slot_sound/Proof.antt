@@ -1,0 +1,20 @@
+use Rattle.image.proofs.Made.{made-mono, made-other, made-point}
+use Rattle.image.specs.Passes.{slotSound}
+use borrow.Author.Needs.{needs}
+use mathlib.Core.Path.{_∙_, ap}
+use Rattle.image.proofs.own.slot_sound.Statement.{statement}
+use Rattle.image.proofs.own.slot_sound.Tie as tie
+
+returns : tie.Need-returns
+returns c = c .mono-sound .ensures ∙ ap (slotSound _ _ _ _ _) (made-mono _ _ (c .before .if1 .taken))
+
+returns-2 : tie.Need-returns-2
+returns-2 c = c .point-sound .ensures ∙ ap (slotSound _ _ _ _ _) (made-point _ _ (c .before .if2 .taken))
+
+returns-3 : tie.Need-returns-3
+unfolding slotSound
+returns-3 c = ap (slotSound _ _ _ _ _) (made-other _ _ (c .before .if1 .left) (c .if2 .left))
+
+pub slot-sound-spec : {M : Type 1} → statement M
+slot-sound-spec =
+    tie.close (tie.spec (λ c κs. search needs) returns (λ c κs. search needs) returns-2 returns-3)

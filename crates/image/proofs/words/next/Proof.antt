@@ -1,0 +1,11 @@
+use Rattle.image.specs.Memory.{next}
+use borrow.Author.Needs.{needs}
+use Rattle.image.proofs.words.next.Statement.{statement}
+use Rattle.image.proofs.words.next.Tie as tie
+
+returns : tie.Need-returns
+unfolding next
+returns c = c .word .ensures
+
+pub next-spec : {M : Type 1} → statement M
+next-spec = tie.close (tie.spec (λ c. search needs) (λ c κs. search needs) returns)

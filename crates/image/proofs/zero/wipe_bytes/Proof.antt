@@ -1,0 +1,50 @@
+use Prim.Native.Nat.{_-_, _<_, _≤_}
+use borrow.Author.Fill.{fill-more}
+use lib.ListN.{drop, length, length-set, replicate}
+use lib.Seq.{drop-length}
+use mathlib.Core.List.{_++_, append-nil}
+use mathlib.Core.Path.{_∙_, _≡_, refl}
+use native.Mathlib.Omega.{arith}
+use Rattle.image.proofs.zero.wipe_bytes.Statement.{statement}
+use Rattle.image.proofs.zero.wipe_bytes.Tie as tie
+
+abbrev Inv-loop : tie.InvT-loop
+Inv-loop bytes₀ i₀ bytes i = (i ≤ length bytes₀) × (bytes ≡ replicate i 0 ++ drop i bytes₀) × (length bytes ≡ length bytes₀)
+
+abbrev μ-loop : tie.MeasureT-loop
+μ-loop bytes₀ i₀ bytes i = length bytes₀ - i
+
+loop-holds : tie.Need-loop-holds Inv-loop μ-loop
+loop-holds c = (omega arith, refl, refl)
+
+slice-write-bytes : tie.Need-slice-write-bytes Inv-loop μ-loop
+slice-write-bytes c = omega arith
+
+add-i : tie.Need-add-i Inv-loop μ-loop
+add-i c = omega arith
+
+loop-less : tie.Need-loop-less Inv-loop μ-loop
+loop-less c = omega arith
+
+loop-again : tie.Need-loop-again Inv-loop μ-loop
+loop-again c = let l = c .before .loop in let d = c .before .before .args .bytes .now in let h : l .i < length d = omega arith in (omega arith, rw (l .inv .1) (fill-more (l .i) 0 d h), simp length-set (l .inv .2))
+
+same-length : tie.Need-same-length Inv-loop μ-loop
+same-length c = cc
+
+returns : tie.Need-returns Inv-loop μ-loop
+returns c = let d = c .before .before .args .bytes .now in let e : c .before .loop .i ≡ length d = omega arith in c .before .loop .inv .1 ∙ rw (e, drop-length) (append-nil _)
+
+pub wipe-bytes-spec : {M : Type 1} → statement M
+wipe-bytes-spec =
+    tie.close
+    (tie.spec
+    Inv-loop
+    μ-loop
+    loop-holds
+    slice-write-bytes
+    add-i
+    loop-less
+    loop-again
+    same-length
+    returns)

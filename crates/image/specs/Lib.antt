@@ -1,0 +1,7 @@
+pub mod Memory
+pub mod Sound
+pub mod Whole
+pub mod Passes
+pub mod Walk
+pub mod Start
+pub mod Answer

@@ -1,0 +1,149 @@
+-- Soundness by forward passes over the deployments, with one table of bytes, a byte for each word of memory:
+-- 0 no deployment begins here; 1 one does that nothing names; 2 named once; 3 named more often. A second such table holds depths.
+-- Each pass reads each deployment's words, and each chain's, once. The ladder of soundOf is the order in which faults are found.
+use Prim.Native.Nat.{ℕ, zero, suc, _+_, _-_, _≤_}
+use mathlib.Core.Path.{_≡_}
+use mathlib.Core.Logic.{_↔_}
+use mathlib.Core.Bool.{Bool, true, false}
+use mathlib.Core.List.{List, [], _∷_, _++_}
+use lib.ListN.{length, getD, set, replicate}
+use Rattle.value.specs.Test.{_and_, pick, _<?_, _≤?_, _=?_, guard, sweep}
+use Rattle.value.specs.Value.{deploymentMark, pointMark}
+use Rattle.program.specs.Bytes.{reactors, shapeOf, declared, mainOf, mostReactors}
+use Rattle.program.specs.Command.{Made, deployment, point, nothing, madeBy, cmdOf}
+use Rattle.program.specs.Location.{commandLoc, sizeOf}
+use Rattle.image.specs.Sound.{Sound}
+use Rattle.image.specs.Memory.{mostWords, mostTurns, mostDepth, mainAt, used, turns, reactor, wired, next, zeroAt, mark, content, sizeAt, startsBelow, slotsD, slotsR}
+
+-- sound, or the place of the fault
+pub data Judged : Type 0 where
+  sound : Judged
+  unsound : (place : ℕ) → Judged
+
+-- the first deployment of a list for which the test fails, 0 if none
+unfoldable pub lowest : (ℕ → Bool) → List ℕ → ℕ
+lowest ok [] = 0
+lowest ok (a ∷ rest) = guard (ok a) a (λ _. lowest ok rest)
+
+-- a table changed for each of a list
+unfoldable pub over : (List ℕ → ℕ → List ℕ) → List ℕ → List ℕ → List ℕ
+over f t [] = t
+over f t (a ∷ rest) = over f (f t a) rest
+
+-- the table with each deployment's start marked
+unfoldable pub startTable : List ℕ → List ℕ
+startTable starts = over (λ t a. set t a 1) (replicate mostWords 0) starts
+
+unfoldable pub isStart : List ℕ → ℕ → Bool
+isStart t c = 0 <? getD t c 0
+
+-- one more than depth d; past the limit every depth is as the first past it, so that a byte holds each
+unfoldable pub below : ℕ → ℕ
+below d = pick (d ≤? mostDepth) (d + 1) d
+
+module _ (p : List ℕ) (m : List ℕ) where
+  -- the deployments from a on tile the words up to u exactly
+  unfoldable pub tilesFrom : ℕ → ℕ → ℕ → Bool
+  tilesFrom zero u a = a =? u
+  tilesFrom (suc f) u a =
+      guard (a <? u) (a =? u) (λ _.
+      guard (reactor m a <? reactors p) false (λ _.
+      tilesFrom f u (a + sizeAt p m a)))
+
+  -- "a chain (empty at 0) of strictly falling indices, shape fitting, no reactor twice, all above the owner's index".
+  -- last: the index of the one before; seen: a byte for each reactor. No reactor twice, so that f, one more than there are reactors, is enough.
+  unfoldable pub chainFrom : ℕ → List ℕ → ℕ → ℕ → ℕ → List ℕ → ℕ → Bool
+  chainFrom zero t o s last seen c = false
+  chainFrom (suc f) t o s last seen c =
+      guard (0 <? c) true (λ _.
+      guard ((o <? c) and (c <? last) and isStart t c) false (λ _.
+      guard ((shapeOf p (reactor m c) =? s) and (getD seen (reactor m c) 0 =? 0)) false (λ _.
+      chainFrom f t o s c (set seen (reactor m c) 1) (next m c))))
+
+  -- what D slot l of o has to hold
+  unfoldable pub slotSound : List ℕ → ℕ → ℕ → Made → Bool
+  slotSound t o l (deployment x) =
+      let c = content p m o l in
+      (mark p m o l =? deploymentMark) and (o <? c) and isStart t c and (reactor m c =? x) and (next m c =? 0)
+  slotSound t o l (point x) =
+      (mark p m o l =? pointMark) and chainFrom (reactors p + 1) t o x (used m) (replicate mostReactors 0) (content p m o l)
+  slotSound t o l nothing = true
+
+  -- "all slots but D slots are zero"
+  unfoldable pub clearAt : ℕ → Bool
+  clearAt a =
+      let r = reactor m a in
+      zeroAt m (a + 3) (slotsD p r - 3) and zeroAt m (a + slotsR p r) (sizeOf p r - slotsR p r)
+
+  -- a deployment's own words
+  unfoldable pub ownSound : List ℕ → ℕ → Bool
+  ownSound t a =
+      let r = reactor m a in
+      (wired m a =? 1) and clearAt a and (sweep (λ j. slotSound t a (commandLoc p r j) (madeBy (cmdOf p r j))) 0 (declared p r) =? declared p r)
+
+  -- the chain from c, as a list
+  unfoldable pub membersFrom : ℕ → ℕ → List ℕ
+  membersFrom zero c = []
+  membersFrom (suc f) c = guard (0 <? c) [] (λ _. c ∷ membersFrom f (next m c))
+
+  -- the deployments that D slot l of o names
+  unfoldable pub namedBy : ℕ → ℕ → Made → List ℕ
+  namedBy o l (deployment x) = content p m o l ∷ []
+  namedBy o l (point x) = membersFrom (reactors p) (content p m o l)
+  namedBy o l nothing = []
+
+  -- all that the n D commands from j on of o name
+  unfoldable pub childrenFrom : ℕ → ℕ → ℕ → List ℕ
+  childrenFrom zero j o = []
+  childrenFrom (suc n) j o = namedBy o (commandLoc p (reactor m o) j) (madeBy (cmdOf p (reactor m o) j)) ++ childrenFrom n (j + 1) o
+
+  -- all that o names
+  unfoldable pub childrenOf : ℕ → List ℕ
+  childrenOf o = childrenFrom (declared p (reactor m o)) 0 o
+
+  -- one more name for c; more than twice is as twice
+  unfoldable pub name : List ℕ → ℕ → List ℕ
+  name t c = set t c (pick (getD t c 0 <? 3) (getD t c 0 + 1) 3)
+
+  unfoldable pub nameTable : List ℕ → List ℕ → List ℕ
+  nameTable t starts = over (λ t o. over name t (childrenOf o)) t starts
+
+  -- "Main has depth 1, a child one more than its owner." Owners come before their children.
+  unfoldable pub depthTable : List ℕ → List ℕ
+  depthTable starts = over (λ t o. over (λ t c. set t c (below (getD t o 0))) t (childrenOf o)) (set (replicate mostWords 0) mainAt 1) starts
+
+  -- "With turns 0, main stands alone, unwired, its slots zero."
+  unfoldable pub freshSound : Judged
+  freshSound =
+      guard ((used m =? mainAt + sizeOf p (mainOf p)) and (wired m mainAt =? 0) and zeroAt m (mainAt + 3) (sizeOf p (mainOf p) - 3)) (unsound 0) (λ _. sound)
+
+  -- "Otherwise ..": each deployment by itself; then the naming; then the depths. `others` are all but main.
+  unfoldable pub grownSound : List ℕ → List ℕ → Judged
+  grownSound starts others =
+      let t = startTable starts in
+      guard (lowest (ownSound t) starts =? 0) (unsound 0) (λ _.
+      let names = nameTable t starts in
+      guard (lowest (λ a. getD names a 0 =? 2) others =? 0) (unsound 0) (λ _.
+      let depths = depthTable starts in
+      guard (lowest (λ a. getD depths a 0 ≤? mostDepth) others =? 0) (unsound 0) (λ _. sound)))
+
+  unfoldable pub tailOf : List ℕ → List ℕ
+  tailOf [] = []
+  tailOf (a ∷ rest) = rest
+
+  unfoldable pub byTurns : Bool → Judged
+  byTurns true = freshSound
+  byTurns false = let starts = startsBelow p m (used m) in grownSound starts (tailOf starts)
+
+  unfoldable pub soundOf : Judged
+  soundOf =
+      guard (used m ≤? length m) (unsound 0) (λ _.
+      guard (turns m ≤? mostTurns) (unsound 0) (λ _.
+      guard ((mainAt <? used m) and (reactor m mainAt =? mainOf p) and tilesFrom (length m) (used m) mainAt) (unsound 0) (λ _.
+      guard (zeroAt m (used m) (length m - used m)) (unsound 0) (λ _.
+      guard (next m mainAt =? 0) (unsound 0) (λ _.
+      byTurns (turns m =? 0))))))
+
+-- Exact soundness, for a program of no more reactors than the check accepts. Proved in proofs/Exact.antt.
+abbrev pub ExactSoundness : List ℕ → Type 0
+ExactSoundness p = reactors p ≤ mostReactors → (m : List ℕ) → length m ≤ mostWords → (soundOf p m ≡ sound) ↔ Sound p m

@@ -1,0 +1,59 @@
+// Memory between turns: document 01, "Memory between turns".
+//
+// Words, from 0: u, turns, then the deployments. A deployment: reactor, wired, next, then a mark and
+// a content for each location. Every function is total: a word past the end is 0, and a store there
+// does nothing, so no caller has to know that an image is sound.
+mod answer;
+mod begin;
+mod chain;
+mod children;
+mod commands;
+mod deployment;
+mod own;
+mod soundness;
+mod table;
+mod tiling;
+mod words;
+mod zero;
+
+pub use begin::start;
+pub use begin::start_by;
+pub use begin::words_legal;
+pub use deployment::content;
+pub use deployment::mark;
+pub use deployment::place;
+pub use deployment::size_at;
+pub use deployment::slot;
+pub use deployment::store;
+pub use deployment::value_at;
+use load::Refusal;
+pub use soundness::sound;
+pub use words::next;
+pub use words::put;
+pub use words::reactor;
+pub use words::set_turns;
+pub use words::set_used;
+pub use words::set_wired;
+pub use words::turns;
+pub use words::used;
+pub use words::wired;
+pub use words::word;
+pub use zero::zero_at;
+
+// Start's answer: u after it, or why it is refused.
+pub enum Started {
+    Ready(usize),
+    Refused(Refusal),
+}
+
+// Whether an image is sound; if not, the place that refusal 9 names.
+pub enum Judged {
+    Sound,
+    Unsound(usize),
+}
+
+// The two passes over the children of each deployment: how often each is named, and how deep it is.
+pub enum Pass {
+    Names,
+    Depths,
+}

@@ -1,0 +1,141 @@
+// A deployment's own words: wired, its D slots, and zeros in all others.
+use crate::chain::chain_sound;
+use crate::commands::position;
+use crate::deployment::content;
+use crate::deployment::mark;
+use crate::table::is_start;
+use crate::tiling::following;
+use crate::words::next;
+use crate::words::reactor;
+use crate::words::wired;
+use crate::zero::zero_at;
+use program::Command;
+use program::byte;
+use program::wide_declared;
+use program::wide_size_of;
+use program::wide_slot_at;
+use program::wide_sources;
+ghost use mathlib.Core.Path.{_≡_};
+ghost use Prim.Native.Nat.{_<_};
+ghost use Rattle.value.specs.Test.{sweep};
+ghost use Rattle.program.specs.Bytes as B;
+ghost use Rattle.program.specs.Command as C;
+ghost use Rattle.program.specs.Location as L;
+ghost use Rattle.image.specs.Memory as M;
+ghost use Rattle.image.specs.Passes as P;
+ghost use Rattle.image.specs.Walk as W;
+
+const DEPLOYMENT: u32 = 4;
+
+const POINT: u32 = 5;
+
+// Whether all slots but D slots are zero.
+fn clear_at(program: &[u8], memory: &[u32], a: u32) -> bool
+    ensures { λ r. ⌜ r ≡ P.clearAt (now (program .entry)) (now (memory .entry)) a ⌝ }
+{
+    let r = reactor(memory, a);
+    let sources = wide_sources(program, r) as u16;
+    let first = wide_slot_at(program, r, sources);
+    let end = wide_slot_at(program, r, sources + wide_declared(program, r) as u16);
+    let size = wide_size_of(program, r);
+    zero_at(memory, a as usize + 3, (first - 3) as usize)
+        & zero_at(memory, a as usize + end as usize, (size - end) as usize)
+}
+
+// Whether D slot l of o names a deployment of reactor x, above o, with next 0.
+fn mono_sound(program: &[u8], memory: &[u32], table: &[u8], o: u32, l: u16, x: u8) -> bool
+    ensures { λ r. ⌜ r ≡ P.slotSound (now (program .entry)) (now (memory .entry)) (now (table .entry)) o l (C.deployment x) ⌝ }
+{
+    if mark(program, memory, o, l) != DEPLOYMENT {
+        return false;
+    }
+    let c = content(program, memory, o, l);
+    (o < c) & is_start(table, c) & (reactor(memory, c) == x as u32) & (next(memory, c) == 0)
+}
+
+// Whether D slot l of o heads a chain of shape x.
+fn point_sound(program: &[u8], memory: &[u32], table: &[u8], o: u32, l: u16, x: u8) -> bool
+    ensures { λ r. ⌜ r ≡ P.slotSound (now (program .entry)) (now (memory .entry)) (now (table .entry)) o l (C.point x) ⌝ }
+{
+    if mark(program, memory, o, l) != POINT {
+        return false;
+    }
+    let head = content(program, memory, o, l);
+    chain_sound(program, memory, table, o, x, head)
+}
+
+// Whether D slot l of o holds what a command of this code and x makes.
+fn slot_sound(program: &[u8], memory: &[u32], table: &[u8], o: u32, l: u16, code: u8, x: u8) -> bool
+    ensures { λ r. ⌜ r ≡ P.slotSound (now (program .entry)) (now (memory .entry)) (now (table .entry)) o l (W.madeOf code x) ⌝ }
+{
+    if code == Command::ALLOC_MONO {
+        return mono_sound(program, memory, table, o, l, x);
+    }
+    if code == Command::MAKE_POLY {
+        return point_sound(program, memory, table, o, l, x);
+    }
+    true
+}
+
+// Whether the slot of D command j of o is right; o's commands begin at byte `at`.
+fn command_sound(program: &[u8], at: u32, memory: &[u32], table: &[u8], o: u32, j: u8) -> bool
+    requires { ⌜ at ≡ B.commandsAt (now program) (M.reactor (now memory) o) ⌝ }
+    ensures { λ r. ⌜ r ≡ W.commandSound (now (program .entry)) (now (memory .entry)) (now (table .entry)) o j ⌝ }
+{
+    let r = reactor(memory, o);
+    let l = wide_sources(program, r) as u16 + j as u16;
+    let i = at as usize + 8 * (j as usize);
+    let code = byte(program, i);
+    let x = byte(program, i + 1);
+    slot_sound(program, memory, table, o, l, code, x)
+}
+
+// The first D command of o whose slot is wrong; if none is, how many there are.
+fn first_wrong(program: &[u8], at: u32, memory: &[u32], table: &[u8], o: u32) -> u8
+    requires { ⌜ at ≡ B.commandsAt (now program) (M.reactor (now memory) o) ⌝ }
+    ensures { λ r. ⌜ r ≡ sweep (W.commandSound (now (program .entry)) (now (memory .entry)) (now (table .entry)) o) 0 (B.declared (now (program .entry)) (M.reactor (now (memory .entry)) o)) ⌝ }
+{
+    let r = reactor(memory, o);
+    let n = wide_declared(program, r);
+    let mut j: u8 = 0;
+    while j < n {
+        if !command_sound(program, at, memory, table, o, j) {
+            return j;
+        }
+        j = j + 1;
+    }
+    j
+}
+
+// Whether the deployment at a is wired, its slots right.
+fn own_sound(program: &[u8], at: u32, memory: &[u32], table: &[u8], a: u32) -> bool
+    requires { ⌜ at ≡ B.commandsAt (now program) (M.reactor (now memory) a) ⌝ }
+    ensures { λ r. ⌜ r ≡ P.ownSound (now (program .entry)) (now (memory .entry)) (now (table .entry)) a ⌝ }
+{
+    if wired(memory, a) != 1 {
+        return false;
+    }
+    if !clear_at(program, memory, a) {
+        return false;
+    }
+    let r = reactor(memory, a);
+    first_wrong(program, at, memory, table, a) == wide_declared(program, r)
+}
+
+// The lowest deployment whose own words are wrong; 0 if none.
+pub fn lowest_unsound(program: &[u8], places: &[u32], memory: &[u32], table: &[u8], u: u32) -> u32
+    requires { ⌜ W.Positions (now program) (now places) ⌝ }
+    requires { ⌜ W.Tiling (now program) (now memory) u M.mainAt ⌝ }
+    ensures { λ r. ⌜ r ≡ P.lowest (P.ownSound (now (program .entry)) (now (memory .entry)) (now (table .entry))) (W.startsOn (now (program .entry)) (now (memory .entry)) u M.mainAt) ⌝ }
+{
+    let mut a: u32 = 2;
+    while a < u {
+        let o = a;
+        a = following(program, memory, u, a);
+        let at = position(program, places, memory, o);
+        if !own_sound(program, at, memory, table, o) {
+            return o;
+        }
+    }
+    0
+}

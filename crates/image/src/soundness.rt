@@ -1,0 +1,146 @@
+// Soundness of an image: document 01, "An image is sound for a program if ..". Forward passes over
+// the deployments, with one table of bytes.
+use crate::Judged;
+use crate::Pass;
+use crate::children::lowest_unfit;
+use crate::children::step_all;
+use crate::commands::fill_positions;
+use crate::own::lowest_unsound;
+use crate::table::put_entry;
+use crate::tiling::mark_starts;
+use crate::tiling::tiles;
+use crate::words::next;
+use crate::words::reactor;
+use crate::words::turns;
+use crate::words::used;
+use crate::words::wired;
+use crate::zero::wipe_bytes;
+use crate::zero::zero_at;
+use program::main_of;
+use program::wide_size_of;
+ghost use mathlib.Core.Path.{_≡_};
+ghost use Prim.Native.Nat.{_<_};
+ghost use lib.ListN.{length, replicate};
+ghost use Rattle.value.specs.Test.{_and_, _<?_, _=?_};
+ghost use Rattle.program.specs.Bytes as B;
+ghost use Rattle.image.specs.Answer as N;
+ghost use Rattle.image.specs.Memory as M;
+ghost use Rattle.image.specs.Passes as P;
+ghost use Rattle.image.specs.Walk as W;
+
+const MAIN_AT: u32 = 2;
+
+const MOST_TURNS: u32 = 2147483647;
+
+const MOST_WORDS: usize = 16384;
+
+// Whether main comes first.
+fn main_first(program: &[u8], memory: &[u32], u: u32) -> bool
+    ensures { λ r. ⌜ r ≡ ((M.mainAt <? u) and (M.reactor (now (memory .entry)) M.mainAt =? B.mainOf (now (program .entry)))) ⌝ }
+{
+    (MAIN_AT < u) & (reactor(memory, MAIN_AT) == main_of(program) as u32)
+}
+
+// Whether words 0 and 1, the tiling with main first and next 0, and the words from u on are right.
+fn framed(program: &[u8], memory: &[u32]) -> bool
+    ensures { λ r. ⌜ r ≡ W.framedOf (now (program .entry)) (now (memory .entry)) ⌝ }
+{
+    let u = used(memory);
+    if memory.len() < u as usize {
+        return false;
+    }
+    if MOST_TURNS < turns(memory) {
+        return false;
+    }
+    if !main_first(program, memory, u) {
+        return false;
+    }
+    if !tiles(program, memory, u) {
+        return false;
+    }
+    if !zero_at(memory, u as usize, memory.len() - u as usize) {
+        return false;
+    }
+    next(memory, MAIN_AT) == 0
+}
+
+// With turns 0: whether main stands alone, unwired, its slots zero.
+fn fresh_sound(program: &[u8], memory: &[u32]) -> bool
+    ensures { λ r. ⌜ r ≡ W.freshOf (now (program .entry)) (now (memory .entry)) ⌝ }
+{
+    let main = main_of(program);
+    let size = wide_size_of(program, main as u32);
+    (used(memory) == MAIN_AT + size)
+        & (wired(memory, MAIN_AT) == 0)
+        & zero_at(memory, MAIN_AT as usize + 3, (size - 3) as usize)
+}
+
+// Whether each deployment's own words are right, and each but main is named exactly once. The table
+// has the starts marked.
+fn named_sound(program: &[u8], places: &[u32], memory: &[u32], table: &mut [u8], u: u32) -> bool
+    requires { ⌜ W.Positions (now program) (now places) ⌝ }
+    requires { ⌜ W.Tiling (now program) (now memory) u M.mainAt ⌝ }
+    requires { ⌜ M.mainAt < u ⌝ }
+    ensures { λ r. ⌜ r ≡ W.namedOf (now (program .entry)) (now (memory .entry)) (now (table .entry)) u ⌝ }
+{
+    if lowest_unsound(program, places, memory, table, u) != 0 {
+        return false;
+    }
+    step_all(Pass::Names, program, places, memory, table, u);
+    lowest_unfit(Pass::Names, program, memory, table, u) == 0
+}
+
+// Whether no deployment is deeper than 64. The table is used anew.
+fn shallow(program: &[u8], places: &[u32], memory: &[u32], table: &mut [u8], u: u32) -> bool
+    requires { ⌜ length (now table) ≡ M.mostWords ⌝ }
+    requires { ⌜ W.Positions (now program) (now places) ⌝ }
+    requires { ⌜ W.Tiling (now program) (now memory) u M.mainAt ⌝ }
+    requires { ⌜ M.mainAt < u ⌝ }
+    ensures { λ r. ⌜ r ≡ W.shallowOf (now (program .entry)) (now (memory .entry)) u ⌝ }
+{
+    wipe_bytes(table);
+    put_entry(table, MAIN_AT, 1);
+    step_all(Pass::Depths, program, places, memory, table, u);
+    lowest_unfit(Pass::Depths, program, memory, table, u) == 0
+}
+
+// With turns above 0: whether all deployments are wired, named once and right.
+fn grown_sound(program: &[u8], memory: &[u32], u: u32) -> bool
+    requires { ⌜ W.Tiling (now program) (now memory) u M.mainAt ⌝ }
+    requires { ⌜ M.mainAt < u ⌝ }
+    ensures { λ r. ⌜ r ≡ W.grownOf (now (program .entry)) (now (memory .entry)) u ⌝ }
+{
+    let mut places = [0u32; 256];
+    fill_positions(program, &mut places);
+    let mut table = [0u8; MOST_WORDS];
+    mark_starts(program, memory, &mut table, u);
+    if !named_sound(program, &places, memory, &mut table, u) {
+        return false;
+    }
+    shallow(program, &places, memory, &mut table, u)
+}
+
+// The verdict; every fault's place is 0.
+fn judge(ok: bool) -> Judged
+    ensures { λ r. ⌜ N.judged r ≡ N.verdict ok ⌝ }
+{
+    if ok {
+        Judged::Sound
+    } else {
+        Judged::Unsound(0)
+    }
+}
+
+// Whether an image, of any words, is sound for a program.
+pub fn sound(program: &[u8], memory: &[u32]) -> Judged
+    ensures { λ r. ⌜ N.judged r ≡ P.soundOf (now (program .entry)) (now (memory .entry)) ⌝ }
+{
+    if !framed(program, memory) {
+        return judge(false);
+    }
+    if turns(memory) == 0 {
+        return judge(fresh_sound(program, memory));
+    }
+    let u = used(memory);
+    judge(grown_sound(program, memory, u))
+}

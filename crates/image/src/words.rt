@@ -1,0 +1,72 @@
+// Words by their index, and by what they are.
+ghost use mathlib.Core.Path.{_≡_};
+ghost use lib.ListN.{set};
+ghost use Rattle.image.specs.Memory as M;
+
+// The word at `i`, and 0 past the end.
+pub fn word(memory: &[u32], i: usize) -> u32
+    ensures { λ r. ⌜ r ≡ M.word (now (memory .entry)) i ⌝ }
+{
+    if i < memory.len() { memory[i] } else { 0 }
+}
+
+// Stores v at `i`, and nothing past the end.
+pub fn put(memory: &mut [u32], i: usize, v: u32)
+    ensures { λ _. ⌜ now (memory .exit) ≡ set (now (memory .entry)) i v ⌝ }
+{
+    if i < memory.len() {
+        memory[i] = v;
+    }
+}
+
+// u, the count of used words.
+pub fn used(memory: &[u32]) -> u32
+    ensures { λ r. ⌜ r ≡ M.used (now (memory .entry)) ⌝ }
+{
+    word(memory, 0)
+}
+
+// The completed turns.
+pub fn turns(memory: &[u32]) -> u32
+    ensures { λ r. ⌜ r ≡ M.turns (now (memory .entry)) ⌝ }
+{
+    word(memory, 1)
+}
+
+// The reactor of the deployment at a.
+pub fn reactor(memory: &[u32], a: u32) -> u32
+    ensures { λ r. ⌜ r ≡ M.reactor (now (memory .entry)) a ⌝ }
+{
+    word(memory, a as usize)
+}
+
+pub fn wired(memory: &[u32], a: u32) -> u32
+    ensures { λ r. ⌜ r ≡ M.wired (now (memory .entry)) a ⌝ }
+{
+    word(memory, a as usize + 1)
+}
+
+// The next deployment on the chain, and 0 at its end.
+pub fn next(memory: &[u32], a: u32) -> u32
+    ensures { λ r. ⌜ r ≡ M.next (now (memory .entry)) a ⌝ }
+{
+    word(memory, a as usize + 2)
+}
+
+pub fn set_used(memory: &mut [u32], u: u32)
+    ensures { λ _. ⌜ now (memory .exit) ≡ M.withUsed (now (memory .entry)) u ⌝ }
+{
+    put(memory, 0, u)
+}
+
+pub fn set_turns(memory: &mut [u32], t: u32)
+    ensures { λ _. ⌜ now (memory .exit) ≡ M.withTurns (now (memory .entry)) t ⌝ }
+{
+    put(memory, 1, t)
+}
+
+pub fn set_wired(memory: &mut [u32], a: u32, w: u32)
+    ensures { λ _. ⌜ now (memory .exit) ≡ M.withWired (now (memory .entry)) a w ⌝ }
+{
+    put(memory, a as usize + 1, w)
+}

@@ -1,0 +1,51 @@
+// Stretches of zeros. The loops have no test but their end's, so that they are done many words at a
+// time.
+ghost use mathlib.Core.Path.{_≡_};
+ghost use lib.ListN.{length, replicate};
+ghost use Rattle.image.specs.Memory as M;
+
+fn all_zero(words: &[u32]) -> bool
+    ensures { λ r. ⌜ r ≡ M.allZero (now (words .entry)) ⌝ }
+{
+    let mut bits: u32 = 0;
+    let mut i = 0;
+    while i < words.len() {
+        bits = bits | words[i];
+        i += 1;
+    }
+    bits == 0
+}
+
+// Whether the n words from `from` on are zero, those past the end not counted.
+pub fn zero_at(memory: &[u32], from: usize, n: usize) -> bool
+    ensures { λ r. ⌜ r ≡ M.zeroAt (now (memory .entry)) from n ⌝ }
+{
+    if memory.len() <= from {
+        return true;
+    }
+    if memory.len() - from <= n {
+        return all_zero(&memory[from..]);
+    }
+    let end = from + n;
+    all_zero(&memory[from..end])
+}
+
+pub fn wipe(words: &mut [u32])
+    ensures { λ _. ⌜ now (words .exit) ≡ replicate (length (now (words .entry))) 0 ⌝ }
+{
+    let mut i = 0;
+    while i < words.len() {
+        words[i] = 0;
+        i += 1;
+    }
+}
+
+pub fn wipe_bytes(bytes: &mut [u8])
+    ensures { λ _. ⌜ now (bytes .exit) ≡ replicate (length (now (bytes .entry))) 0 ⌝ }
+{
+    let mut i = 0;
+    while i < bytes.len() {
+        bytes[i] = 0;
+        i += 1;
+    }
+}

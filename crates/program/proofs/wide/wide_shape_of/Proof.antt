@@ -1,0 +1,13 @@
+use Rattle.program.specs.Bytes.{byte, shapeOf}
+use borrow.Author.Needs.{needs}
+use mathlib.Core.Path.{_∙_, ap}
+use native.Mathlib.Omega.{arith}
+use Rattle.program.proofs.wide.wide_shape_of.Statement.{statement}
+use Rattle.program.proofs.wide.wide_shape_of.Tie as tie
+
+returns : tie.Need-returns
+unfolding shapeOf
+returns c = c .wide-byte .ensures ∙ ap (byte _) (omega arith)
+
+pub wide-shape-of-spec : {M : Type 1} → statement M
+wide-shape-of-spec = tie.close (tie.spec (λ c κs. search needs) returns)

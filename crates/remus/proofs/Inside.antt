@@ -1,0 +1,46 @@
+-- What has to be known of the walk inside one turn, p the program, w the words before it, t what it brings: the hypotheses from which the turn's claim
+-- follows.
+use Prim.Native.Nat.{ℕ, _+_, _-_, _<_}
+use mathlib.Core.Path.{_≡_}
+use mathlib.Core.Logic.{_≢_}
+use mathlib.Core.List.{List}
+use lib.ListN.{length}
+use Rattle.program.specs.Bytes.{mainOf}
+use Rattle.program.specs.Command.{Cmd}
+use Rattle.program.specs.Location.{sinks, sinkLoc, sizeOf}
+use Rattle.load.specs.declared.Refusal.{Refusal}
+use Rattle.load.specs.declared.Refusal.the-variants.{NoRoom, TooDeep}
+use Rattle.image.specs.Memory.{mainAt, used, turns}
+use Rattle.image.specs.Whole.{Whole}
+use Rattle.remus.specs.Run.{ran, stopped, mainRun}
+use Rattle.remus.specs.Turn.{fine, askedOf}
+use Rattle.remus.specs.Walk.{State, Input, location, begun, stop, step}
+use Rattle.remus.specs.Point.{_∈_, Can, ReadsWell, Allocation, Made}
+use Rattle.remus.specs.Claim.{During, Point, Leaves}
+
+module _ (p w : List ℕ) (t : Input) where
+  -- how the walk ends, and the recursive run with it
+  pub data Ending : Type 0 where
+    leaves : (s : State) → Leaves p w t s → mainRun p (t .readings) w ≡ ran (s .words) → Ending
+    stops : (s : State) (v : Refusal) (m : List ℕ) → During p w t s → step p (t .readings) s ≡ stop v → mainRun p (t .readings) w ≡ stopped v m → Ending
+
+  -- why the walk stops in state s: at an allocation, with 15, or else with 14
+  pub data Stop (s : State) : Refusal → Type 0 where
+    deep : {q : ℕ} (m : List ℕ) (o : ℕ) (c : Cmd) → Point p w t s m o c → Allocation p m o c q → length (s .pile) + 1 ≡ 65 → Stop s (TooDeep q)
+    full : {q : ℕ} (m : List ℕ) (o : ℕ) (c : Cmd) → Point p w t s m o c → Allocation p m o c q → length (s .pile) + 1 ≢ 65
+        → length w - used m < sizeOf p q → Stop s (NoRoom q)
+
+  pub record Inside : Type 0 where
+    pub carried : (s : State) (m : List ℕ) (o : ℕ) (c : Cmd) → Point p w t s m o c → Can p m (s .notes) o c
+    pub values : (s : State) (m : List ℕ) (o : ℕ) (c : Cmd) → Point p w t s m o c → ReadsWell p m (s .notes) o (t .readings) c
+    -- every sink of main is noted as it leaves
+    pub written : (s : State) → Leaves p w t s → (x : ℕ) → x < sinks p (mainOf p) → location mainAt (sinkLoc p (mainOf p) x) ∈ s .notes
+    pub walk-ends : askedOf p w (t .readings) (t .sinkSpace) ≡ fine → Ending
+    -- it stops for these reasons, and where there is one
+    pub stopping : (s : State) (v : Refusal) → During p w t s → step p (t .readings) s ≡ stop v → Stop s v
+    pub stopped-by : (s : State) (v : Refusal) → Stop s v → step p (t .readings) s ≡ stop v
+    pub whole : (s : State) → Leaves p w t s → Whole p (s .words)
+    -- u grows by what is allocated; length and clock stay
+    pub made : (s : State) → During p w t s → (k : ℕ) × Made p (t .readings) (begun p w) s k × (used (s .words) ≡ used w + k)
+    pub same-length : (s : State) → During p w t s → length (s .words) ≡ length w
+    pub same-turns : (s : State) → During p w t s → turns (s .words) ≡ turns w

@@ -1,0 +1,11 @@
+pub mod Walk
+pub mod Undo
+pub mod Once
+pub mod Fits
+pub mod Sinks
+pub mod Clearing
+pub mod Finished
+pub mod Lists
+pub mod Inside
+pub mod OneTurn
+pub mod Demand

@@ -1,0 +1,78 @@
+-- Lists of turns: from what holds of each turn on a sound image to the claim about a whole list.
+use Prim.Native.Nat.{ℕ, _+_, _≤_}
+use mathlib.Core.Path.{_≡_, refl, ap, _∙_, subst}
+use mathlib.Core.List.{List, [], _∷_}
+use native.Mathlib.Omega.{arith}
+use lib.ListN.{length}
+use Rattle.program.specs.Bytes.{mainOf}
+use Rattle.program.specs.Location.{sizeOf}
+use Rattle.load.specs.Rules.{HeaderRule}
+use Rattle.image.specs.Memory.{mainAt, used}
+use Rattle.image.specs.Sound.{Sound}
+use Rattle.image.specs.Start.{startedOf}
+use Rattle.image.proofs.Memory.Starting.{started-length, started-used, started-sound}
+use Rattle.remus.specs.Turn.{Turn, turnOf}
+use Rattle.remus.specs.Walk.{Input, Walks, no-turn as no-walk, and-then}
+use Rattle.remus.specs.Claim.{TurnClaim, Completed, turnsOf, memoryAfter, TurnOf, now, after, Grows, no-turn, completed, refused, Claim}
+use Rattle.remus.specs.declared.Turned.{Turned}
+use Rattle.remus.specs.declared.Turned.the-variants.{Done, Refused}
+use Rattle.remus.proofs.Once.{walked-once}
+
+-- what the machine makes of a turn
+abbrev pub resultOf : List ℕ → List ℕ → Input → Turn
+resultOf p w t = turnOf p w (t .readings) (t .sinkSpace)
+
+-- a turn on the words w: its claim, what it leaves, and by how much u has grown if it completes
+pub record TurnHolds (p w : List ℕ) (t : Input) : Type 0 where
+  pub claim : TurnClaim p w t
+  pub sound : Sound p (resultOf p w t .memory)
+  pub same-length : length (resultOf p w t .memory) ≡ length w
+  pub grows : (u : ℕ) → resultOf p w t .answer ≡ Done u → (k : ℕ) × Completed p w t k × (used (resultOf p w t .memory) ≡ used w + k)
+
+-- every turn on a sound image of n words
+abbrev pub EveryTurn : List ℕ → ℕ → Type 0
+EveryTurn p n = (w : List ℕ) (t : Input) → length w ≡ n → Sound p w → TurnHolds p w t
+
+-- the parts of the claim, from the words w on
+pub record From (p w : List ℕ) (ts : List Input) : Type 0 where
+  pub results : Walks p w ts (turnsOf p w ts)
+  pub every-turn : (v : List ℕ) (t : Input) → TurnOf p w ts v t → TurnClaim p v t
+  pub grown : (k : ℕ) × Grows p w ts k × (used (memoryAfter p w ts) ≡ used w + k)
+
+module _ (p : List ℕ) (n : ℕ) (each : EveryTurn p n) where
+  none-from : (w : List ℕ) → From p w []
+  unfolding turnsOf memoryAfter
+  none-from w = record { results = no-walk; every-turn = λ v t. elim [ ]; grown = (0, no-turn, omega arith) }
+
+  one-from : (w : List ℕ) (t : Input) (ts : List Input) → TurnHolds p w t → From p (resultOf p w t .memory) ts → From p w (t ∷ ts)
+  unfolding turnsOf memoryAfter
+  one-from w t ts h f = record { results = and-then (h .claim .result) (f .results); every-turn = λ v u. every; grown = by (resultOf p w t .answer) refl }
+    where
+      every : {v : List ℕ} {u : Input} → TurnOf p w (t ∷ ts) v u → TurnClaim p v u
+      every now = h .claim
+      every {v} {u} (after {r = r} q o) =
+          let e : r ≡ resultOf p w t = walked-once p w t r (resultOf p w t) q (h .claim .result) in
+          f .every-turn v u (subst (λ (x : Turn). TurnOf p (x .memory) ts v u) e o)
+
+      by : (a : Turned) → resultOf p w t .answer ≡ a → (k : ℕ) × Grows p w (t ∷ ts) k × (used (memoryAfter p (resultOf p w t .memory) ts) ≡ used w + k)
+      by (Done u) e =
+          let g = h .grows u e in
+          let k = f .grown in
+          (g .0 + k .0, completed (h .claim .result) e (g .1) (k .1), omega (arith, g .2, k .2))
+      by (Refused v) e =
+          let k = f .grown in
+          let same = h .claim .refused (resultOf p w t) v (h .claim .result) e .0 in
+          (k .0, refused (h .claim .result) e (k .1), k .2 ∙ ap (λ (x : List ℕ). used x + k .0) same)
+
+  all-from : (ts : List Input) (w : List ℕ) → length w ≡ n → Sound p w → From p w ts
+  all-from [] w e s = none-from w
+  all-from (t ∷ ts) w e s = let h = each w t e s in one-from w t ts h (all-from ts (resultOf p w t .memory) (h .same-length ∙ e) (h .sound))
+
+  pub lists : mainAt + sizeOf p (mainOf p) ≤ n → HeaderRule p → (ts : List Input) → Claim p n ts
+  lists room header ts =
+      let f = all-from ts (startedOf p n) (started-length p n room) (started-sound p n room header) in
+      record {
+        results = f .results;
+        every-turn = f .every-turn;
+        grown = (f .grown .0, f .grown .1, f .grown .2 ∙ ap (λ (x : ℕ). x + f .grown .0) (started-used p n room));
+      }

@@ -1,0 +1,197 @@
+-- One turn: from what holds inside it to its claim, and to what the list of turns needs of it.
+use Prim.Native.Nat.{ℕ, _+_, _-_, _≤_, _<_}
+use mathlib.Core.Path.{_≡_, refl, ap, sym, _∙_, subst}
+use mathlib.Core.Bool.{Bool, true, false}
+use mathlib.Core.Logic.{_≢_, _↔_}
+use mathlib.Core.List.{List}
+use native.Mathlib.Omega.{arith}
+use lib.ListN.{length}
+use Rattle.value.specs.Test.{guard}
+use Rattle.value.proofs.Tests.{goes}
+use Rattle.program.specs.Location.{sizeOf}
+use Rattle.load.specs.Check.{IsAccepted}
+use Rattle.load.specs.declared.Refusal.{Refusal}
+use Rattle.load.specs.declared.Refusal.the-variants.{ReadingsLength, Reading, SinkSpace, Clock, NoRoom, TooDeep}
+use Rattle.load.specs.Refusal.{refusalNumber}
+use Rattle.load.proofs.Exact.Ladder.{accepted-size}
+use Rattle.image.specs.Memory.{mostWords, used}
+use Rattle.image.specs.Sound.{Sound}
+use Rattle.image.specs.Passes.{sound, soundOf}
+use Rattle.image.specs.Start.{wordsLegal}
+use Rattle.image.proofs.Memory.Each.{in-below}
+use Rattle.image.proofs.Memory.Starting.{words-legal}
+use Rattle.remus.specs.Turn.{Turn, Asked, fine, asked, askedOf, turnOf, byCheck, bySound, byAsked, byRun, refused as refused-turn}
+use Rattle.remus.specs.Walk.{State, Input, Walked, refused, stopped, left}
+use Rattle.remus.specs.Claim.{During, Allocates, Leaves, Fit, Ends, completed, too-deep, no-room, TurnClaim, Completed}
+use Rattle.remus.specs.declared.Turned.the-variants.{Done, Refused}
+use Rattle.remus.proofs.Once.{walked-once}
+use Rattle.remus.proofs.Fits.{fits}
+use Rattle.remus.proofs.Sinks.{sinks-written}
+use Rattle.remus.proofs.Finished.{cleared, finished-length, finished-used}
+use Rattle.remus.proofs.Lists.{TurnHolds}
+use Rattle.remus.proofs.Inside.{Ending, leaves, stops, Stop, deep, full, Inside}
+
+-- ---- what 10 to 13 say
+
+guarded : {A : Type 0} (P : A → Type 0) (t : Bool) (bad : A) (more : Unit {0} → A) → P bad → P (more tt) → P (guard t bad more)
+unfolding guard
+guarded P true bad more a b = b
+guarded P false bad more a b = a
+
+asked-by : (p m rd sk : List ℕ) (P : Asked → Type 0) → P (asked (ReadingsLength (length rd))) → ((k : ℕ) → P (asked (Reading k)))
+    → ((n : ℕ) → P (asked (SinkSpace n))) → P (asked Clock) → P fine → P (askedOf p m rd sk)
+unfolding askedOf
+asked-by p m rd sk P a b c d e = guarded P _ _ _ a (guarded P _ _ _ (b _) (guarded P _ _ _ (c _) (guarded P _ _ _ d e)))
+
+-- neither 14 nor 15
+asked-number : (p m rd sk : List ℕ) (v : Refusal) → askedOf p m rd sk ≡ asked v → refusalNumber v ≤ 13
+asked-number p m rd sk v =
+    asked-by p m rd sk (λ a. a ≡ asked v → refusalNumber v ≤ 13) (λ e. let z : v ≡ ReadingsLength (length rd) = cc in rw z (omega arith))
+    (λ k e. let z : v ≡ Reading k = cc in rw z (omega arith)) (λ n e. let z : v ≡ SinkSpace n = cc in rw z (omega arith))
+    (λ e. let z : v ≡ Clock = cc in rw z (omega arith)) (λ e. let z : _≡_ {A = ℕ} 0 1 = cc in absurd (omega arith))
+
+-- ---- the turn's own ladder, on a sound image of an accepted program
+
+module _ (p w : List ℕ) (t : Input) (yes-program : IsAccepted p) (few : length w ≤ mostWords) (image : Sound p w) (judged : soundOf p w ≡ sound) where
+  abbrev rd : List ℕ
+  rd = t .readings
+
+  abbrev sk : List ℕ
+  sk = t .sinkSpace
+
+  pub turn-is : turnOf p w rd sk ≡ byAsked p w rd sk (askedOf p w rd sk)
+  unfolding turnOf byCheck bySound
+  turn-is =
+      let legal : wordsLegal (length w) ≡ true = words-legal p w .1 (omega (arith, image .fits, in-below p (image .main)), few) in
+      rw (accepted-size p yes-program) (sym (goes _ _ legal (rw judged refl)))
+
+  module _ (inside : Inside p w t) where
+    by-ending : askedOf p w rd sk ≡ fine → Ending p w t → Walked p w t (byAsked p w rd sk fine)
+    unfolding byAsked byRun refused-turn
+    by-ending e (leaves s l q) = rw q (left s e (l .during .comes) (l .empty))
+    by-ending e (stops s v m d k q) = rw q (stopped s e (d .comes) k)
+
+    by-asked : (a : Asked) → askedOf p w rd sk ≡ a → Walked p w t (byAsked p w rd sk a)
+    unfolding byAsked refused-turn
+    by-asked fine e = by-ending e (inside .walk-ends e)
+    by-asked (asked v) e = refused e
+
+    -- the walk's result is the machine's
+    result : Walked p w t (turnOf p w rd sk)
+    result = rw turn-is (by-asked (askedOf p w rd sk) refl)
+
+    -- where the walk stops, and where main leaves, the result is known
+    stop-answer : (r : Turn) (s : State) (v : Refusal) → Walked p w t r → Stop p w t s v → During p w t s → r .answer ≡ Refused v
+    stop-answer r s v q k d = ap (λ (x : Turn). x .answer) (walked-once p w t r _ q (stopped s (d .allowed) (d .comes) (inside .stopped-by s v k)))
+
+    leave-answer : (r : Turn) (s : State) → Walked p w t r → Leaves p w t s → r .answer ≡ Done (used (s .words))
+    leave-answer r s q l = ap (λ (x : Turn). x .answer) (walked-once p w t r _ q (left s (l .during .allowed) (l .during .comes) (l .empty)))
+
+    ends : (r : Turn) → Fit p w t → Walked p w t r → Ends p w t r
+    ends r f (refused e) = absurd (let a = fits p w t .0 f in let z : _≡_ {A = ℕ} 0 1 = cc in omega arith)
+    ends r f (stopped {w = v} s e q k) = by (inside .stopping s v (record { allowed = e; comes = q }) k)
+      where
+        by : {v : Refusal} → Stop p w t s v → Ends p w t (record { answer = Refused v; memory = w; sinkSpace = sk })
+        by (deep {q} m o c a b d) = too-deep q refl
+        by (full {q} m o c a b d g) = no-room q refl
+    ends r f (left s e q k) =
+        let l : Leaves p w t s = record { during = record { allowed = e; comes = q }; empty = k } in
+        completed s l refl (sinks-written p w t s (f .room) (inside .written s l))
+
+    -- a turn that 10 to 13 refuse ends neither with 14 nor with 15
+    asked-low : (v : Refusal) → 14 ≤ refusalNumber v → askedOf p w rd sk ≡ asked v → ⊥
+    asked-low v h e = omega (arith, asked-number p w rd sk v e)
+
+    abbrev TooDeepAt : ℕ → Type 0
+    TooDeepAt q = (h : ℕ) × (m : List ℕ) × Allocates p w t q h m × (h + 1 ≡ 65)
+
+    abbrev NoRoomAt : ℕ → Type 0
+    NoRoomAt q = (h : ℕ) × (m : List ℕ) × Allocates p w t q h m × (h + 1 ≢ 65) × (length w - used m < sizeOf p q)
+
+    -- what a stop with v says of v
+    abbrev Said : Refusal → Type 0
+    Said v = ((q : ℕ) → v ≡ TooDeep q → TooDeepAt q) × ((q : ℕ) → v ≡ NoRoom q → NoRoomAt q)
+
+    said : (s : State) (v : Refusal) → Stop p w t s v → Said v
+    said s v (deep {q} m o c a b d) = (
+      λ k e. let z : q ≡ k = cc in subst TooDeepAt z (length (s .pile), m, record { state = s; owner = o; command = c; point = a; is = b; height = refl }, d),
+      λ k e. let z : _≡_ {A = ℕ} 0 1 = cc in absurd (omega arith),
+    )
+    said s v (full {q} m o c a b d g) = (
+      λ k e. let z : _≡_ {A = ℕ} 0 1 = cc in absurd (omega arith),
+      λ k e. let z : q ≡ k = cc in subst NoRoomAt z (length (s .pile), m, record { state = s; owner = o; command = c; point = a; is = b; height = refl }, d, g),
+    )
+
+    -- what a result with the answer v says of v
+    says : (r : Turn) → Walked p w t r → (v : Refusal) → 14 ≤ refusalNumber v → r .answer ≡ Refused v → Said v
+    says r (refused {w = x} e) v h q = let z : v ≡ x = cc in absurd (asked-low v h (rw z e))
+    says r (stopped {w = x} s e q k) v h a = let z : x ≡ v = cc in subst Said z (said s x (inside .stopping s x (record { allowed = e; comes = q }) k))
+    says r (left s e q k) v h a = let z : _≡_ {A = ℕ} 0 1 = cc in absurd (omega arith)
+
+    deep-ends : (r : Turn) (q : ℕ) → Walked p w t r → (r .answer ≡ Refused (TooDeep q)) ↔ TooDeepAt q
+    deep-ends r q k = (
+      λ e. says r k (TooDeep q) (omega arith) e .0 q refl,
+      λ h.
+          let a = h .2 in
+          stop-answer r (a .state) (TooDeep q) k (deep (h .1) (a .owner) (a .command) (a .point) (a .is) (rw (a .height) (h .3))) (a .point .during),
+    )
+
+    full-ends : (r : Turn) (q : ℕ) → Walked p w t r → (r .answer ≡ Refused (NoRoom q)) ↔ NoRoomAt q
+    full-ends r q k = (
+      λ e. says r k (NoRoom q) (omega arith) e .1 q refl,
+      λ h.
+          let a = h .2 in
+          stop-answer r (a .state) (NoRoom q) k (full (h .1) (a .owner) (a .command) (a .point) (a .is) (rw (a .height) (h .3)) (h .4)) (a .point .during),
+    )
+
+    left-with : (r : Turn) (u : ℕ) → Walked p w t r → r .answer ≡ Done u → (s : State) × Leaves p w t s × (used (s .words) ≡ u)
+    left-with r u (refused e) a = let z : _≡_ {A = ℕ} 0 1 = cc in absurd (omega arith)
+    left-with r u (stopped s e q k) a = let z : _≡_ {A = ℕ} 0 1 = cc in absurd (omega arith)
+    left-with r u (left s e q k) a = (s, record { during = record { allowed = e; comes = q }; empty = k }, cc)
+
+    as-at-entry : (r : Turn) (v : Refusal) → Walked p w t r → r .answer ≡ Refused v → (r .memory ≡ w) × (r .sinkSpace ≡ sk)
+    as-at-entry r v (refused e) a = (refl, refl)
+    as-at-entry r v (stopped s e q k) a = (refl, refl)
+    as-at-entry r v (left s e q k) a = let z : _≡_ {A = ℕ} 0 1 = cc in absurd (omega arith)
+
+    pub turn-claim : TurnClaim p w t
+    turn-claim =
+        record {
+          result = result;
+          carried = inside .carried;
+          values = inside .values;
+          ends = ends;
+          deep = deep-ends;
+          full = full-ends;
+          complete = λ r u k. (left-with r u k, λ h. leave-answer r (h .0) k (h .1) ∙ ap Done (h .2));
+          refused = as-at-entry;
+        }
+
+    -- ---- what the turn leaves
+
+    -- what a result leaves: a sound image as long as before, with u grown by what was allocated if the turn completes
+    pub record Left (r : Turn) : Type 0 where
+      pub sound-image : Sound p (r .memory)
+      pub same-length : length (r .memory) ≡ length w
+      pub grows : (u : ℕ) → r .answer ≡ Done u → (k : ℕ) × Completed p w t k × (used (r .memory) ≡ used w + k)
+
+    leaves-sound : (r : Turn) → Walked p w t r → Left r
+    leaves-sound r (refused e) =
+        record { sound-image = image; same-length = refl; grows = λ u a. let z : _≡_ {A = ℕ} 0 1 = cc in absurd (omega arith) }
+    leaves-sound r (stopped s e q k) =
+        record { sound-image = image; same-length = refl; grows = λ u a. let z : _≡_ {A = ℕ} 0 1 = cc in absurd (omega arith) }
+    leaves-sound r (left s e q k) =
+        let d : During p w t s = record { allowed = e; comes = q } in
+        let l : Leaves p w t s = record { during = d; empty = k } in
+        let h = inside .whole s l in
+        let g = inside .made s d in
+        record {
+          sound-image = cleared p (s .words) h (omega (arith, inside .same-turns s d, fits p w t .1 e .clock));
+          same-length = finished-length p (s .words) h ∙ inside .same-length s d;
+          grows = λ u a. (g .0, record { state = s; leaves = l; made = g .1 }, finished-used p (s .words) h ∙ g .2);
+        }
+
+    pub turn-holds : TurnHolds p w t
+    turn-holds =
+        let l = leaves-sound (turnOf p w rd sk) result in
+        record { claim = turn-claim; sound = l .sound-image; same-length = l .same-length; grows = l .grows }

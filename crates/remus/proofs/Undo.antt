@@ -1,0 +1,14 @@
+-- Undoing: what a run never breaks, whatever the readings, and how a refused turn's words are brought back from it. Assumes nothing.
+pub mod Search
+pub mod Firm
+pub mod Keeping
+pub mod Writes
+pub mod Growing
+pub mod Choices
+pub mod Effects
+pub mod Declares
+pub mod Runs
+pub mod Entry
+pub mod Back
+pub mod Heads
+pub mod Undoing

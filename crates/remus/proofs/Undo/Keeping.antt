@@ -1,0 +1,129 @@
+-- A change of memory that writes, makes and wires no more than is allowed keeps what is firm, and is later.
+use Prim.Native.Nat.{ℕ, _≤_, _<_}
+use mathlib.Core.Path.{_≡_, sym, _∙_}
+use mathlib.Core.Logic.{_⊎_, inl, inr, _≢_}
+use mathlib.Core.List.{List}
+use native.Mathlib.Omega.{arith}
+use Rattle.value.specs.Value.{blank, deploymentMark}
+use Rattle.program.specs.Bytes.{declared, commandsIn}
+use Rattle.program.specs.Command.{allocMono, makePoly}
+use Rattle.program.specs.Location.{locations}
+use Rattle.program.specs.Kind.{kindOf, OfKind}
+use Rattle.image.specs.Memory.{used, reactor, wired, mark, content, valueAt}
+use Rattle.image.specs.Sound.{Deployed, PointSlot}
+use Rattle.image.proofs.Memory.Changes.{Same, Change, same-value, value-mark}
+use Rattle.image.proofs.Memory.Slots.{point-kept}
+use Rattle.remus.proofs.Walk.Locations.{D-inside}
+use Rattle.remus.proofs.Walk.Operands.{operand-inside}
+use Rattle.remus.proofs.Undo.Search.{Newer, as-was}
+use Rattle.remus.proofs.Walk.Story.{own, cmd}
+use Rattle.remus.proofs.Undo.Firm.{Holds, Held, Kinded, Firm, Later}
+
+module _ (p : List ℕ) where
+  -- what a change may do to what is firm
+  pub record Allowed (W : ℕ → ℕ → Type 0) (N L : ℕ → Type 0) (m m′ : List ℕ) : Type 0 where
+    -- a new deployment is unwired, its slots blank
+    pub raw : (d : ℕ) → N d → wired m′ d ≡ 0
+    pub blank-slots : (d l : ℕ) → N d → l < locations p (reactor m′ d) → valueAt p m′ d l ≡ blank
+    -- a branch point that is written, or whose deployment is wired, heads a chain
+    pub points : (o j x : ℕ) → Deployed p m o → j < declared p (reactor m o) → cmd p m o j ≡ makePoly x → W o (own p m o j) ⊎ L o → wired m′ o ≢ 0
+        → PointSlot p m′ o (own p m o j) x
+    pub held : (o s b : ℕ) → Deployed p m o → Holds p m o s b → W o b → mark p m′ o b ≡ deploymentMark → Held p m′ o s b
+    pub kinds : (d l : ℕ) → Deployed p m d → l < locations p (reactor m d) → W d l → 2 ≤ kindOf p (reactor m d) l
+        → OfKind p (kindOf p (reactor m d) l) (valueAt p m′ d l)
+
+  module _ {W : ℕ → ℕ → Type 0} {N L : ℕ → Type 0} {m m′ : List ℕ} (f : Firm p m) (c : Change p W N L m m′) (a : Allowed W N L m m′) where
+    points′ : (o j x : ℕ) → Deployed p m′ o → wired m′ o ≢ 0 → j < declared p (reactor m′ o) → cmd p m′ o j ≡ makePoly x → PointSlot p m′ o (own p m′ o j) x
+    points′ o j x i w h e = by (c .back o i)
+      where
+        by : Deployed p m o ⊎ N o → PointSlot p m′ o (own p m′ o j) x
+        by (inr n) = absurd (w (a .raw o n))
+        by (inl t) = rw r (side (c .slots o (own p m o j) t (D-inside p (reactor m o) j h′)) (c .wireds o t))
+          where
+            r : reactor m′ o ≡ reactor m o
+            r = c .reactors o t
+
+            h′ : j < declared p (reactor m o)
+            h′ = rw r at h
+
+            e′ : cmd p m o j ≡ makePoly x
+            e′ = rw r at e
+
+            side : Same p m m′ o (own p m o j) ⊎ W o (own p m o j) → (wired m′ o ≡ wired m o) ⊎ L o → PointSlot p m′ o (own p m o j) x
+            side (inl z) (inl y) = point-kept p c z (f .points o j x t (rw y at w) h′ e′)
+            side (inl z) (inr y) = a .points o j x t h′ e′ (inr y) w
+            side (inr z) y = a .points o j x t h′ e′ (inl z) w
+
+    held-kept : (o s b : ℕ) → Same p m m′ o b → Held p m o s b → Held p m′ o s b
+    held-kept o s b z k = record { deployed = rw (z .contents) (c .kept _ (k .deployed)); shape = rw (z .contents, c .reactors (content p m o b) (k .deployed)) (k .shape) }
+
+    held′ : (o s b : ℕ) → Deployed p m′ o → Holds p m′ o s b → mark p m′ o b ≡ deploymentMark → Held p m′ o s b
+    held′ o s b i h e = by (c .back o i)
+      where
+        by : Deployed p m o ⊎ N o → Held p m′ o s b
+        by (inr n) =
+            let inside = operand-inside p (reactor m′ o) (commandsIn p (reactor m′ o)) s b (omega arith) h in
+            absurd (omega (arith, value-mark p m′ o b (a .blank-slots o b n inside)))
+        by (inl t) = side (c .slots o b t (operand-inside p (reactor m o) (commandsIn p (reactor m o)) s b (omega arith) h′))
+          where
+            h′ : Holds p m o s b
+            h′ = rw (c .reactors o t) at h
+
+            side : Same p m m′ o b ⊎ W o b → Held p m′ o s b
+            side (inl z) = held-kept o s b z (f .held o s b t h′ (sym (z .marks) ∙ e))
+            side (inr z) = a .held o s b t h′ z e
+
+    kinds′ : (d l : ℕ) → Deployed p m′ d → l < locations p (reactor m′ d) → Kinded p m′ d l
+    kinds′ d l i h k = by (c .back d i)
+      where
+        by : Deployed p m d ⊎ N d → OfKind p (kindOf p (reactor m′ d) l) (valueAt p m′ d l)
+        by (inr n) = inl (a .blank-slots d l n h)
+        by (inl t) = rw r (side (c .slots d l t (rw r at h)))
+          where
+            r : reactor m′ d ≡ reactor m d
+            r = c .reactors d t
+
+            side : Same p m m′ d l ⊎ W d l → OfKind p (kindOf p (reactor m d) l) (valueAt p m′ d l)
+            side (inl z) = rw (same-value p d l z) (f .kinds d l t (rw r at h) (rw r at k))
+            side (inr z) = a .kinds d l t (rw r at h) z (rw r at k)
+
+    pub firm-kept : Firm p m′
+    firm-kept = record { good = c .good; points = points′; held = held′; kinds = kinds′ }
+
+  module _ {W : ℕ → ℕ → Type 0} {N L : ℕ → Type 0} {m m′ : List ℕ} (c : Change p W N L m m′) where
+    -- a change is later if it wires to 1, and writes of wired deployments no AllocMono's slot, and branch points so that they gain new members only
+    pub later-by : used m ≤ used m′ → ((d : ℕ) → L d → wired m′ d ≡ 1)
+        → ((d j x : ℕ) → Deployed p m d → wired m d ≢ 0 → j < declared p (reactor m d) → cmd p m d j ≡ allocMono x → W d (own p m d j) → ⊥)
+        → ((d j x : ℕ) → Deployed p m d → wired m d ≢ 0 → j < declared p (reactor m d) → cmd p m d j ≡ makePoly x → W d (own p m d j)
+        → (mark p m′ d (own p m d j) ≡ mark p m d (own p m d j)) × Newer p m′ (used m) (content p m d (own p m d j)) (content p m′ d (own p m d j)))
+        → Later p m m′
+    later-by grows wiring mono-spared point-grows =
+        record {
+          len = c .len;
+          clock = c .clock;
+          grows = grows;
+          kept = c .kept;
+          reactors = c .reactors;
+          nexts = c .nexts;
+          wireds = λ d i. wire d (c .wireds d i);
+          monos = λ d j x i w h e. spared d j x i w h e (c .slots d (own p m d j) i (inside d j h));
+          points = λ d j x i w h e. grown d j x i w h e (c .slots d (own p m d j) i (inside d j h));
+        }
+      where
+        inside : (d j : ℕ) → j < declared p (reactor m d) → own p m d j < locations p (reactor m d)
+        inside d j h = D-inside p (reactor m d) j h
+
+        wire : (d : ℕ) → (wired m′ d ≡ wired m d) ⊎ L d → (wired m′ d ≡ wired m d) ⊎ (wired m′ d ≡ 1)
+        wire d (inl e) = inl e
+        wire d (inr l) = inr (wiring d l)
+
+        spared : (d j x : ℕ) → Deployed p m d → wired m d ≢ 0 → j < declared p (reactor m d) → cmd p m d j ≡ allocMono x
+            → Same p m m′ d (own p m d j) ⊎ W d (own p m d j) → Same p m m′ d (own p m d j)
+        spared d j x i w h e (inl z) = z
+        spared d j x i w h e (inr z) = absurd (mono-spared d j x i w h e z)
+
+        grown : (d j x : ℕ) → Deployed p m d → wired m d ≢ 0 → j < declared p (reactor m d) → cmd p m d j ≡ makePoly x
+            → Same p m m′ d (own p m d j) ⊎ W d (own p m d j)
+            → (mark p m′ d (own p m d j) ≡ mark p m d (own p m d j)) × Newer p m′ (used m) (content p m d (own p m d j)) (content p m′ d (own p m d j))
+        grown d j x i w h e (inl z) = (z .marks, rw (z .contents) as-was)
+        grown d j x i w h e (inr z) = point-grows d j x i w h e z

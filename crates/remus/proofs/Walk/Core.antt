@@ -1,0 +1,208 @@
+-- One turn of an accepted program on a sound image, for any readings and sink space: every state of its walk has the invariant (`holds`); at each point
+-- the next command can be carried out (`carried`) and reads well (`values`); the walk ends, as the recursive run does (`walk-ends`); a step stops at an
+-- allocation that is too deep or has no room, and only there (`stops`, `stops-deep`, `stops-full`); as main leaves, its sinks are noted (`written`) and
+-- the image is whole (`whole`); the used words grow by what is allocated (`made`).
+use Prim.Native.Nat.{ℕ, _+_, _-_, _≤_, _<_}
+use mathlib.Core.Path.{_≡_, refl, sym, _∙_, ap, subst}
+use mathlib.Core.List.{List, [], _∷_}
+use mathlib.Core.Logic.{_⊎_, inl, inr, _≢_}
+use native.Mathlib.Omega.{arith}
+use lib.ListN.{length}
+use Rattle.program.specs.Bytes.{mainOf, commandsIn}
+use Rattle.program.specs.Command.{Cmd}
+use Rattle.program.specs.Location.{sinks, sinkLoc, sizeOf}
+use Rattle.load.specs.Rules.{Rules}
+use Rattle.load.specs.declared.Refusal.{Refusal}
+use Rattle.load.specs.declared.Refusal.the-variants.{NoRoom, TooDeep}
+use Rattle.image.specs.Memory.{mostDepth, mainAt, used, turns, reactor}
+use Rattle.image.specs.Sound.{Sound}
+use Rattle.image.specs.Whole.{Whole}
+use Rattle.remus.specs.Run.{Ran, ran, stopped, mainRun}
+use Rattle.remus.specs.Turn.{fine, askedOf}
+use Rattle.remus.specs.Walk.{Note, location, Frame, State, Next, go, stop, over, step, Reach, stay, on, begun, Input}
+use Rattle.remus.specs.Point.{_∈_, Can, ReadsWell, Allocation, Makes, Made, stay as none-made, on as and-made}
+use Rattle.remus.specs.Claim.{During, Point, Allocates, Leaves}
+use Rattle.remus.proofs.Walk.Facts.{Facts, facts}
+use Rattle.remus.proofs.Walk.Story.{cmd}
+use Rattle.remus.proofs.Walk.Pile.{frame, state, Inv}
+use Rattle.remus.proofs.Walk.Moves.{ready-kept}
+use Rattle.remus.proofs.Walk.Outcome.{Stopping, deep, full}
+use Rattle.remus.proofs.Walk.Walking.{Legal, Stops, Comes, same-point, one-allocation, step-outcome}
+use Rattle.remus.proofs.Walk.Readings.{globals-legal}
+use Rattle.remus.proofs.Walk.Begin as Begin
+use Rattle.remus.proofs.Walk.End.{sinks-noted, whole-end}
+use Rattle.remus.proofs.Walk.Points.{can-here, reads-here}
+use Rattle.remus.proofs.Walk.Meets.{Meets, reached, run-meets}
+
+-- p the program, w the words before the turn, t what it brings
+module _ (p : List ℕ) (rules : Rules p) (w : List ℕ) (few : length w ≤ 16384) (sound : Sound p w) (t : Input) where
+  known : Facts p
+  known = facts p rules
+
+  -- ---- the invariant
+
+  pub begun-holds : Inv p w (begun p w)
+  begun-holds = Begin.begun-holds p known w sound
+
+  module _ (allowed : askedOf p w (t .readings) (t .sinkSpace) ≡ fine) where
+    legal : Legal p (t .readings)
+    legal = globals-legal p w (t .readings) (t .sinkSpace) allowed
+
+    pub step-comes : (s : State) → Inv p w s → Comes p w s (step p (t .readings) s)
+    step-comes s v = step-outcome p known (t .readings) legal s v
+
+    pub step-keeps : {s s′ : State} → Inv p w s → step p (t .readings) s ≡ go s′ → Inv p w s′
+    step-keeps {s} {s′} v e = let c : Comes p w s (go s′) = rw e at (step-comes s v) in c .0
+
+  pub holds : {s : State} → During p w t s → Inv p w s
+  holds d = reached p (t .readings) known (legal (d .allowed)) begun-holds (d .comes) .0
+
+  pub same-length : (s : State) → During p w t s → length (s .words) ≡ length w
+  same-length s d = holds d .len
+
+  pub same-clock : (s : State) → During p w t s → turns (s .words) ≡ turns w
+  same-clock s d = holds d .clock
+
+  -- ---- points
+
+  -- the invariant on the words before the next command
+  record At (m : List ℕ) (o : ℕ) (c : Cmd) (ns : List Note) : Type 0 where
+    index : ℕ
+    lower : List Frame
+    inv : Inv p w (state m (frame o index ∷ lower) ns)
+    less : index < commandsIn p (reactor m o)
+    is : cmd p m o index ≡ c
+
+  at : (s : State) (m : List ℕ) (o : ℕ) (c : Cmd) → Point p w t s m o c → At m o c (s .notes)
+  at s m o c q =
+      let b = q .before in
+      let v = subst (λ (fs : List Frame). Inv p w (state (s .words) fs (s .notes))) (b .top) (holds (q .during)) in
+      let r = ready-kept p known v (b .goes-on) in
+      subst (λ (x : List ℕ). At x o c (s .notes)) (b .wiring)
+      (record { index = b .index; lower = b .lower; inv = r .inv; less = rw (r .same) (b .goes-on); is = rw (r .same) (b .is) })
+
+  pub carried : (s : State) (m : List ℕ) (o : ℕ) (c : Cmd) → Point p w t s m o c → Can p m (s .notes) o c
+  carried s m o c q = let a = at s m o c q in can-here p known (a .inv) (a .less) c (a .is)
+
+  pub values : (s : State) (m : List ℕ) (o : ℕ) (c : Cmd) → Point p w t s m o c → ReadsWell p m (s .notes) o (t .readings) c
+  values s m o c q =
+      let a = at s m o c q in reads-here p known (a .inv) (a .less) (t .readings) (legal (q .during .allowed)) c (a .is)
+
+  -- ---- main leaves
+
+  left : {s : State} → Leaves p w t s → Inv p w (state (s .words) [] (s .notes))
+  left {s} l = subst (λ (fs : List Frame). Inv p w (state (s .words) fs (s .notes))) (l .empty) (holds (l .during))
+
+  pub written : (s : State) → Leaves p w t s → (x : ℕ) → x < sinks p (mainOf p) → location mainAt (sinkLoc p (mainOf p) x) ∈ s .notes
+  written s l = sinks-noted p known (left l)
+
+  pub whole : (s : State) → Leaves p w t s → Whole p (s .words)
+  whole s l = whole-end p known (left l)
+
+  -- ---- the walk's end, and the run's
+
+  pub walk-ends : askedOf p w (t .readings) (t .sinkSpace) ≡ fine →
+      ((s : State) × Leaves p w t s × (mainRun p (t .readings) w ≡ ran (s .words)))
+      ⊎ ((s : State) × (v : Refusal) × (m : List ℕ) × During p w t s × (step p (t .readings) s ≡ stop v) × (mainRun p (t .readings) w ≡ stopped v m))
+  unfolding mainRun begun
+  walk-ends f = by (mainRun p (t .readings) w) refl (run-meets p (t .readings) known (legal f) mostDepth 1 w mainAt [] [] begun-holds refl (omega arith))
+    where
+      by : (r : Ran) → mainRun p (t .readings) w ≡ r → Meets p (t .readings) (begun p w) [] r →
+          ((s : State) × Leaves p w t s × (mainRun p (t .readings) w ≡ ran (s .words)))
+          ⊎ ((s : State) × (v : Refusal) × (m : List ℕ) × During p w t s × (step p (t .readings) s ≡ stop v) × (mainRun p (t .readings) w ≡ stopped v m))
+      by (ran m) e k = inl (state m [] (k .0), record { during = record { allowed = f; comes = k .1 }; empty = refl }, e)
+      by (stopped v m) e k = inr (k .0, v, m, record { allowed = f; comes = k .1 }, k .2, e)
+
+  -- ---- stops
+
+  -- the turn ends with v at an allocation of q: too deep, or without room
+  abbrev pub Refused : Refusal → ℕ → ℕ → List ℕ → Type 0
+  Refused v q h m = ((v ≡ TooDeep q) × (h + 1 ≡ 65)) ⊎ ((v ≡ NoRoom q) × (h + 1 ≢ 65) × (length w - used m < sizeOf p q))
+
+  ready-length : (s : State) (m : List ℕ) (o : ℕ) (c : Cmd) → Point p w t s m o c → length m ≡ length w
+  ready-length s m o c q = at s m o c q .inv .len
+
+  pub stops : (s : State) (v : Refusal) → During p w t s → step p (t .readings) s ≡ stop v →
+      (q : ℕ) × (h : ℕ) × (m : List ℕ) × (a : Allocates p w t q h m) × (a .state ≡ s) × Refused v q h m
+  stops s v d e = by x (x .why) refl
+    where
+      x : Stops p s v
+      x = let c : Comes p w s (stop v) = rw e at (step-comes (d .allowed) s (holds d)) in c
+
+      allocates : (k : Stops p s v) (q : ℕ) → Allocation p (k .words) (k .owner) (k .command) q → Allocates p w t q (length (s .pile)) (k .words)
+      allocates k q a =
+          record {
+            state = s;
+            owner = k .owner;
+            command = k .command;
+            point = record { during = d; before = k .before };
+            is = a;
+            height = refl;
+          }
+
+      by : (k : Stops p s v) {y : Refusal} → Stopping p (k .words) (length (s .pile)) (k .owner) (k .command) y → y ≡ v →
+          (q : ℕ) × (h : ℕ) × (m : List ℕ) × (a : Allocates p w t q h m) × (a .state ≡ s) × Refused v q h m
+      by k (deep q a l) z = (q, length (s .pile), k .words, allocates k q a, refl, inl (sym z, l))
+      by k (full q a n l) z =
+          let g = ready-length s (k .words) (k .owner) (k .command) (record { during = d; before = k .before }) in
+          (q, length (s .pile), k .words, allocates k q a, refl, inr (sym z, n, rw (← g) l))
+
+  -- what an allocation that is too deep, or without room, makes of the step
+  stops-as : (q h : ℕ) (m : List ℕ) (a : Allocates p w t q h m) (v : Refusal) → Refused v q h m → step p (t .readings) (a .state) ≡ stop v
+  stops-as q h m a v r = by (step p (t .readings) (a .state)) refl (step-comes (a .point .during .allowed) (a .state) (holds (a .point .during)))
+    where
+      g : length m ≡ length w
+      g = ready-length (a .state) m (a .owner) (a .command) (a .point)
+
+      roomy : (length (a .state .pile) + 1 ≢ 65) × (sizeOf p q ≤ length m - used m) → Refused v q h m → ⊥
+      roomy k (inl z) = k .0 (let y = a .height in omega (arith, z .1))
+      roomy k (inr z) = let y = g in omega (arith, k .1, z .2)
+
+      same : {y : Refusal} (k : Stops p (a .state) y) {z : Refusal} → Stopping p (k .words) (length (a .state .pile)) (k .owner) (k .command) z →
+          Refused v q h m → z ≡ v
+      same k (deep q′ b l) (inl z) =
+          let e = same-point (k .before) (a .point .before) in
+          let e₀ = e .0 in
+          let e₁ = e .1 in
+          let e₂ = e .2 in
+          let n : q′ ≡ q = one-allocation (rw (e₀, e₁, e₂) at b) (a .is) in
+          rw n (sym (z .0))
+      same k (deep q′ b l) (inr z) = absurd (z .1 (let y = a .height in omega arith))
+      same k (full q′ b n l) (inl z) = absurd (n (let y = a .height in omega (arith, z .1)))
+      same k (full q′ b n l) (inr z) =
+          let e = same-point (k .before) (a .point .before) in
+          let e₀ = e .0 in
+          let e₁ = e .1 in
+          let e₂ = e .2 in
+          let f : q′ ≡ q = one-allocation (rw (e₀, e₁, e₂) at b) (a .is) in
+          rw f (sym (z .0))
+
+      by : (n : Next) → step p (t .readings) (a .state) ≡ n → Comes p w (a .state) n → step p (t .readings) (a .state) ≡ stop v
+      by (go s) e c = absurd (roomy (c .3 m (a .owner) q (a .command) (a .point .before) (a .is)) r)
+      by (stop y) e c = e ∙ ap stop (same c (c .why) r)
+      by (over s) e c = let f = a .point .before .top in let z : _≡_ {A = ℕ} 0 1 = cc in absurd (omega arith)
+
+  pub stops-deep : (q h : ℕ) (m : List ℕ) (a : Allocates p w t q h m) → h + 1 ≡ 65 → step p (t .readings) (a .state) ≡ stop (TooDeep q)
+  stops-deep q h m a l = stops-as q h m a (TooDeep q) (inl (refl, l))
+
+  pub stops-full : (q h : ℕ) (m : List ℕ) (a : Allocates p w t q h m) → h + 1 ≢ 65 → length w - used m < sizeOf p q →
+      step p (t .readings) (a .state) ≡ stop (NoRoom q)
+  stops-full q h m a n l = stops-as q h m a (NoRoom q) (inr (refl, n, l))
+
+  -- ---- what is allocated
+
+  pub made : (s : State) → During p w t s → (k : ℕ) × Made p (t .readings) (begun p w) s k × (used (s .words) ≡ used w + k)
+  unfolding begun
+  made s d = by (d .comes)
+    where
+      by : {x : State} → Reach p (t .readings) (begun p w) x → (k : ℕ) × Made p (t .readings) (begun p w) x k × (used (x .words) ≡ used w + k)
+      by stay = (0, none-made, omega arith)
+      by (on {t = y} {u = z} r e) = more (by r) (c .2 .0) (c .2 .1) (c .2 .2)
+        where
+          c : Comes p w y (go z)
+          c = rw e at (step-comes (d .allowed) y (holds (record { allowed = d .allowed; comes = r })))
+
+          more : (k : ℕ) × Made p (t .readings) (begun p w) y k × (used (y .words) ≡ used w + k) → (j : ℕ) → Makes p y j →
+              used (z .words) ≡ used (y .words) + j →
+              (k : ℕ) × Made p (t .readings) (begun p w) z k × (used (z .words) ≡ used w + k)
+          more q j n l = let f = q .2 in (q .0 + j, and-made (q .1) e n, omega arith)

@@ -1,0 +1,27 @@
+-- What the rules give of each reactor, as the walk's proofs use it.
+use Prim.Native.Nat.{ℕ, _<_}
+use mathlib.Core.Path.{_≡_}
+use mathlib.Core.List.{List}
+use native.Mathlib.Omega.{arith}
+use Rattle.program.specs.Bytes.{reactors, mainOf, declared, commandsIn}
+use Rattle.program.specs.Location.{sources}
+use Rattle.load.specs.Rules.{Rules}
+use Rattle.load.proofs.Exact.Static.{Static, Single}
+use Rattle.load.proofs.Exact.Deduced.{all-static}
+use Rattle.load.proofs.Exact.Bounds.{main-last}
+
+pub record Facts (p : List ℕ) : Type 0 where
+  pub static : (r : ℕ) → r < reactors p → Static p r × Single p r
+  pub running-some : (r : ℕ) → r < reactors p → declared p r < commandsIn p r
+  pub main-low : mainOf p < reactors p
+  pub main-bare : sources p (mainOf p) ≡ 0
+
+pub facts : (p : List ℕ) → Rules p → Facts p
+unfolding commandsIn
+facts p u =
+    record {
+      static = all-static p u;
+      running-some = λ r h. let q = u .entries r h .some-running in omega arith;
+      main-low = main-last (u .header);
+      main-bare = u .main .no-sources;
+    }

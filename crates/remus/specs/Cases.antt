@@ -1,0 +1,124 @@
+-- The starred bench cases of 01, and the toggle's, as one table with a single claim: what each row asks, the definitions answer as
+-- the row says.
+use Prim.Native.Nat.{ℕ, zero, suc}
+use mathlib.Core.Path.{_≡_, refl}
+use mathlib.Core.List.{List, [], _∷_, _++_}
+use lib.ListN.{replicate, take, set}
+use lib.IntN.{ℤ, pos, negsuc}
+use Rattle.value.specs.Test.{pick, _=?_}
+use Rattle.value.specs.Value.{blank, number}
+use Rattle.value.specs.Primitive.{primitive}
+use Rattle.value.specs.declared.Value.{Value}
+use Rattle.load.specs.Cases.{clock, nest, toggle}
+use Rattle.load.specs.Check as Check
+use Rattle.image.specs.Memory.{word, used}
+use Rattle.image.specs.Start as Start
+use Rattle.image.specs.Start.{startOf}
+use Rattle.load.specs.Refusal.{refusalNumber, refusalPlace}
+use Rattle.remus.specs.Turn.{Turn, turnOf, numberOf, placeOf}
+use Rattle.remus.specs.Run.{Ran, ran, stopped, mainRun}
+use Rattle.remus.specs.Undo.{undoOf}
+use Rattle.remus.specs.Walk.{Next, go, stop, over, steps, begun}
+use Rattle.remus.specs.Open.{opened}
+
+-- ---- the table
+
+pub data Ask : Type 0 where
+  checks : (p : List ℕ) → Ask  -- number, place
+  starts : (p : List ℕ) (n : ℕ) → Ask  -- number, place
+  turns : (count : ℕ) (p : List ℕ) (n : ℕ) (readings sinks : List ℕ) → Ask  -- after a start with n words, of each turn: number, place, word 1, sink words
+  walks : (p : List ℕ) (n : ℕ) (readings : List ℕ) → Ask  -- after a start, how the walk's first turn ends: number, place
+  undoes : (count : ℕ) (p : List ℕ) (n : ℕ) (readings sinks : List ℕ) → Ask  -- after that many turns, a run that stops: 1 if undoOf brings every word back
+  primitive-of : (x : ℕ) (a b : Value) → Ask  -- mark, content
+
+pub record Row : Type 0 where
+  pub ask : Ask
+  pub answer : List ℕ
+
+abbrev shown : Turn → List ℕ
+shown t = numberOf (t .answer) ∷ placeOf (t .answer) ∷ word (t .memory) 1 ∷ t .sinkSpace
+
+-- so many turns, one after the other on the memory that the one before left
+unfoldable pub after : ℕ → List ℕ → List ℕ → List ℕ → List ℕ → List ℕ
+after zero p m rd sk = []
+after (suc k) p m rd sk = let t = turnOf p m rd sk in shown t ++ after k p (t .memory) rd sk
+
+-- the memory after so many turns
+unfoldable pub memoryOf : ℕ → List ℕ → List ℕ → List ℕ → List ℕ → List ℕ
+memoryOf zero p m rd sk = m
+memoryOf (suc k) p m rd sk = memoryOf k p (turnOf p m rd sk .memory) rd sk
+
+unfoldable pub same : List ℕ → List ℕ → ℕ
+same [] [] = 1
+same [] (x ∷ xs) = 0
+same (x ∷ xs) [] = 0
+same (x ∷ xs) (y ∷ ys) = pick (x =? y) (same xs ys) 0
+
+abbrev undone : List ℕ → List ℕ → Ran → List ℕ
+undone p m (ran m′) = []
+undone p m (stopped w m′) = same (undoOf p (used m) m′) m ∷ []
+
+unfoldable pub undoneFrom : List ℕ → List ℕ → List ℕ → List ℕ
+undoneFrom p rd m = undone p m (mainRun p rd m)
+
+abbrev ended : Next → List ℕ
+ended (go s) = []
+ended (stop w) = refusalNumber w ∷ refusalPlace w ∷ []
+ended (over s) = 0 ∷ used (s .words) ∷ []
+
+unfoldable pub answerOf : Ask → List ℕ
+answerOf (checks p) = let c = Check.checkOf p in Check.numberOf c ∷ Check.placeOf c ∷ []
+answerOf (starts p n) = let s = startOf p (replicate n 7) in Start.numberOf (s .answer) ∷ Start.placeOf (s .answer) ∷ []
+answerOf (turns k p n rd sk) = after k p (startOf p (replicate n 7) .memory) rd sk
+answerOf (walks p n rd) = ended (steps p rd 1000 (begun p (startOf p (replicate n 7) .memory)))
+answerOf (undoes k p n rd sk) = undoneFrom p rd (memoryOf k p (startOf p (replicate n 7) .memory) rd sk)
+answerOf (primitive-of x a b) = let v = primitive x a b blank in v .mark ∷ v .content ∷ []
+
+abbrev row : Ask → List ℕ → Row
+row a l = record { ask = a; answer = l }
+
+abbrev int : ℤ → List ℕ
+int z = let v = number z in v .mark ∷ v .content ∷ []
+
+-- `negsuc n` is -(n + 1)
+abbrev pub starred : List Row
+starred =
+    row (checks clock) (0 ∷ 9 ∷ [])  -- "* Check: 0, 9."
+    ∷ row (checks (take 43 clock)) (1 ∷ 43 ∷ [])  -- "* Its first 43 bytes: 1, 43."
+    ∷ row (starts clock 10) (14 ∷ 0 ∷ [])  -- "* Start, n 10: 14, 0."
+    ∷ row (starts clock 11) (0 ∷ 11 ∷ [])  -- "* n 11: 0, 11."
+    ∷ row (starts clock 1) (8 ∷ 1 ∷ [])  -- "n 1: 8, 1."
+    ∷ row (turns 2 clock 11 [] (9 ∷ 9 ∷ 9 ∷ []))  -- "* First turn sink: mark 1, content 1; the next, 2."
+    ((0 ∷ 11 ∷ 1 ∷ 1 ∷ 1 ∷ 9 ∷ []) ++ (0 ∷ 11 ∷ 2 ∷ 1 ∷ 2 ∷ 9 ∷ []))
+    ∷ row (checks (set clock 38 1)) (4 ∷ 36 ∷ [])  -- "* Last command's a set to 1: 4, 36."
+    ∷ row (primitive-of 3 (number (negsuc 2147483647)) (number (negsuc 0))) (0 ∷ 0 ∷ [])  -- "* −2,147,483,648 divided by −1: blank, remainder 0."
+    ∷ row (primitive-of 4 (number (negsuc 2147483647)) (number (negsuc 0))) (int (pos 0))
+    ∷ row (primitive-of 3 (number (negsuc 6)) (number (pos 2))) (int (negsuc 2))  -- "* −7 by 2: −3, remainder −1."
+    ∷ row (primitive-of 4 (number (negsuc 6)) (number (pos 2))) (int (negsuc 0))
+    ∷ row (primitive-of 5 blank (number (pos 5))) (0 ∷ 0 ∷ [])  -- "* Less of blank and 5: blank."
+    ∷ row (checks nest) (0 ∷ 17 ∷ [])  -- "76 bytes, size 17."
+    ∷ row (turns 1 nest 1089 [] (9 ∷ 9 ∷ [])) (14 ∷ 0 ∷ 0 ∷ 9 ∷ 9 ∷ [])  -- "First turn: * n 1,089 gives 14, 0;"
+    ∷ row (turns 1 nest 1090 [] (9 ∷ 9 ∷ [])) (15 ∷ 0 ∷ 0 ∷ 9 ∷ 9 ∷ [])  -- "* n 1,090 gives 15, 0."
+    ∷ row (walks nest 1090 []) (15 ∷ 0 ∷ [])  -- and so says the walk
+    ∷ row (walks toggle 67 (1 ∷ 7 ∷ 1 ∷ 5 ∷ [])) (0 ∷ 54 ∷ [])
+    ∷ row (checks toggle) (0 ∷ 39 ∷ [])  -- "main of size 39"
+    ∷ row (starts toggle 67) (0 ∷ 41 ∷ [])  -- "u is 41"
+    ∷ row (turns 3 toggle 67 (1 ∷ 7 ∷ 1 ∷ 5 ∷ []) (9 ∷ 9 ∷ []))  -- "Readings 7 and 5: sinks 2, 12, 2; u is 41, then 54, 67, 67."
+    ((0 ∷ 54 ∷ 1 ∷ 1 ∷ 2 ∷ []) ++ ((0 ∷ 67 ∷ 2 ∷ 1 ∷ 12 ∷ []) ++ (0 ∷ 67 ∷ 3 ∷ 1 ∷ 2 ∷ [])))
+    ∷ row (turns 3 toggle 66 (1 ∷ 7 ∷ 1 ∷ 5 ∷ []) (9 ∷ 9 ∷ []))  -- "With n 66 the second turn gives 14, 0 and word 1 stays 1, however often tried."
+    ((0 ∷ 54 ∷ 1 ∷ 1 ∷ 2 ∷ []) ++ ((14 ∷ 0 ∷ 1 ∷ 9 ∷ 9 ∷ []) ++ (14 ∷ 0 ∷ 1 ∷ 9 ∷ 9 ∷ [])))
+    ∷ row (undoes 0 nest 200 [] (9 ∷ 9 ∷ [])) (1 ∷ [])  -- "A refused call leaves memory .. as at entry", in place
+    ∷ row (undoes 1 toggle 66 (1 ∷ 7 ∷ 1 ∷ 5 ∷ []) (9 ∷ 9 ∷ [])) (1 ∷ [])
+    ∷ []
+
+abbrev pub answers : List Row → List (List ℕ)
+answers [] = []
+answers (r ∷ rs) = answerOf (r .ask) ∷ answers rs
+
+abbrev pub expected : List Row → List (List ℕ)
+expected [] = []
+expected (r ∷ rs) = r .answer ∷ expected rs
+
+pub starred-hold : answers starred ≡ expected starred
+unfolding opened after memoryOf same undoneFrom answerOf
+starred-hold = refl

@@ -1,0 +1,149 @@
+-- Demand 3 as one statement about a whole list of turns. 01: "Demand 3 is about one accepted program, memory on which its start has
+-- just succeeded, and any list of its turns, none included. .. This is a single claim about the whole list, not one for each turn."
+use Prim.Native.Nat.{ℕ, _+_, _*_, _-_, _≤_, _<_}
+use mathlib.Core.Path.{_≡_}
+use mathlib.Core.Logic.{_↔_, _≢_}
+use mathlib.Core.List.{List, [], _∷_}
+use lib.ListN.{length}
+use Rattle.program.specs.Bytes.{globals, globalKind, mainOf}
+use Rattle.program.specs.Command.{Cmd}
+use Rattle.program.specs.Location.{sinks, sinkLoc, sizeOf}
+use Rattle.program.specs.Kind.{OfKind}
+use Rattle.load.specs.Check.{IsAccepted}
+use Rattle.load.specs.declared.Refusal.{Refusal}
+use Rattle.load.specs.declared.Refusal.the-variants.{NoRoom, TooDeep}
+use Rattle.image.specs.Memory.{mostTurns, mainAt, word, used, turns, mark, content}
+use Rattle.image.specs.Sound.{Sound}
+use Rattle.image.specs.Start.{startOf, startedOf}
+use Rattle.image.specs.Start as Start
+use Rattle.remus.specs.Turn.{Turn, turnOf, readingAt, fine, askedOf}
+use Rattle.remus.specs.Walk.{location, State, Reach, begun, Input, Walked, Walks}
+use Rattle.remus.specs.Point.{_∈_, Before, Can, ReadsWell, Allocation, Made}
+use Rattle.remus.specs.declared.Turned.the-variants.{Done, Refused}
+
+-- ---- one turn: p the program, w the words before it, t what it brings
+module _ (p w : List ℕ) (t : Input) where
+  -- s is a state of the turn, which 10 to 13 do not refuse
+  pub record During (s : State) : Type 0 where
+    pub allowed : askedOf p w (t .readings) (t .sinkSpace) ≡ fine
+    pub comes : Reach p (t .readings) (begun p w) s
+
+  -- a point of the turn: in state s, with the words m, command c of o is next
+  pub record Point (s : State) (m : List ℕ) (o : ℕ) (c : Cmd) : Type 0 where
+    pub during : During s
+    pub before : Before p s m o c
+
+  -- at a point with the pile at height h and the words m, the next command is an allocation of reactor q
+  pub record Allocates (q h : ℕ) (m : List ℕ) : Type 0 where
+    pub state : State
+    pub owner : ℕ
+    pub command : Cmd
+    pub point : Point state m owner command
+    pub is : Allocation p m owner command q
+    pub height : length (state .pile) ≡ h
+
+  -- main leaves in state s
+  pub record Leaves (s : State) : Type 0 where
+    pub during : During s
+    pub empty : s .pile ≡ []
+
+  -- the turn brings "2G words of readings (mark, content pairs for globals 1 to G)", each legal, room for main's sinks, and an
+  -- unspent clock
+  pub record Fit : Type 0 where
+    pub count : length (t .readings) ≡ 2 * globals p
+    pub legal : (k : ℕ) → k < globals p → OfKind p (globalKind p (k + 1)) (readingAt (t .readings) k)
+    pub room : 2 * sinks p (mainOf p) ≤ length (t .sinkSpace)
+    pub clock : turns w < mostTurns
+
+  -- "At the end main's sinks are written as pairs in order, further sink words keep their content"; "Every sink is written if all of
+  -- main's are noted as it leaves."
+  pub record Written (s : State) (sk : List ℕ) : Type 0 where
+    pub noted : (x : ℕ) → x < sinks p (mainOf p) → location mainAt (sinkLoc p (mainOf p) x) ∈ s .notes
+    pub marks : (x : ℕ) → x < sinks p (mainOf p) → word sk (2 * x) ≡ mark p (s .words) mainAt (sinkLoc p (mainOf p) x)
+    pub contents : (x : ℕ) → x < sinks p (mainOf p) → word sk (2 * x + 1) ≡ content p (s .words) mainAt (sinkLoc p (mainOf p) x)
+    pub further : (i : ℕ) → 2 * sinks p (mainOf p) ≤ i → word sk i ≡ word (t .sinkSpace) i
+    pub same-length : length sk ≡ length (t .sinkSpace)
+
+  -- how a turn ends that brings what it should: with 0 and every sink written, with 15, or with 14
+  pub data Ends (r : Turn) : Type 0 where
+    completed : (s : State) → Leaves s → r .answer ≡ Done (used (s .words)) → Written s (r .sinkSpace) → Ends r
+    too-deep : (q : ℕ) → r .answer ≡ Refused (TooDeep q) → Ends r
+    no-room : (q : ℕ) → r .answer ≡ Refused (NoRoom q) → Ends r
+
+  pub record TurnClaim : Type 0 where
+    -- "Every turn's number, place, memory and sink words are those of this walk." So the turn ends.
+    pub result : Walked p w t (turnOf p w (t .readings) (t .sinkSpace))
+    -- at every point the next command can be carried out
+    pub carried : (s : State) (m : List ℕ) (o : ℕ) (c : Cmd) → Point s m o c → Can p m (s .notes) o c
+    -- every value that it reads was made or supplied earlier in the turn and is of its kind
+    pub values : (s : State) (m : List ℕ) (o : ℕ) (c : Cmd) → Point s m o c → ReadsWell p m (s .notes) o (t .readings) c
+    -- what a turn that brings what it should comes to, and nothing else
+    pub ends : (r : Turn) → Fit → Walked p w t r → Ends r
+    -- "Its depth is the pile's height plus 1. At 65 the turn ends with 15;": and only then
+    pub deep : (r : Turn) (q : ℕ) → Walked p w t r
+        → (r .answer ≡ Refused (TooDeep q)) ↔ ((h : ℕ) × (m : List ℕ) × Allocates q h m × (h + 1 ≡ 65))
+    -- "else, if its size exceeds n less u at that moment, with 14": and only then
+    pub full : (r : Turn) (q : ℕ) → Walked p w t r
+        → (r .answer ≡ Refused (NoRoom q)) ↔ ((h : ℕ) × (m : List ℕ) × Allocates q h m × (h + 1 ≢ 65) × (length w - used m < sizeOf p q))
+    -- "When main leaves, the turn ends with 0.": and only then
+    pub complete : (r : Turn) (u : ℕ) → Walked p w t r → (r .answer ≡ Done u) ↔ ((s : State) × Leaves s × (used (s .words) ≡ u))
+    -- "A refused call leaves memory and sink space as at entry.", by 10 to 13 ("takes no step") or by 14 and 15 ("the words are then
+    -- as before the turn")
+    pub refused : (r : Turn) (v : Refusal) → Walked p w t r → r .answer ≡ Refused v → (r .memory ≡ w) × (r .sinkSpace ≡ t .sinkSpace)
+
+  -- k words were allocated in the turn, which completes
+  pub record Completed (k : ℕ) : Type 0 where
+    pub state : State
+    pub leaves : Leaves state
+    pub made : Made p (t .readings) (begun p w) state k
+
+-- ---- a list of turns
+
+-- the machine's own results, each turn on the memory that the one before left; and the memory after the last
+unfoldable pub turnsOf : List ℕ → List ℕ → List Input → List Turn
+turnsOf p m [] = []
+turnsOf p m (t ∷ ts) = let r = turnOf p m (t .readings) (t .sinkSpace) in r ∷ turnsOf p (r .memory) ts
+
+unfoldable pub memoryAfter : List ℕ → List ℕ → List Input → List ℕ
+memoryAfter p m [] = m
+memoryAfter p m (t ∷ ts) = memoryAfter p (turnOf p m (t .readings) (t .sinkSpace) .memory) ts
+
+-- t is one of the turns of a list that begins from the words m, and is taken from the walk's words w
+pub data TurnOf (p : List ℕ) : List ℕ → List Input → List ℕ → Input → Type 0 where
+  now : {m : List ℕ} {t : Input} {ts : List Input} → TurnOf p m (t ∷ ts) m t
+  after : {m w : List ℕ} {t u : Input} {ts : List Input} {r : Turn} → Walked p m t r → TurnOf p (r .memory) ts w u → TurnOf p m (t ∷ ts) w u
+
+-- k words were allocated in the completed turns of a list that begins from the words m
+pub data Grows (p : List ℕ) : List ℕ → List Input → ℕ → Type 0 where
+  no-turn : {m : List ℕ} → Grows p m [] 0
+  completed : {m : List ℕ} {t : Input} {ts : List Input} {r : Turn} {u k j : ℕ}
+      → Walked p m t r → r .answer ≡ Done u → Completed p m t k → Grows p (r .memory) ts j → Grows p m (t ∷ ts) (k + j)
+  refused : {m : List ℕ} {t : Input} {ts : List Input} {r : Turn} {v : Refusal} {j : ℕ}
+      → Walked p m t r → r .answer ≡ Refused v → Grows p (r .memory) ts j → Grows p m (t ∷ ts) j
+
+-- p the program, n the memory's words, ts the list of turns
+pub record Claim (p : List ℕ) (n : ℕ) (ts : List Input) : Type 0 where
+  -- "Every turn's number, place, memory and sink words are those of this walk."
+  pub results : Walks p (startedOf p n) ts (turnsOf p (startedOf p n) ts)
+  -- what the walk of each turn is like
+  pub every-turn : (w : List ℕ) (t : Input) → TurnOf p (startedOf p n) ts w t → TurnClaim p w t
+  -- u is "2 plus main's size and the sizes allocated in completed turns"
+  pub grown : (k : ℕ) × Grows p (startedOf p n) ts k × (used (memoryAfter p (startedOf p n) ts) ≡ mainAt + sizeOf p (mainOf p) + k)
+
+-- ---- to be proved: elements of these types
+
+-- Demand 3.
+abbrev pub Demand : Type 0
+Demand = (p m : List ℕ) (ts : List Input) → IsAccepted p → Start.numberOf (startOf p m .answer) ≡ 0 → Claim p (length m) ts
+
+-- The same for one turn, on any sound image of an accepted program.
+abbrev pub DemandOnce : Type 0
+DemandOnce = (p w : List ℕ) (t : Input) → IsAccepted p → length w ≤ 16384 → Sound p w → TurnClaim p w t
+
+-- The walk's result of a turn is one, so that "the walk's" has a meaning.
+abbrev pub WalkedOnce : Type 0
+WalkedOnce = (p w : List ℕ) (t : Input) (r s : Turn) → Walked p w t r → Walked p w t s → r ≡ s
+
+-- A completed turn on a sound image leaves a sound image.
+abbrev pub SoundnessKept : Type 0
+SoundnessKept = (p w : List ℕ) (t : Input) → IsAccepted p → length w ≤ 16384 → Sound p w → Sound p (turnOf p w (t .readings) (t .sinkSpace) .memory)

@@ -1,0 +1,10 @@
+pub mod Exec
+pub mod Run
+pub mod Clear
+pub mod Undo
+pub mod Turn
+pub mod Walk
+pub mod Point
+pub mod Claim
+pub mod Open
+pub mod Cases

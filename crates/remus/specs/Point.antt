@@ -1,0 +1,99 @@
+-- A point of the walk: what its next command reads, whether it can be carried out, and what it allocates. 01, "Lists of turns", last
+-- two paragraphs. The words note, pile and point are 01's.
+use Prim.Native.Nat.{ℕ, _+_, _≤_, _<_}
+use mathlib.Core.Path.{_≡_}
+use mathlib.Core.Bool.{true, false}
+use mathlib.Core.Logic.{_≢_}
+use mathlib.Core.List.{List, _∷_}
+use lib.ListN.{length}
+use Rattle.value.specs.Value.{blank, isBlank, deploymentMark}
+use Rattle.value.specs.Primitive.{table, operands}
+use Rattle.program.specs.Bytes.{globalKind, shapeOf, commandsIn}
+use Rattle.program.specs.Command.{Cmd, cmdOf, allocMono, makePoly, constant, global, supply, react, consume, sink, allocPoly, primitive, none}
+use Rattle.program.specs.Location.{sources, sinks, sinkLoc, sizeOf, cmdAt, shapeThere}
+use Rattle.program.specs.Kind.{kindOf, OfKind}
+use Rattle.image.specs.Memory.{reactor, mark, content, valueAt}
+use Rattle.image.specs.Sound.{Deployed, OnChain, PointSlot}
+use Rattle.remus.specs.Exec.{globalValue, there, ready}
+use Rattle.remus.specs.Walk.{Note, location, run, Frame, State, go, step}
+
+infix 40 _∈_
+pub data _∈_ (n : Note) : List Note → Type 0 where
+  first : {ns : List Note} → n ∈ (n ∷ ns)
+  later : {x : Note} {ns : List Note} → n ∈ ns → n ∈ (x ∷ ns)
+
+-- "A turn's points are the moments before its steps.": in state s the topmost deployment o is not at its end, and c is its next
+-- command. In the words m it is wired, if D has ended.
+pub record Before (p : List ℕ) (s : State) (m : List ℕ) (o : ℕ) (c : Cmd) : Type 0 where
+  pub index : ℕ
+  pub lower : List Frame
+  pub top : s .pile ≡ record { at = o; next = index } ∷ lower
+  pub goes-on : index < commandsIn p (reactor (s .words) o)
+  pub is : cmdOf p (reactor (s .words) o) index ≡ c
+  pub wiring : ready p (s .words) o index ≡ m
+
+-- At a point: m the words, ns the notes, o the topmost deployment.
+module _ (p m : List ℕ) (ns : List Note) (o : ℕ) where
+  -- "a deployment operand is a noted AllocPoly left blank, or a deployment within words 2 to u−1, of the AllocMono's reactor or the
+  -- branch point's shape"
+  pub data Operand (b : ℕ) : Type 0 where
+    left-blank : (a c : ℕ) → cmdAt p (reactor m o) b ≡ allocPoly a c → location o b ∈ ns → valueAt p m o b ≡ blank → Operand b
+    of-mono : (x : ℕ) → cmdAt p (reactor m o) b ≡ allocMono x → mark p m o b ≡ deploymentMark → Deployed p m (content p m o b)
+        → reactor m (content p m o b) ≡ x → Operand b
+    of-point : (a c : ℕ) → cmdAt p (reactor m o) b ≡ allocPoly a c → mark p m o b ≡ deploymentMark → Deployed p m (content p m o b)
+        → shapeOf p (reactor m (content p m o b)) ≡ shapeThere p (reactor m o) c → Operand b
+
+  -- "Where there is a deployment": P of it
+  abbrev pub Where : ℕ → (ℕ → Type 0) → Type 0
+  Where b P = there p m o b ≡ true → P (content p m o b)
+
+  -- "A command can be carried out if a branch point it names heads a chain as in a sound image, and a deployment operand is .., at
+  -- Supply and Consume with port x. Where there is a deployment, at Supply its port isn't noted yet; at React all its sources are and
+  -- it isn't noted as run; at Consume it is. At Sink the own sink isn't noted yet." A primitive is one of the table.
+  abbrev pub Can : Cmd → Type 0
+  Can (allocMono x) = Unit {0}
+  Can (makePoly x) = Unit {0}
+  Can (constant x v) = Unit {0}
+  Can (global x) = Unit {0}
+  Can (supply x a b) = Operand b × Where b (λ d. (x < sources p (reactor m d)) × (location d x ∈ ns → ⊥))
+  Can (react b) = Operand b × Where b (λ d. ((x : ℕ) → x < sources p (reactor m d) → location d x ∈ ns) × (run d ∈ ns → ⊥))
+  Can (consume x b) = Operand b × Where b (λ d. (x < sinks p (reactor m d)) × (run d ∈ ns))
+  Can (sink x a) = location o (sinkLoc p (reactor m o) x) ∈ ns → ⊥
+  Can (allocPoly a b) = PointSlot p m o b (shapeThere p (reactor m o) b)
+  Can (primitive x a b c) = x < length table
+  Can none = ⊥
+
+  -- "A command reads its value operands and operator; Global reads its global, Consume its deployment's sink if there is a
+  -- deployment." Location l of d is read:
+  pub data Reads : Cmd → ℕ → ℕ → Type 0 where
+    supplied : {x a b : ℕ} → Reads (supply x a b) o a
+    sunk : {x a : ℕ} → Reads (sink x a) o a
+    operator : {a b : ℕ} → Reads (allocPoly a b) o a
+    taken : {x b : ℕ} → there p m o b ≡ true → Reads (consume x b) (content p m o b) (sinkLoc p (reactor m (content p m o b)) x)
+    operand-1 : {x a b c : ℕ} → 1 ≤ operands x → Reads (primitive x a b c) o a
+    operand-2 : {x a b c : ℕ} → 2 ≤ operands x → Reads (primitive x a b c) o b
+    operand-3 : {x a b c : ℕ} → 3 ≤ operands x → Reads (primitive x a b c) o c
+
+  -- "A value was made or supplied earlier in the turn if its location is noted; readings and time are supplied as the turn begins."
+  -- Each is of its kind: kindOf says a location's; a global has "its declared kind"; "Blank is of every kind".
+  pub record ReadsWell (rd : List ℕ) (c : Cmd) : Type 0 where
+    pub noted : (d l : ℕ) → Reads c d l → location d l ∈ ns
+    pub kinds : (d l : ℕ) → Reads c d l → OfKind p (kindOf p (reactor m d) l) (valueAt p m d l)
+    pub outside : (x : ℕ) → c ≡ global x → OfKind p (globalKind p x) (globalValue rd m x)
+
+-- "An allocation is an AllocMono, or an AllocPoly whose operator isn't blank and has no deployment there." q is the reactor to be
+-- deployed.
+pub data Allocation (p m : List ℕ) (o : ℕ) : Cmd → ℕ → Type 0 where
+  mono : {x : ℕ} → Allocation p m o (allocMono x) x
+  poly : {a b : ℕ} → isBlank (valueAt p m o a) ≡ false → ((d : ℕ) → OnChain p m (content p m o b) d → reactor m d ≢ content p m o a)
+      → Allocation p m o (allocPoly a b) (content p m o a)
+
+-- the words that the step from s allocates
+pub data Makes (p : List ℕ) (s : State) : ℕ → Type 0 where
+  a-deployment : {m : List ℕ} {o q : ℕ} {c : Cmd} → Before p s m o c → Allocation p m o c q → Makes p s (sizeOf p q)
+  nothing : ((m : List ℕ) (o q : ℕ) (c : Cmd) → Before p s m o c → Allocation p m o c q → ⊥) → Makes p s 0
+
+-- the words allocated on the walk from s
+pub data Made (p rd : List ℕ) (s : State) : State → ℕ → Type 0 where
+  stay : Made p rd s s 0
+  on : {t u : State} {k j : ℕ} → Made p rd s t k → step p rd t ≡ go u → Makes p t j → Made p rd s u (k + j)

@@ -1,0 +1,9 @@
+// The meaning of a turn: document 01, "Check, start, turn" and "Lists of turns". Definitions and theorems; the code of a turn
+// stands above.
+use load::Refusal;
+
+// A turn's answer: u after it, or why it is refused.
+pub enum Turned {
+    Done(usize),
+    Refused(Refusal),
+}
