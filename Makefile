@@ -11,7 +11,7 @@ test:
 run:
 	@mkdir -p target
 	@rt check bench >target/run.log 2>&1 || { cat target/run.log; exit 1; }
-	@cd crates/bench/data && ../../../target/bin/bench check_vectors
+	@cd crates/bench/data && ../../../target/bin/bench $$(cat ../args)
 
 fmt:
 	@rt fmt

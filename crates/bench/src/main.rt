@@ -1,13 +1,17 @@
 // The bench cases of document 01, run through the proved code and printed, and vectors from another
 // implementation. The file stdout beside src/ holds what 01 says they come to, and the gate compares
 // the two.
+mod line;
 mod primitives;
 mod programs;
 mod text;
+mod trial;
 mod vectors;
+mod words;
 
 fn main() {
     primitives::print_all();
     programs::print_checks();
+    programs::print_starts();
     vectors::run();
 }

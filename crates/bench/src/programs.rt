@@ -1,4 +1,4 @@
-// The bench programs of document 01, and what the check says of them.
+// The bench programs of document 01, and what the check and start say of them.
 use crate::text::put;
 use crate::text::put_decimal;
 
@@ -376,4 +376,25 @@ pub fn print_checks() {
     put_check(b"clock with its last command's a set to 1", &damaged);
     put_check(b"nest", &NEST);
     put_check(b"toggle", &TOGGLE);
+}
+
+// A line `name, n words: start number, place`.
+fn put_start(name: &[u8], program: &[u8], memory: &mut [u32]) {
+    let answer = image::start(program, memory);
+    put(name);
+    put(b", ");
+    put_decimal(memory.len() as u64);
+    put(b" words: start ");
+    put_decimal(answer.number() as u64);
+    put(b", ");
+    put_decimal(answer.place() as u64);
+    put(b"\n");
+}
+
+// Memory is not zero before a start.
+pub fn print_starts() {
+    put_start(b"clock", &CLOCK, &mut [77u32; 10]);
+    put_start(b"clock", &CLOCK, &mut [77u32; 11]);
+    put_start(b"clock", &CLOCK, &mut [77u32; 1]);
+    put_start(b"toggle", &TOGGLE, &mut [77u32; 67]);
 }

@@ -40,6 +40,7 @@ unfolding lowest
 lowest-done ok s e = rw e
 
 -- all deployments but main, which is the first
-pub unfit-first : (p m t : List ℕ) (pass : Pass) (u a : ℕ) → startsOn p m u mainAt ≡ mainAt ∷ startsOn p m u a → lowest (λ a. fits pass (getD t a 0)) (startsOn p m u a) ≡ lowestUnfit p m pass t u
+pub unfit-first : (p m t : List ℕ) (pass : Pass) (u a : ℕ) → startsOn p m u mainAt ≡ mainAt ∷ startsOn p m u a
+    → lowest (λ a. fits pass (getD t a 0)) (startsOn p m u a) ≡ lowestUnfit p m pass t u
 unfolding lowestUnfit tailOf
 unfit-first p m t pass u a e = rw e

@@ -36,6 +36,7 @@ made-by c =
     other h = made-other _ _ (λ d. omega arith) (λ d. omega arith)
 
 -- command j of a reactor whose commands begin at byte `at`
-pub made-at : (p : List ℕ) (r j at code x : ℕ) → at ≡ commandsAt p r → code ≡ byte p (at + 8 * j) → x ≡ byte p (at + 8 * j + 1) → madeOf code x ≡ madeBy (cmdOf p r j)
+pub made-at : (p : List ℕ) (r j at code x : ℕ) → at ≡ commandsAt p r → code ≡ byte p (at + 8 * j) → x ≡ byte p (at + 8 * j + 1)
+    → madeOf code x ≡ madeBy (cmdOf p r j)
 unfolding cmdOf bytesOf bytesAt commandAt
 made-at p r j at code x e f g = rw (f, g, e) (sym (made-by (bytesOf p r j)))

@@ -10,7 +10,8 @@ use lib.Seq.{getD-set-same, getD-set-other}
 use Rattle.value.proofs.Tests.{below}
 use Rattle.program.specs.Bytes.{commandsAt}
 
-pub positions-next : (p places places₁ : List ℕ) (r at : ℕ) → r < length places → at ≡ commandsAt p r → ((k : ℕ) → k < r → getD places k 0 ≡ commandsAt p k) → places₁ ≡ set places r at
+pub positions-next : (p places places₁ : List ℕ) (r at : ℕ) → r < length places → at ≡ commandsAt p r
+    → ((k : ℕ) → k < r → getD places k 0 ≡ commandsAt p k) → places₁ ≡ set places r at
     → (k : ℕ) → k < r + 1 → getD places₁ k 0 ≡ commandsAt p k
 positions-next p places places₁ r at l e h s k q =
     rw s

@@ -27,7 +27,8 @@ used-main : (n : ℕ) → 2 ≤ n → used (withUsed (replicate n 0) mainAt) ≡
 unfolding used word withUsed
 used-main n h = getD-set-same (replicate n 0) 0 2 0 (rw (length-replicate {A = ℕ} n 0) (omega arith))
 
-pub main-placed : (p m₁ m₂ : List ℕ) (n r : ℕ) → 2 ≤ n → sizeOf p r < 131074 → m₁ ≡ replicate n 0 → m₂ ≡ withUsed m₁ mainAt → r ≡ mainOf p → placed p m₂ r 0 ≡ startedOf p n
+pub main-placed : (p m₁ m₂ : List ℕ) (n r : ℕ) → 2 ≤ n → sizeOf p r < 131074 → m₁ ≡ replicate n 0 → m₂ ≡ withUsed m₁ mainAt
+    → r ≡ mainOf p → placed p m₂ r 0 ≡ startedOf p n
 unfolding placed startedOf
 main-placed p m₁ m₂ n r h z a b e =
     let u = used-main n h in
@@ -48,6 +49,7 @@ module _ (p m : List ℕ) where
       unfolding started startBy refused
       start-full r h e = goes _ _ legal (stops _ (le× h) (rw e))
 
-      pub start-ready : (m₁ : List ℕ) → size ≤ length m - mainAt → m₁ ≡ startedOf p (length m) → started (Ready (mainAt + size)) m₁ ≡ startBy p m (Accepted size)
+      pub start-ready : (m₁ : List ℕ) → size ≤ length m - mainAt → m₁ ≡ startedOf p (length m)
+          → started (Ready (mainAt + size)) m₁ ≡ startBy p m (Accepted size)
       unfolding started startBy
       start-ready m₁ h e = goes _ _ legal (goes _ _ (le! h) (rw e))

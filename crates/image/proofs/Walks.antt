@@ -1,6 +1,6 @@
 -- A D command by its two bytes, a deployment's children, and the ladder of soundness as the code climbs it.
 -- Assumes nothing.
-use Prim.Native.Nat.{ℕ, _+_, _-_, _*_, _<_}
+use Prim.Native.Nat.{ℕ, _-_, _<_}
 use mathlib.Core.Path.{_≡_, refl, sym, ap, _∙_}
 use mathlib.Core.Bool.{Bool, true, false}
 use mathlib.Core.List.{List}
@@ -8,16 +8,17 @@ use native.Mathlib.Omega.{arith}
 use lib.ListN.{length}
 use Rattle.value.specs.Test.{_and_, _<?_, _≤?_, _=?_, guard}
 use Rattle.value.proofs.Tests.{goes, stops, eq!, eq×, lt?, le?, both?}
-use Rattle.program.specs.Bytes.{byte, reactors, declared, mainOf, commandsAt}
+use Rattle.program.specs.Bytes.{reactors, declared, mainOf}
 use Rattle.program.specs.Command.{Made, madeBy, cmdOf}
-use Rattle.program.specs.Location.{sources, commandLoc}
+use Rattle.program.specs.Location.{commandLoc}
 use Rattle.image.specs.Answer.{verdict}
 use Rattle.image.specs.Memory.{mainAt, mostTurns, used, turns, reactor, next, content, zeroAt, startsBelow}
 use Rattle.image.specs.Passes.{Judged, unsound, over, name, membersFrom, namedBy, childrenFrom, childrenOf, nameTable, depthTable, freshSound, grownSound, byTurns, soundOf, tilesFrom}
-use Rattle.image.specs.Walk.{madeOf, Tiling, step, stepAll, named, deepened, lowestUnfit, framedOf, freshOf, namedOf, shallowOf, grownOf}
+use Rattle.image.specs.Walk.{madeOf, SlotOf, Tiling, step, stepAll, named, deepened, lowestUnfit, framedOf, freshOf, namedOf, shallowOf, grownOf}
+use Rattle.image.specs.declared.DSlot.{DSlot}
 use Rattle.image.specs.declared.Pass.{Pass}
 use Rattle.image.proofs.Ands.{and-assoc, guard-and}
-use Rattle.image.proofs.Made.{made-mono, made-point, made-other, made-at}
+use Rattle.image.proofs.Made.{made-mono, made-point, made-other}
 
 module _ (p m : List ℕ) (f : List ℕ → ℕ → List ℕ) (t : List ℕ) (o l code x c : ℕ) (holds : c ≡ content p m o l) where
   pub step-mono : (t₁ : List ℕ) → code ≡ 1 → t₁ ≡ f t c → t₁ ≡ over f t (namedBy p m o l (madeOf code x))
@@ -32,13 +33,13 @@ module _ (p m : List ℕ) (f : List ℕ → ℕ → List ℕ) (t : List ℕ) (o 
   unfolding over namedBy
   step-none d e = rw (← made-other code x d e)
 
--- what is said of location l and of what bytes `code` and `x` make holds of D command j
-pub at-command : {A : Type 0} (F : ℕ → Made → A) (p m : List ℕ) (o j at r s code x : ℕ) → at ≡ commandsAt p (reactor m o) → r ≡ reactor m o → s ≡ sources p r
-    → code ≡ byte p (at + 8 * j) → x ≡ byte p (at + 8 * j + 1) → F (s + j) (madeOf code x) ≡ F (commandLoc p (reactor m o) j) (madeBy (cmdOf p (reactor m o) j))
-unfolding commandLoc
-at-command F p m o j at r s code x a b d e f = rw (made-at p (reactor m o) j at code x a e f, d, b)
+-- what is said of a D slot and of what its bytes make holds of its command
+pub by-slot : {A : Type 0} (F : ℕ → Made → A) (p m : List ℕ) (o j : ℕ) (s : DSlot) → SlotOf p m o j s
+    → F (s .location) (madeOf (s .code) (s .x)) ≡ F (commandLoc p (reactor m o) j) (madeBy (cmdOf p (reactor m o) j))
+by-slot F p m o j s e = rw (e .located, e .makes)
 
-pub children-first : (p m : List ℕ) (pass : Pass) (t : List ℕ) (o n : ℕ) → n ≡ declared p (reactor m o) → over (step pass o) t (childrenFrom p m (n - 0) 0 o) ≡ stepAll p m pass t o
+pub children-first : (p m : List ℕ) (pass : Pass) (t : List ℕ) (o n : ℕ) → n ≡ declared p (reactor m o)
+    → over (step pass o) t (childrenFrom p m (n - 0) 0 o) ≡ stepAll p m pass t o
 unfolding stepAll childrenOf
 children-first p m pass t o n e = let d : n - 0 ≡ declared p (reactor m o) = omega arith in rw d
 

@@ -10,6 +10,7 @@ use Rattle.program.specs.Command.{Made, deployment, point, nothing, madeBy, cmd
 use Rattle.program.specs.Location.{commandLoc, sizeOf}
 use Rattle.image.specs.Memory.{mostDepth, mostTurns, mostWords, mainAt, used, turns, reactor, wired, next, zeroAt, place, startsFrom}
 use Rattle.image.specs.Passes.{below, tilesFrom, tailOf, slotSound, namedBy, startTable, ownSound, childrenOf, over, lowest}
+use Rattle.image.specs.declared.DSlot.{DSlot}
 use Rattle.image.specs.declared.Pass.{Pass}
 use Rattle.image.specs.declared.Pass.the-variants.{Names, Depths}
 
@@ -72,6 +73,11 @@ module _ (p m : List ℕ) where
   -- the deployments that D command j of o names
   unfoldable pub namedAt : ℕ → ℕ → List ℕ
   namedAt o j = namedBy p m o (commandLoc p (reactor m o) j) (madeBy (cmdOf p (reactor m o) j))
+
+  -- s is the slot of D command j of o
+  pub record SlotOf (o j : ℕ) (s : DSlot) : Type 0 where
+    pub located : s .location ≡ commandLoc p (reactor m o) j
+    pub makes : madeOf (s .code) (s .x) ≡ madeBy (cmdOf p (reactor m o) j)
 
   unfoldable pub lowestUnfit : Pass → List ℕ → ℕ → ℕ
   lowestUnfit pass t u = lowest (λ a. fits pass (getD t a 0)) (tailOf p m (startsOn p m u mainAt))

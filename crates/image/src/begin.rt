@@ -1,6 +1,9 @@
 // Start: document 01, "Start zeroes memory, then places an unwired main, u = 2 + its size, turns 0."
 use crate::Started;
 use crate::deployment::place;
+use crate::words::FEWEST_WORDS;
+use crate::words::MAIN_AT;
+use crate::words::MOST_WORDS;
 use crate::words::set_used;
 use crate::zero::wipe;
 use load::Checked;
@@ -15,12 +18,6 @@ ghost use Rattle.image.specs.Answer as N;
 ghost use Rattle.image.specs.Memory as M;
 ghost use Rattle.image.specs.Start as S;
 
-const FEWEST_WORDS: usize = 2;
-
-const MOST_WORDS: usize = 16384;
-
-const MAIN_AT: usize = 2;
-
 // Leaves main alone, unwired.
 fn place_main(program: &[u8], memory: &mut [u32])
     requires { ⌜ M.fewestWords ≤ length (now memory) ⌝ }
@@ -28,7 +25,7 @@ fn place_main(program: &[u8], memory: &mut [u32])
 {
     let main = main_of(program);
     wipe(memory);
-    set_used(memory, MAIN_AT as u32);
+    set_used(memory, MAIN_AT);
     place(program, memory, main as u32, 0)
 }
 
@@ -47,11 +44,11 @@ fn start_sized(size: usize, program: &[u8], memory: &mut [u32]) -> Started
     if !words_legal(n) {
         return Started::Refused(Refusal::MemoryLength(n));
     }
-    if n - MAIN_AT < size {
+    if n - (MAIN_AT as usize) < size {
         return Started::Refused(Refusal::NoRoom(main_of(program) as usize));
     }
     place_main(program, memory);
-    Started::Ready(MAIN_AT + size)
+    Started::Ready(MAIN_AT as usize + size)
 }
 
 // Start, after the check of the program.

@@ -1,17 +1,19 @@
 // The passes over the children of each deployment.
+use crate::DSlot;
 use crate::Pass;
 use crate::commands::position;
+use crate::commands::slot_of;
 use crate::deployment::content;
 use crate::table::entry;
 use crate::table::put_entry;
 use crate::tiling::following;
+use crate::words::MAIN_AT;
+use crate::words::MOST_DEPTH;
 use crate::words::next;
 use crate::words::reactor;
 use program::Command;
-use program::byte;
 use program::reactors;
 use program::wide_declared;
-use program::wide_sources;
 ghost use mathlib.Core.Path.{_≡_};
 ghost use Prim.Native.Nat.{_<_};
 ghost use lib.ListN.{getD, set};
@@ -19,8 +21,6 @@ ghost use Rattle.program.specs.Bytes as B;
 ghost use Rattle.image.specs.Memory as M;
 ghost use Rattle.image.specs.Passes as P;
 ghost use Rattle.image.specs.Walk as W;
-
-const MOST_DEPTH: u8 = 64;
 
 // One more name for c; more than twice is as twice.
 fn name(table: &mut [u8], c: u32)
@@ -75,48 +75,18 @@ fn step_chain(pass: Pass, program: &[u8], memory: &[u32], table: &mut [u8], o: u
     }
 }
 
-// For each deployment that D slot l of o names, by its command's code and x.
-fn step_slot(
-    pass: Pass,
-    program: &[u8],
-    memory: &[u32],
-    table: &mut [u8],
-    o: u32,
-    l: u16,
-    code: u8,
-    x: u8,
-)
-    ensures { λ _. ⌜ now (table .exit) ≡ P.over (W.step pass o) (now (table .entry)) (P.namedBy (now (program .entry)) (now (memory .entry)) o l (W.madeOf code x)) ⌝ }
+// For each deployment that a D slot of o names.
+fn step_slot(pass: Pass, program: &[u8], memory: &[u32], table: &mut [u8], o: u32, s: DSlot)
+    ensures { λ _. ⌜ now (table .exit) ≡ P.over (W.step pass o) (now (table .entry)) (P.namedBy (now (program .entry)) (now (memory .entry)) o (s .location) (W.madeOf (s .code) (s .x))) ⌝ }
 {
-    let c = content(program, memory, o, l);
-    if code == Command::ALLOC_MONO {
+    let c = content(program, memory, o, s.location);
+    if s.code == Command::ALLOC_MONO {
         step(pass, table, o, c);
         return;
     }
-    if code == Command::MAKE_POLY {
+    if s.code == Command::MAKE_POLY {
         step_chain(pass, program, memory, table, o, c);
     }
-}
-
-// For each deployment that D command j of o names.
-fn step_command(
-    pass: Pass,
-    program: &[u8],
-    at: u32,
-    memory: &[u32],
-    table: &mut [u8],
-    o: u32,
-    j: u8,
-)
-    requires { ⌜ at ≡ B.commandsAt (now program) (M.reactor (now memory) o) ⌝ }
-    ensures { λ _. ⌜ now (table .exit) ≡ P.over (W.step pass o) (now (table .entry)) (W.namedAt (now (program .entry)) (now (memory .entry)) o j) ⌝ }
-{
-    let r = reactor(memory, o);
-    let l = wide_sources(program, r) as u16 + j as u16;
-    let i = at as usize + 8 * (j as usize);
-    let code = byte(program, i);
-    let x = byte(program, i + 1);
-    step_slot(pass, program, memory, table, o, l, code, x)
 }
 
 // For each child of o.
@@ -128,7 +98,8 @@ fn step_children(pass: Pass, program: &[u8], at: u32, memory: &[u32], table: &mu
     let n = wide_declared(program, r);
     let mut j: u8 = 0;
     while j < n {
-        step_command(pass, program, at, memory, table, o, j);
+        let s = slot_of(program, at, memory, o, j);
+        step_slot(pass, program, memory, table, o, s);
         j = j + 1;
     }
 }
@@ -146,7 +117,7 @@ pub fn step_all(
     requires { ⌜ W.Tiling (now program) (now memory) u M.mainAt ⌝ }
     ensures { λ _. ⌜ now (table .exit) ≡ P.over (W.stepAll (now (program .entry)) (now (memory .entry)) pass) (now (table .entry)) (W.startsOn (now (program .entry)) (now (memory .entry)) u M.mainAt) ⌝ }
 {
-    let mut a: u32 = 2;
+    let mut a = MAIN_AT;
     while a < u {
         let o = a;
         a = following(program, memory, u, a);
@@ -171,7 +142,7 @@ pub fn lowest_unfit(pass: Pass, program: &[u8], memory: &[u32], table: &[u8], u:
     requires { ⌜ M.mainAt < u ⌝ }
     ensures { λ r. ⌜ r ≡ W.lowestUnfit (now (program .entry)) (now (memory .entry)) pass (now (table .entry)) u ⌝ }
 {
-    let mut a = following(program, memory, u, 2);
+    let mut a = following(program, memory, u, MAIN_AT);
     while a < u {
         let o = a;
         a = following(program, memory, u, a);

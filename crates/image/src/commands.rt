@@ -1,10 +1,13 @@
-// Where each reactor's commands begin, summed up once for all deployments.
+// The D commands of a deployment. Where each reactor's commands begin is summed up once for all.
+use crate::DSlot;
 use crate::words::put;
 use crate::words::reactor;
 use crate::words::word;
+use program::byte;
 use program::commands_in;
 use program::reactors;
 use program::tables_end;
+use program::wide_sources;
 ghost use mathlib.Core.Path.{_≡_};
 ghost use Prim.Native.Nat.{_<_};
 ghost use lib.ListN.{length};
@@ -35,4 +38,18 @@ pub fn position(program: &[u8], places: &[u32], memory: &[u32], o: u32) -> u32
 {
     let r = reactor(memory, o);
     word(places, r as usize)
+}
+
+// The slot of D command j of o, whose commands begin at byte `at`.
+pub fn slot_of(program: &[u8], at: u32, memory: &[u32], o: u32, j: u8) -> DSlot
+    requires { ⌜ at ≡ B.commandsAt (now program) (M.reactor (now memory) o) ⌝ }
+    ensures { λ s. ⌜ W.SlotOf (now (program .entry)) (now (memory .entry)) o j s ⌝ }
+{
+    let r = reactor(memory, o);
+    let i = at as usize + 8 * (j as usize);
+    DSlot {
+        location: wide_sources(program, r) as u16 + j as u16,
+        code: byte(program, i),
+        x: byte(program, i + 1),
+    }
 }

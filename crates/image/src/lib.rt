@@ -38,6 +38,7 @@ pub use words::turns;
 pub use words::used;
 pub use words::wired;
 pub use words::word;
+pub use zero::wipe;
 pub use zero::zero_at;
 
 // Start's answer: u after it, or why it is refused.
@@ -56,4 +57,11 @@ pub enum Judged {
 pub enum Pass {
     Names,
     Depths,
+}
+
+// A D slot: its location, and its command's code and x.
+pub struct DSlot {
+    pub location: u16,
+    pub code: u8,
+    pub x: u8,
 }

@@ -1,16 +1,18 @@
 // A deployment's own words: wired, its D slots, and zeros in all others.
+use crate::DSlot;
 use crate::chain::chain_sound;
 use crate::commands::position;
+use crate::commands::slot_of;
 use crate::deployment::content;
 use crate::deployment::mark;
 use crate::table::is_start;
 use crate::tiling::following;
+use crate::words::MAIN_AT;
 use crate::words::next;
 use crate::words::reactor;
 use crate::words::wired;
 use crate::zero::zero_at;
 use program::Command;
-use program::byte;
 use program::wide_declared;
 use program::wide_size_of;
 use program::wide_slot_at;
@@ -64,30 +66,17 @@ fn point_sound(program: &[u8], memory: &[u32], table: &[u8], o: u32, l: u16, x: 
     chain_sound(program, memory, table, o, x, head)
 }
 
-// Whether D slot l of o holds what a command of this code and x makes.
-fn slot_sound(program: &[u8], memory: &[u32], table: &[u8], o: u32, l: u16, code: u8, x: u8) -> bool
-    ensures { λ r. ⌜ r ≡ P.slotSound (now (program .entry)) (now (memory .entry)) (now (table .entry)) o l (W.madeOf code x) ⌝ }
+// Whether a D slot of o holds what its command makes.
+fn slot_sound(program: &[u8], memory: &[u32], table: &[u8], o: u32, s: DSlot) -> bool
+    ensures { λ r. ⌜ r ≡ P.slotSound (now (program .entry)) (now (memory .entry)) (now (table .entry)) o (s .location) (W.madeOf (s .code) (s .x)) ⌝ }
 {
-    if code == Command::ALLOC_MONO {
-        return mono_sound(program, memory, table, o, l, x);
+    if s.code == Command::ALLOC_MONO {
+        return mono_sound(program, memory, table, o, s.location, s.x);
     }
-    if code == Command::MAKE_POLY {
-        return point_sound(program, memory, table, o, l, x);
+    if s.code == Command::MAKE_POLY {
+        return point_sound(program, memory, table, o, s.location, s.x);
     }
     true
-}
-
-// Whether the slot of D command j of o is right; o's commands begin at byte `at`.
-fn command_sound(program: &[u8], at: u32, memory: &[u32], table: &[u8], o: u32, j: u8) -> bool
-    requires { ⌜ at ≡ B.commandsAt (now program) (M.reactor (now memory) o) ⌝ }
-    ensures { λ r. ⌜ r ≡ W.commandSound (now (program .entry)) (now (memory .entry)) (now (table .entry)) o j ⌝ }
-{
-    let r = reactor(memory, o);
-    let l = wide_sources(program, r) as u16 + j as u16;
-    let i = at as usize + 8 * (j as usize);
-    let code = byte(program, i);
-    let x = byte(program, i + 1);
-    slot_sound(program, memory, table, o, l, code, x)
 }
 
 // The first D command of o whose slot is wrong; if none is, how many there are.
@@ -99,7 +88,8 @@ fn first_wrong(program: &[u8], at: u32, memory: &[u32], table: &[u8], o: u32) ->
     let n = wide_declared(program, r);
     let mut j: u8 = 0;
     while j < n {
-        if !command_sound(program, at, memory, table, o, j) {
+        let s = slot_of(program, at, memory, o, j);
+        if !slot_sound(program, memory, table, o, s) {
             return j;
         }
         j = j + 1;
@@ -128,7 +118,7 @@ pub fn lowest_unsound(program: &[u8], places: &[u32], memory: &[u32], table: &[u
     requires { ⌜ W.Tiling (now program) (now memory) u M.mainAt ⌝ }
     ensures { λ r. ⌜ r ≡ P.lowest (P.ownSound (now (program .entry)) (now (memory .entry)) (now (table .entry))) (W.startsOn (now (program .entry)) (now (memory .entry)) u M.mainAt) ⌝ }
 {
-    let mut a: u32 = 2;
+    let mut a = MAIN_AT;
     while a < u {
         let o = a;
         a = following(program, memory, u, a);

@@ -9,6 +9,9 @@ use crate::own::lowest_unsound;
 use crate::table::put_entry;
 use crate::tiling::mark_starts;
 use crate::tiling::tiles;
+use crate::words::MAIN_AT;
+use crate::words::MOST_TURNS;
+use crate::words::MOST_WORDS;
 use crate::words::next;
 use crate::words::reactor;
 use crate::words::turns;
@@ -27,12 +30,6 @@ ghost use Rattle.image.specs.Answer as N;
 ghost use Rattle.image.specs.Memory as M;
 ghost use Rattle.image.specs.Passes as P;
 ghost use Rattle.image.specs.Walk as W;
-
-const MAIN_AT: u32 = 2;
-
-const MOST_TURNS: u32 = 2147483647;
-
-const MOST_WORDS: usize = 16384;
 
 // Whether main comes first.
 fn main_first(program: &[u8], memory: &[u32], u: u32) -> bool

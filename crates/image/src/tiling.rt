@@ -1,6 +1,7 @@
 // The deployments one after the other: they tile the words from 2 to u.
 use crate::deployment::size_at;
 use crate::table::put_entry;
+use crate::words::MAIN_AT;
 use crate::words::reactor;
 use program::reactors;
 ghost use mathlib.Core.Path.{_≡_};
@@ -16,7 +17,7 @@ pub fn tiles(program: &[u8], memory: &[u32], u: u32) -> bool
     ensures { λ r. ⌜ r ≡ P.tilesFrom (now (program .entry)) (now (memory .entry)) (length (now (memory .entry))) u M.mainAt ⌝ }
 {
     let n = reactors(program) as u32;
-    let mut a: u32 = 2;
+    let mut a = MAIN_AT;
     while a < u {
         if n <= reactor(memory, a) {
             return false;
@@ -44,7 +45,7 @@ pub fn mark_starts(program: &[u8], memory: &[u32], table: &mut [u8], u: u32)
     requires { ⌜ W.Tiling (now program) (now memory) u M.mainAt ⌝ }
     ensures { λ _. ⌜ now (table .exit) ≡ P.over (λ t a. set t a 1) (now (table .entry)) (W.startsOn (now (program .entry)) (now (memory .entry)) u M.mainAt) ⌝ }
 {
-    let mut a: u32 = 2;
+    let mut a = MAIN_AT;
     while a < u {
         let o = a;
         a = following(program, memory, u, a);

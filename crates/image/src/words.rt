@@ -3,6 +3,16 @@ ghost use mathlib.Core.Path.{_≡_};
 ghost use lib.ListN.{set};
 ghost use Rattle.image.specs.Memory as M;
 
+pub const MAIN_AT: u32 = 2;
+
+pub const FEWEST_WORDS: usize = 2;
+
+pub const MOST_WORDS: usize = 16384;
+
+pub const MOST_TURNS: u32 = 2147483647;
+
+pub const MOST_DEPTH: u8 = 64;
+
 // The word at `i`, and 0 past the end.
 pub fn word(memory: &[u32], i: usize) -> u32
     ensures { λ r. ⌜ r ≡ M.word (now (memory .entry)) i ⌝ }

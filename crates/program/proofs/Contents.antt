@@ -1,4 +1,4 @@
--- Which contents are legal, by the kind's number.
+-- Which contents are legal, and which mark a value has, by the kind's number.
 -- Assumes nothing.
 use Prim.Native.Nat.{ℕ, zero, suc, _-_, _≤_, _<_}
 use mathlib.Core.Path.{_≡_, refl, sym, ap, _∙_}
@@ -6,6 +6,7 @@ use mathlib.Core.Bool.{true, false}
 use mathlib.Core.List.{List}
 use native.Mathlib.Omega.{arith}
 use Rattle.value.specs.Test.{_and_, _<?_, _=?_}
+use Rattle.value.specs.Value.{markOf}
 use Rattle.value.proofs.Tests.{lt!, lt×, left×, true-and}
 use Rattle.program.specs.Bytes.{reactors, shapeOf}
 use Rattle.program.specs.Kind.{contentLegal}
@@ -33,3 +34,22 @@ module _ (p : List ℕ) (c : ℕ) where
 
   pub reactor-content : (k s : ℕ) → 2 ≤ k → c < reactors p → s ≡ shapeOf p c → (s =? k - 2) ≡ contentLegal p k c
   reactor-content k s h g e = ap (λ (x : ℕ). x =? k - 2) e ∙ sym (true-and _ (lt! g)) ∙ named k h
+
+-- ---- the mark of a kind
+
+pub number-mark : (k : ℕ) → k < 1 → 1 ≡ markOf k
+unfolding markOf
+number-mark zero h = refl
+number-mark (suc k) h = absurd (omega arith)
+
+pub truth-mark : (k : ℕ) → 1 ≤ k → k < 2 → 2 ≡ markOf k
+unfolding markOf
+truth-mark zero g h = absurd (omega arith)
+truth-mark (suc zero) g h = refl
+truth-mark (suc (suc k)) g h = absurd (omega arith)
+
+pub reactor-mark : (k : ℕ) → 2 ≤ k → 3 ≡ markOf k
+unfolding markOf
+reactor-mark zero h = absurd (omega arith)
+reactor-mark (suc zero) h = absurd (omega arith)
+reactor-mark (suc (suc k)) h = refl

@@ -2,6 +2,7 @@
 // what the bytes there say, 0 past the end.
 use crate::bytes::byte;
 use crate::bytes::shapes;
+use crate::entry::tables_end;
 use crate::shape::shape_at;
 use crate::shape::sinks_in;
 use crate::shape::sources_in;
@@ -39,6 +40,28 @@ fn wide_running(program: &[u8], r: u32) -> u8
     wide_byte(program, r, 2)
 }
 
+// How many D and R commands.
+pub fn wide_commands_in(program: &[u8], r: u32) -> u16
+    ensures is { λ n. ⌜ n ≡ B.commandsIn (now (program .entry)) r ⌝ }
+    ensures few { λ n. ⌜ n < 511 ⌝ }
+{
+    wide_declared(program, r) as u16 + wide_running(program, r) as u16
+}
+
+// The byte at which the commands begin: the sum over the entries before.
+pub fn wide_commands_at(program: &[u8], r: u32) -> u64
+    ensures is { λ at. ⌜ at ≡ B.commandsAt (now (program .entry)) r ⌝ }
+    ensures small { λ at. ⌜ at < 20000000000000 ⌝ }
+{
+    let mut at = tables_end(program) as u64;
+    let mut i: u32 = 0;
+    while i < r {
+        at = at + 8 * (wide_commands_in(program, i) as u64);
+        i = i + 1;
+    }
+    at
+}
+
 pub fn wide_sources(program: &[u8], r: u32) -> u8
     ensures { λ n. ⌜ n ≡ L.sources (now (program .entry)) r ⌝ }
 {
@@ -51,6 +74,13 @@ fn wide_sinks(program: &[u8], r: u32) -> u8
 {
     let s = wide_shape_of(program, r);
     sinks_in(program, s)
+}
+
+// The location of own sink x.
+pub fn wide_sink_loc(program: &[u8], r: u32, x: u8) -> u16
+    ensures { λ l. ⌜ l ≡ L.sinkLoc (now (program .entry)) r x ⌝ }
+{
+    wide_sources(program, r) as u16 + wide_commands_in(program, r) + x as u16
 }
 
 fn wide_locations(program: &[u8], r: u32) -> u16

@@ -13,7 +13,9 @@ use Rattle.image.proofs.children.lowest_unfit.Statement.{statement}
 use Rattle.image.proofs.children.lowest_unfit.Tie as tie
 
 abbrev Inv-loop : tie.InvT-loop
-Inv-loop pass program memory table u a₀ a = (Tiling program memory u a) × (lowest (λ a. fits pass (getD table a 0)) (startsOn program memory u a) ≡ lowestUnfit program memory pass table u)
+Inv-loop pass program memory table u a₀ a =
+    (Tiling program memory u a)
+    × (lowest (λ a. fits pass (getD table a 0)) (startsOn program memory u a) ≡ lowestUnfit program memory pass table u)
 
 abbrev μ-loop : tie.MeasureT-loop
 μ-loop pass program memory table u a₀ a = u - a
@@ -28,29 +30,41 @@ following-requires-2 : tie.Need-following-requires-2 Inv-loop μ-loop
 following-requires-2 c κs = (c .before .loop .inv .0, c .loop-test .taken)
 
 returns : tie.Need-returns Inv-loop μ-loop
-returns c = let f = c .before .before .before .following2 .ensures in lowest-found _ _ _ _ (f .here) (refused (c .before .fitting .ensures ∙ ap (fits (c .before .before .before .before .before .before .before .before .before .before .args .pass)) (c .before .before .entry .ensures)) (c .if1 .taken)) ∙ c .before .before .before .before .before .loop .inv .1
+returns c =
+    let f = c .before .before .before .following2 .ensures in
+    lowest-found _ _ _ _ (f .here)
+    (refused
+    (c .before .fitting .ensures
+    ∙ ap (fits (c .before .before .before .before .before .before .before .before .before .before .args .pass))
+    (c .before .before .entry .ensures)) (c .if1 .taken))
+    ∙ c .before .before .before .before .before .loop .inv .1
 
 loop-less : tie.Need-loop-less Inv-loop μ-loop
 loop-less c = let f = c .before .before .before .following2 .ensures in omega (arith, f .rises)
 
 loop-again : tie.Need-loop-again Inv-loop μ-loop
-loop-again c = let f = c .before .before .before .following2 .ensures in (f .tiling, lowest-next _ _ _ _ (f .here) (passed (c .before .fitting .ensures ∙ ap (fits (c .before .before .before .before .before .before .before .before .before .before .args .pass)) (c .before .before .entry .ensures)) (c .if1 .left)) ∙ c .before .before .before .before .before .loop .inv .1)
+loop-again c =
+    let f = c .before .before .before .following2 .ensures in (
+      f .tiling,
+      lowest-next _ _ _ _ (f .here)
+          (passed
+          (c .before .fitting .ensures
+          ∙ ap (fits (c .before .before .before .before .before .before .before .before .before .before .args .pass))
+          (c .before .before .entry .ensures)) (c .if1 .left))
+          ∙ c .before .before .before .before .before .loop .inv .1,
+    )
 
 returns-2 : tie.Need-returns-2 Inv-loop μ-loop
-returns-2 c = let start = c .before .before .before .before .before .before in lowest-done _ _ (starts-done (now (start .args .program)) (now (start .args .memory)) (start .args .u) (c .before .loop .a) (c .loop-test .left)) ∙ c .before .loop .inv .1
+returns-2 c =
+    let start = c .before .before .before .before .before .before in
+    lowest-done _ _
+    (starts-done (now (start .args .program)) (now (start .args .memory)) (start .args .u) (c .before .loop .a)
+    (c .loop-test .left))
+    ∙ c .before .loop .inv .1
 
 pub lowest-unfit-spec : {M : Type 1} → statement M
 lowest-unfit-spec =
     tie.close
     (tie.spec
-    Inv-loop
-    μ-loop
-    following-requires
-    loop-holds
-    following-requires-2
-    (λ c κs. search needs)
-    (λ c κs. search needs)
-    returns
-    loop-less
-    loop-again
-    returns-2)
+    Inv-loop μ-loop following-requires loop-holds following-requires-2 (λ c κs. search needs)
+    (λ c κs. search needs) returns loop-less loop-again returns-2)

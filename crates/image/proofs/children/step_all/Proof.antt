@@ -11,7 +11,10 @@ use Rattle.image.proofs.children.step_all.Statement.{statement}
 use Rattle.image.proofs.children.step_all.Tie as tie
 
 abbrev Inv-loop : tie.InvT-loop
-Inv-loop pass program places memory table₀ u a₀ table a = (Tiling program memory u a) × (length table ≡ length table₀) × (over (stepAll program memory pass) table (startsOn program memory u a) ≡ over (stepAll program memory pass) table₀ (startsOn program memory u 2))
+Inv-loop pass program places memory table₀ u a₀ table a =
+    (Tiling program memory u a) × (length table ≡ length table₀)
+    × (over (stepAll program memory pass) table (startsOn program memory u a) ≡ over (stepAll program memory pass) table₀
+    (startsOn program memory u 2))
 
 abbrev μ-loop : tie.MeasureT-loop
 μ-loop pass program places memory table₀ u a₀ table a = u - a
@@ -32,25 +35,28 @@ loop-less : tie.Need-loop-less Inv-loop μ-loop
 loop-less c = let f = c .before .before .before .before .before .following .ensures in omega (arith, f .rises)
 
 loop-again : tie.Need-loop-again Inv-loop μ-loop
-loop-again c = let f = c .before .before .before .before .before .following .ensures in (f .tiling, cc, over-next _ _ _ _ _ _ (f .here) (c .before .before .step-children .ensures) ∙ c .before .before .before .before .before .before .before .loop .inv .2)
+loop-again c =
+    let f = c .before .before .before .before .before .following .ensures in (
+      f .tiling,
+      cc,
+      over-next _ _ _ _ _ _ (f .here) (c .before .before .step-children .ensures)
+          ∙ c .before .before .before .before .before .before .before .loop .inv .2,
+    )
 
 same-length : tie.Need-same-length Inv-loop μ-loop
 same-length c = cc
 
 returns : tie.Need-returns Inv-loop μ-loop
-returns c = let start = c .before .before .before .before .before .before in over-done _ _ _ (starts-done (now (start .args .program)) (now (start .args .memory)) (start .args .u) (c .before .loop .a) (c .loop-test .left)) ∙ c .before .loop .inv .2
+returns c =
+    let start = c .before .before .before .before .before .before in
+    over-done _ _ _
+    (starts-done (now (start .args .program)) (now (start .args .memory)) (start .args .u) (c .before .loop .a)
+    (c .loop-test .left))
+    ∙ c .before .loop .inv .2
 
 pub step-all-spec : {M : Type 1} → statement M
 step-all-spec =
     tie.close
     (tie.spec
-    Inv-loop
-    μ-loop
-    loop-holds
-    following-requires
-    position-requires
-    step-children-requires
-    loop-less
-    loop-again
-    same-length
-    returns)
+    Inv-loop μ-loop loop-holds following-requires position-requires step-children-requires loop-less
+    loop-again same-length returns)

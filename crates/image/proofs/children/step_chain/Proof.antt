@@ -12,7 +12,9 @@ use Rattle.image.proofs.children.step_chain.Statement.{statement}
 use Rattle.image.proofs.children.step_chain.Tie as tie
 
 abbrev Inv-loop : tie.InvT-loop
-Inv-loop pass program memory table₀ o head c₀ left₀ table c left = (length table ≡ length table₀) × (over (step pass o) table (membersFrom program memory left c) ≡ over (step pass o) table₀ (membersFrom program memory (reactors program) head))
+Inv-loop pass program memory table₀ o head c₀ left₀ table c left =
+    (length table ≡ length table₀) × (over (step pass o) table (membersFrom program memory left c) ≡ over (step pass o) table₀
+    (membersFrom program memory (reactors program) head))
 
 abbrev μ-loop : tie.MeasureT-loop
 μ-loop pass program memory table₀ o head c₀ left₀ table c left = left
@@ -27,7 +29,13 @@ returns : tie.Need-returns Inv-loop μ-loop
 returns c = over-done _ _ _ (members-end _ _ _ _ (omega arith)) ∙ c .before .before .loop .inv .1
 
 loop-again : tie.Need-loop-again Inv-loop μ-loop
-loop-again c = (cc, over-next _ _ _ _ _ _ (members-next _ _ _ _ (c .before .before .before .before .before .before .before .loop .left - 1) _ (omega arith) (omega arith) (c .next .ensures)) (c .before .before .before .step .ensures) ∙ c .before .before .before .before .before .before .before .loop .inv .1)
+loop-again c = (
+  cc,
+  over-next _ _ _ _ _ _
+      (members-next _ _ _ _ (c .before .before .before .before .before .before .before .loop .left - 1) _ (omega arith)
+      (omega arith) (c .next .ensures)) (c .before .before .before .step .ensures)
+      ∙ c .before .before .before .before .before .before .before .loop .inv .1,
+)
 
 same-length-2 : tie.Need-same-length-2 Inv-loop μ-loop
 same-length-2 c = cc
@@ -39,16 +47,6 @@ pub step-chain-spec : {M : Type 1} → statement M
 step-chain-spec =
     tie.close
     (tie.spec
-    Inv-loop
-    μ-loop
-    (λ c κs. search needs)
-    loop-holds
-    same-length
-    returns
-    (λ c κs. search needs)
-    (λ c κs. search needs)
-    (λ c. search needs)
-    (λ c. search needs)
-    loop-again
-    same-length-2
+    Inv-loop μ-loop (λ c κs. search needs) loop-holds same-length returns (λ c κs. search needs)
+    (λ c κs. search needs) (λ c. search needs) (λ c. search needs) loop-again same-length-2
     returns-2)

@@ -1,17 +1,21 @@
 use Prim.Native.Nat.{_-_}
 use Rattle.image.proofs.Chains.{children-done, children-next}
-use Rattle.image.proofs.Walks.{children-first}
-use Rattle.image.specs.Passes.{childrenFrom, over}
-use Rattle.image.specs.Walk.{step, stepAll}
+use Rattle.image.proofs.Walks.{by-slot, children-first}
+use Rattle.image.specs.Passes.{childrenFrom, namedBy, over}
+use Rattle.image.specs.Walk.{namedAt, step, stepAll}
 use Rattle.program.specs.Bytes.{declared}
+use Rattle.value.proofs.Below.{at}
 use borrow.Author.Needs.{needs}
+use denote.Ref.{now}
 use lib.ListN.{length}
 use mathlib.Core.Path.{_∙_, _≡_, ap, refl}
 use Rattle.image.proofs.children.step_children.Statement.{statement}
 use Rattle.image.proofs.children.step_children.Tie as tie
 
 abbrev Inv-loop : tie.InvT-loop
-Inv-loop pass program at memory table₀ o r n j₀ table j = (length table ≡ length table₀) × (over (step pass o) table (childrenFrom program memory (n - j) j o) ≡ stepAll program memory pass table₀ o)
+Inv-loop pass program at memory table₀ o r n j₀ table j =
+    (length table ≡ length table₀)
+    × (over (step pass o) table (childrenFrom program memory (n - j) j o) ≡ stepAll program memory pass table₀ o)
 
 abbrev μ-loop : tie.MeasureT-loop
 μ-loop pass program at memory table₀ o r n j₀ table j = n - j
@@ -19,11 +23,21 @@ abbrev μ-loop : tie.MeasureT-loop
 loop-holds : tie.Need-loop-holds Inv-loop μ-loop
 loop-holds c = (refl, children-first _ _ _ _ _ _ (c .wide-declared .ensures ∙ ap (declared _) (c .before .reactor .ensures)))
 
-step-command-requires : tie.Need-step-command-requires Inv-loop μ-loop
-step-command-requires c κs = c .before .before .before .before .before .before .before .before .pre
+slot-of-requires : tie.Need-slot-of-requires Inv-loop μ-loop
+slot-of-requires c κs = c .before .before .before .before .before .before .before .pre
 
 loop-again : tie.Need-loop-again Inv-loop μ-loop
-loop-again c = (cc, children-next _ _ _ _ _ _ _ _ (c .before .before .before .before .loop-test .taken) (c .before .before .step-command .ensures) ∙ c .before .before .before .before .before .loop .inv .1)
+unfolding namedAt
+loop-again c =
+    let start = c .before .before .before .before .before .before .before .before .before .before .before .before in (
+      cc,
+      children-next _ _ _ _ _ _ _ _ (c .before .before .before .before .before .loop-test .taken)
+          (c .before .before .step-slot .ensures
+          ∙ ap (over (step (start .args .pass) (start .args .o)) (c .before .before .before .before .before .before .loop .table))
+          (by-slot (namedBy (now (start .args .program)) (now (start .args .memory)) (start .args .o)) _ _ _ _ _
+          (c .before .before .before .before .slot-of .ensures)))
+          ∙ c .before .before .before .before .before .before .loop .inv .1,
+    )
 
 same-length : tie.Need-same-length Inv-loop μ-loop
 same-length c = cc
@@ -35,14 +49,5 @@ pub step-children-spec : {M : Type 1} → statement M
 step-children-spec =
     tie.close
     (tie.spec
-    Inv-loop
-    μ-loop
-    (λ c κs. search needs)
-    (λ c κs. search needs)
-    loop-holds
-    step-command-requires
-    (λ c. search needs)
-    (λ c. search needs)
-    loop-again
-    same-length
-    returns)
+    Inv-loop μ-loop (λ c κs. search needs) (λ c κs. search needs) loop-holds slot-of-requires
+    (λ c κs. search needs) (λ c. search needs) (λ c. search needs) loop-again same-length returns)

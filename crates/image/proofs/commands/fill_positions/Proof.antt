@@ -12,7 +12,9 @@ use Rattle.image.proofs.commands.fill_positions.Statement.{statement}
 use Rattle.image.proofs.commands.fill_positions.Tie as tie
 
 abbrev Inv-loop : tie.InvT-loop
-Inv-loop program places₀ n at₀ r₀ places at r = (at ≡ commandsAt program r) × (r ≤ n) × (at ≤ 65536 + 4080 * r) × (length places ≡ 256) × ((k : ℕ) → k < r → getD places k 0 ≡ commandsAt program k)
+Inv-loop program places₀ n at₀ r₀ places at r =
+    (at ≡ commandsAt program r) × (r ≤ n) × (at ≤ 65536 + 4080 * r) × (length places ≡ 256)
+    × ((k : ℕ) → k < r → getD places k 0 ≡ commandsAt program k)
 
 abbrev μ-loop : tie.MeasureT-loop
 μ-loop program places₀ n at₀ r₀ places at r = n - r
@@ -21,7 +23,17 @@ loop-holds : tie.Need-loop-holds Inv-loop μ-loop
 loop-holds c = (c .tables-end .ensures ∙ sym (commands-first _), omega arith, omega arith, c .before .before .before .before .pre, below-none _)
 
 loop-again : tie.Need-loop-again Inv-loop μ-loop
-loop-again c = let start = c .before .before .before .before .before .before .before .before .before .before .before in let l = c .before .before .before .before .before .before .loop in let h : l .r < length (l .places) = omega arith in (omega (arith, commands-next (now (start .args .program)) (l .r)), omega arith, omega arith, cc, positions-next (now (start .args .program)) (l .places) _ (l .r) (l .at) h (l .inv .0) (l .inv .4) (c .before .before .before .put .ensures))
+loop-again c =
+    let start = c .before .before .before .before .before .before .before .before .before .before .before in
+    let l = c .before .before .before .before .before .before .loop in
+    let h : l .r < length (l .places) = omega arith in (
+      omega (arith, commands-next (now (start .args .program)) (l .r)),
+      omega arith,
+      omega arith,
+      cc,
+      positions-next (now (start .args .program)) (l .places) _ (l .r) (l .at) h (l .inv .0) (l .inv .4)
+          (c .before .before .before .put .ensures),
+    )
 
 same-length : tie.Need-same-length Inv-loop μ-loop
 same-length c = c .before .loop .inv .3 ∙ sym (c .before .before .before .before .before .before .pre)
@@ -33,20 +45,7 @@ pub fill-positions-spec : {M : Type 1} → statement M
 fill-positions-spec =
     tie.close
     (tie.spec
-    Inv-loop
-    μ-loop
-    (λ c κs. search needs)
-    (λ c κs. search needs)
-    (λ c. search needs)
-    loop-holds
-    (λ c. search needs)
-    (λ c κs. search needs)
-    (λ c κs. search needs)
-    (λ c. search needs)
-    (λ c. search needs)
-    (λ c. search needs)
-    (λ c. search needs)
-    (λ c. search needs)
-    loop-again
-    same-length
-    returns)
+    Inv-loop μ-loop (λ c κs. search needs) (λ c κs. search needs) (λ c. search needs) loop-holds
+    (λ c. search needs) (λ c κs. search needs) (λ c κs. search needs) (λ c. search needs)
+    (λ c. search needs) (λ c. search needs) (λ c. search needs) (λ c. search needs) loop-again
+    same-length returns)

@@ -10,7 +10,15 @@ use Rattle.image.proofs.deployment.slot.Tie as tie
 
 returns : tie.Need-returns
 unfolding slot
-returns c = let start = c .before .before .before .before in (omega (arith, c .wide-slot-at .ensures .0 ∙ ap (λ (r : ℕ). slotAt (now (start .args .program)) r (start .args .l)) (c .before .reactor .ensures)), omega arith)
+returns c =
+    let start = c .before .before .before .before in (
+      omega (
+        arith,
+        c .wide-slot-at .ensures .0
+            ∙ ap (λ (r : ℕ). slotAt (now (start .args .program)) r (start .args .l)) (c .before .reactor .ensures),
+      ),
+      omega arith,
+    )
 
 pub slot-spec : {M : Type 1} → statement M
 slot-spec =

@@ -8,34 +8,37 @@ use Rattle.image.proofs.own.clear_at.Statement.{statement}
 use Rattle.image.proofs.own.clear_at.Tie as tie
 
 sub-zero-at : tie.Need-sub-zero-at
-sub-zero-at c = omega (arith, slots-first (now (c .before .before .before .before .before .before .before .before .args .program)) (c .before .before .before .before .before .reactor .result) (c .before .before .before .before .wide-sources .result))
+sub-zero-at c =
+    omega (
+      arith,
+      slots-first (now (c .before .before .before .before .before .before .before .before .args .program))
+          (c .before .before .before .before .before .reactor .result) (c .before .before .before .before .wide-sources .result),
+    )
 
 sub-zero-at-2 : tie.Need-sub-zero-at-2
-sub-zero-at-2 c = omega (arith, slots-within (now (c .before .before .before .before .before .before .before .before .before .args .program)) (c .before .before .before .before .before .before .reactor .result) _ _ (c .before .before .before .before .before .wide-sources .ensures) (c .before .before .before .wide-declared .ensures))
+sub-zero-at-2 c =
+    omega (
+      arith,
+      slots-within (now (c .before .before .before .before .before .before .before .before .before .args .program))
+          (c .before .before .before .before .before .before .reactor .result) _ _
+          (c .before .before .before .before .before .wide-sources .ensures) (c .before .before .before .wide-declared .ensures),
+    )
 
 returns : tie.Need-returns
-returns c = same-and (c .before .zero-at .ensures) (c .zero-at2 .ensures) ∙ clear-same _ _ _ _ (c .before .before .before .before .before .before .wide-sources .ensures) (c .before .before .before .before .wide-declared .ensures) _ _ _ _ _ (c .before .before .before .before .before .before .before .reactor .ensures) (c .before .before .before .before .before .wide-slot-at .ensures .0) (c .before .before .before .wide-slot-at2 .ensures .0) (c .before .before .wide-size-of .ensures .0)
+returns c =
+    same-and (c .before .zero-at .ensures) (c .zero-at2 .ensures)
+    ∙ clear-same _ _ _ _ (c .before .before .before .before .before .before .wide-sources .ensures)
+    (c .before .before .before .before .wide-declared .ensures) _ _ _ _ _
+    (c .before .before .before .before .before .before .before .reactor .ensures)
+    (c .before .before .before .before .before .wide-slot-at .ensures .0) (c .before .before .before .wide-slot-at2 .ensures .0)
+    (c .before .before .wide-size-of .ensures .0)
 
 pub clear-at-spec : {M : Type 1} → statement M
 clear-at-spec =
     tie.close
     (tie.spec
-    (λ c κs. search needs)
-    (λ c κs. search needs)
-    (λ c. search needs)
-    (λ c κs. search needs)
-    (λ c κs. search needs)
-    (λ c. search needs)
-    (λ c. search needs)
-    (λ c κs. search needs)
-    (λ c κs. search needs)
-    (λ c. search needs)
-    sub-zero-at
-    (λ c. search needs)
-    (λ c κs. search needs)
-    (λ c. search needs)
-    (λ c. search needs)
-    sub-zero-at-2
-    (λ c. search needs)
-    (λ c κs. search needs)
-    returns)
+    (λ c κs. search needs) (λ c κs. search needs) (λ c. search needs) (λ c κs. search needs)
+    (λ c κs. search needs) (λ c. search needs) (λ c. search needs) (λ c κs. search needs)
+    (λ c κs. search needs) (λ c. search needs) sub-zero-at (λ c. search needs)
+    (λ c κs. search needs) (λ c. search needs) (λ c. search needs) sub-zero-at-2 (λ c. search needs)
+    (λ c κs. search needs) returns)

@@ -11,7 +11,10 @@ use Rattle.image.proofs.own.lowest_unsound.Statement.{statement}
 use Rattle.image.proofs.own.lowest_unsound.Tie as tie
 
 abbrev Inv-loop : tie.InvT-loop
-Inv-loop program places memory table u a₀ a = (Tiling program memory u a) × (lowest (ownSound program memory table) (startsOn program memory u a) ≡ lowest (ownSound program memory table) (startsOn program memory u 2))
+Inv-loop program places memory table u a₀ a =
+    (Tiling program memory u a)
+    × (lowest (ownSound program memory table) (startsOn program memory u a) ≡ lowest (ownSound program memory table)
+    (startsOn program memory u 2))
 
 abbrev μ-loop : tie.MeasureT-loop
 μ-loop program places memory table u a₀ a = u - a
@@ -29,28 +32,33 @@ own-sound-requires : tie.Need-own-sound-requires Inv-loop μ-loop
 own-sound-requires c κs = c .position .ensures
 
 returns : tie.Need-returns Inv-loop μ-loop
-returns c = let f = c .before .before .before .following .ensures in lowest-found _ _ _ _ (f .here) (refused (c .before .own-sound .ensures) (c .if1 .taken)) ∙ c .before .before .before .before .before .loop .inv .1
+returns c =
+    let f = c .before .before .before .following .ensures in
+    lowest-found _ _ _ _ (f .here) (refused (c .before .own-sound .ensures) (c .if1 .taken))
+    ∙ c .before .before .before .before .before .loop .inv .1
 
 loop-less : tie.Need-loop-less Inv-loop μ-loop
 loop-less c = let f = c .before .before .before .following .ensures in omega (arith, f .rises)
 
 loop-again : tie.Need-loop-again Inv-loop μ-loop
-loop-again c = let f = c .before .before .before .following .ensures in (f .tiling, lowest-next _ _ _ _ (f .here) (passed (c .before .own-sound .ensures) (c .if1 .left)) ∙ c .before .before .before .before .before .loop .inv .1)
+loop-again c =
+    let f = c .before .before .before .following .ensures in (
+      f .tiling,
+      lowest-next _ _ _ _ (f .here) (passed (c .before .own-sound .ensures) (c .if1 .left))
+          ∙ c .before .before .before .before .before .loop .inv .1,
+    )
 
 returns-2 : tie.Need-returns-2 Inv-loop μ-loop
-returns-2 c = let start = c .before .before .before .before .before .before in lowest-done _ _ (starts-done (now (start .args .program)) (now (start .args .memory)) (start .args .u) (c .before .loop .a) (c .loop-test .left)) ∙ c .before .loop .inv .1
+returns-2 c =
+    let start = c .before .before .before .before .before .before in
+    lowest-done _ _
+    (starts-done (now (start .args .program)) (now (start .args .memory)) (start .args .u) (c .before .loop .a)
+    (c .loop-test .left))
+    ∙ c .before .loop .inv .1
 
 pub lowest-unsound-spec : {M : Type 1} → statement M
 lowest-unsound-spec =
     tie.close
     (tie.spec
-    Inv-loop
-    μ-loop
-    loop-holds
-    following-requires
-    position-requires
-    own-sound-requires
-    returns
-    loop-less
-    loop-again
-    returns-2)
+    Inv-loop μ-loop loop-holds following-requires position-requires own-sound-requires returns
+    loop-less loop-again returns-2)

@@ -13,16 +13,15 @@ returns c = and-stops _ (eq× (λ e. c .if1 .taken (c .before .mark .ensures ∙
 
 returns-2 : tie.Need-returns-2
 unfolding slotSound
-returns-2 c = rw (← c .before .before .before .content .ensures) (and-goes (eq! (omega arith)) (same-and4 (same-lt refl refl) (c .before .before .is-start .ensures) (same-eq (c .before .reactor .ensures) refl) (same-eq (c .next .ensures) refl)))
+returns-2 c =
+    rw (← c .before .before .before .content .ensures)
+    (and-goes (eq! (omega arith))
+    (same-and4 (same-lt refl refl) (c .before .before .is-start .ensures) (same-eq (c .before .reactor .ensures) refl)
+    (same-eq (c .next .ensures) refl)))
 
 pub mono-sound-spec : {M : Type 1} → statement M
 mono-sound-spec =
     tie.close
     (tie.spec
-    (λ c κs. search needs)
-    returns
-    (λ c κs. search needs)
-    (λ c κs. search needs)
-    (λ c κs. search needs)
-    (λ c κs. search needs)
-    returns-2)
+    (λ c κs. search needs) returns (λ c κs. search needs) (λ c κs. search needs)
+    (λ c κs. search needs) (λ c κs. search needs) returns-2)

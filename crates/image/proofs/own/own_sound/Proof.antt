@@ -22,17 +22,15 @@ first-wrong-requires c κs = c .before .before .before .before .before .before .
 
 returns-3 : tie.Need-returns-3
 unfolding ownSound commandSound
-returns-3 c = and-goes (eq! (omega arith)) (and-goes (passed (c .before .before .before .before .clear-at .ensures) (c .before .before .before .if2 .left)) (same-eq (c .before .first-wrong .ensures) (c .wide-declared .ensures ∙ ap (declared _) (c .before .before .reactor .ensures))))
+returns-3 c =
+    and-goes (eq! (omega arith))
+    (and-goes (passed (c .before .before .before .before .clear-at .ensures) (c .before .before .before .if2 .left))
+    (same-eq (c .before .first-wrong .ensures)
+    (c .wide-declared .ensures ∙ ap (declared _) (c .before .before .reactor .ensures))))
 
 pub own-sound-spec : {M : Type 1} → statement M
 own-sound-spec =
     tie.close
     (tie.spec
-    (λ c κs. search needs)
-    returns
-    (λ c κs. search needs)
-    returns-2
-    (λ c κs. search needs)
-    first-wrong-requires
-    (λ c κs. search needs)
-    returns-3)
+    (λ c κs. search needs) returns (λ c κs. search needs) returns-2 (λ c κs. search needs)
+    first-wrong-requires (λ c κs. search needs) returns-3)

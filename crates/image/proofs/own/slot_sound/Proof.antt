@@ -13,8 +13,10 @@ returns-2 c = c .point-sound .ensures ∙ ap (slotSound _ _ _ _ _) (made-point _
 
 returns-3 : tie.Need-returns-3
 unfolding slotSound
-returns-3 c = ap (slotSound _ _ _ _ _) (made-other _ _ (c .before .if1 .left) (c .if2 .left))
+returns-3 c = ap (slotSound _ _ _ _ _) (made-other _ _ (c .before .before .if1 .left) (c .if2 .left))
 
 pub slot-sound-spec : {M : Type 1} → statement M
 slot-sound-spec =
-    tie.close (tie.spec (λ c κs. search needs) returns (λ c κs. search needs) returns-2 returns-3)
+    tie.close
+    (tie.spec
+    (λ c κs. search needs) returns (λ c κs. search needs) returns-2 returns-3)

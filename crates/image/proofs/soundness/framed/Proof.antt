@@ -17,37 +17,48 @@ returns-2 c = rw (← c .before .before .before .used .ensures) (and-goes (le! (
 
 returns-3 : tie.Need-returns-3
 unfolding framedOf
-returns-3 c = rw (← c .before .before .before .before .before .used .ensures) (and-goes (le! (omega arith)) (and-goes (le! (omega arith)) (and-stops _ (refused (c .before .main-first .ensures) (c .if3 .taken)))))
+returns-3 c =
+    rw (← c .before .before .before .before .before .used .ensures)
+    (and-goes (le! (omega arith))
+    (and-goes (le! (omega arith)) (and-stops _ (refused (c .before .main-first .ensures) (c .if3 .taken)))))
 
 returns-4 : tie.Need-returns-4
 unfolding framedOf
-returns-4 c = rw (← c .before .before .before .before .before .before .before .used .ensures) (and-goes (le! (omega arith)) (and-goes (le! (omega arith)) (and-goes (passed (c .before .before .before .main-first .ensures) (c .before .before .if3 .left)) (and-stops _ (refused (c .before .tiles .ensures) (c .if4 .taken))))))
+returns-4 c =
+    rw (← c .before .before .before .before .before .before .before .used .ensures)
+    (and-goes (le! (omega arith))
+    (and-goes (le! (omega arith))
+    (and-goes (passed (c .before .before .before .main-first .ensures) (c .before .before .if3 .left))
+    (and-stops _ (refused (c .before .tiles .ensures) (c .if4 .taken))))))
 
 returns-5 : tie.Need-returns-5
 unfolding framedOf
-returns-5 c = rw (← c .before .before .before .before .before .before .before .before .before .used .ensures) (and-goes (le! (omega arith)) (and-goes (le! (omega arith)) (and-goes (passed (c .before .before .before .before .before .main-first .ensures) (c .before .before .before .before .if3 .left)) (and-goes (passed (c .before .before .before .tiles .ensures) (c .before .before .if4 .left)) (and-stops _ (refused (c .before .zero-at .ensures) (c .if5 .taken)))))))
+returns-5 c =
+    rw (← c .before .before .before .before .before .before .before .before .before .used .ensures)
+    (and-goes (le! (omega arith))
+    (and-goes (le! (omega arith))
+    (and-goes
+    (passed (c .before .before .before .before .before .main-first .ensures) (c .before .before .before .before .if3 .left))
+    (and-goes (passed (c .before .before .before .tiles .ensures) (c .before .before .if4 .left))
+    (and-stops _ (refused (c .before .zero-at .ensures) (c .if5 .taken)))))))
 
 returns-6 : tie.Need-returns-6
 unfolding framedOf
-returns-6 c = rw (← c .before .before .before .before .before .before .before .before .before .before .used .ensures) (and-goes (le! (omega arith)) (and-goes (le! (omega arith)) (and-goes (passed (c .before .before .before .before .before .before .main-first .ensures) (c .before .before .before .before .before .if3 .left)) (and-goes (passed (c .before .before .before .before .tiles .ensures) (c .before .before .before .if4 .left)) (and-goes (passed (c .before .before .zero-at .ensures) (c .before .if5 .left)) (same-eq (c .next .ensures) refl))))))
+returns-6 c =
+    rw (← c .before .before .before .before .before .before .before .before .before .before .used .ensures)
+    (and-goes (le! (omega arith))
+    (and-goes (le! (omega arith))
+    (and-goes
+    (passed (c .before .before .before .before .before .before .main-first .ensures)
+    (c .before .before .before .before .before .if3 .left))
+    (and-goes (passed (c .before .before .before .before .tiles .ensures) (c .before .before .before .if4 .left))
+    (and-goes (passed (c .before .before .zero-at .ensures) (c .before .if5 .left)) (same-eq (c .next .ensures) refl))))))
 
 pub framed-spec : {M : Type 1} → statement M
 framed-spec =
     tie.close
     (tie.spec
-    (λ c κs. search needs)
-    (λ c. search needs)
-    returns
-    (λ c κs. search needs)
-    returns-2
-    (λ c κs. search needs)
-    returns-3
-    (λ c κs. search needs)
-    returns-4
-    (λ c. search needs)
-    (λ c. search needs)
-    (λ c. search needs)
-    (λ c κs. search needs)
-    returns-5
-    (λ c κs. search needs)
+    (λ c κs. search needs) (λ c. search needs) returns (λ c κs. search needs) returns-2
+    (λ c κs. search needs) returns-3 (λ c κs. search needs) returns-4 (λ c. search needs)
+    (λ c. search needs) (λ c. search needs) (λ c κs. search needs) returns-5 (λ c κs. search needs)
     returns-6)

@@ -12,25 +12,30 @@ use Rattle.image.proofs.soundness.grown_sound.Tie as tie
 
 returns : tie.Need-returns
 unfolding grownOf startTable
-returns c = let start = c .before .before .before .before .before .before .before .before .before .before .before .before .before in and-stops _ (refused (c .before .before .named-sound .ensures ∙ ap (λ (t : List ℕ). namedOf (now (start .args .program)) (now (start .args .memory)) t (start .args .u)) (c .before .before .before .before .before .before .mark-starts .ensures)) (c .if1 .taken))
+returns c =
+    let start = c .before .before .before .before .before .before .before .before .before .before .before .before .before in
+    and-stops _
+    (refused
+    (c .before .before .named-sound .ensures
+    ∙ ap (λ (t : List ℕ). namedOf (now (start .args .program)) (now (start .args .memory)) t (start .args .u))
+    (c .before .before .before .before .before .before .mark-starts .ensures)) (c .if1 .taken))
 
 returns-2 : tie.Need-returns-2
 unfolding grownOf startTable
-returns-2 c = let start = c .before .before .before .before .before .before .before .before .before .before .before .before .before .before .before .before .before in and-goes (passed (c .before .before .before .before .before .before .named-sound .ensures ∙ ap (λ (t : List ℕ). namedOf (now (start .args .program)) (now (start .args .memory)) t (start .args .u)) (c .before .before .before .before .before .before .before .before .before .before .mark-starts .ensures)) (c .before .before .before .before .if1 .left)) (c .before .shallow .ensures)
+returns-2 c =
+    let start =
+    c .before .before .before .before .before .before .before .before .before .before .before .before .before .before .before .before .before in
+    and-goes
+    (passed
+    (c .before .before .before .before .before .before .named-sound .ensures
+    ∙ ap (λ (t : List ℕ). namedOf (now (start .args .program)) (now (start .args .memory)) t (start .args .u))
+    (c .before .before .before .before .before .before .before .before .before .before .mark-starts .ensures))
+    (c .before .before .before .before .if1 .left)) (c .before .shallow .ensures)
 
 pub grown-sound-spec : {M : Type 1} → statement M
 grown-sound-spec =
     tie.close
     (tie.spec
-    (λ c. search needs)
-    (λ c κs. search needs)
-    (λ c. search needs)
-    (λ c κs. search needs)
-    (λ c. search needs)
-    (λ c. search needs)
-    (λ c κs. search needs)
-    returns
-    (λ c. search needs)
-    (λ c. search needs)
-    (λ c κs. search needs)
-    returns-2)
+    (λ c. search needs) (λ c κs. search needs) (λ c. search needs) (λ c κs. search needs)
+    (λ c. search needs) (λ c. search needs) (λ c κs. search needs) returns (λ c. search needs)
+    (λ c. search needs) (λ c κs. search needs) returns-2)

@@ -17,16 +17,17 @@ returns c = and-stops _ (eq× (λ e. c .if1 .taken (c .before .lowest-unsound .e
 
 returns-2 : tie.Need-returns-2
 unfolding namedOf
-returns-2 c = let start = c .before .before .before .before .before .before .before .before .before .before .before .before .before in and-goes (eq! (omega arith)) (same-eq (c .lowest-unfit .ensures ∙ ap (λ (t : List ℕ). lowestUnfit (now (start .args .program)) (now (start .args .memory)) Names t (start .args .u)) (c .before .before .before .before .step-all .ensures)) refl)
+returns-2 c =
+    let start = c .before .before .before .before .before .before .before .before .before .before .before .before .before in
+    and-goes (eq! (omega arith))
+    (same-eq
+    (c .lowest-unfit .ensures
+    ∙ ap (λ (t : List ℕ). lowestUnfit (now (start .args .program)) (now (start .args .memory)) Names t (start .args .u))
+    (c .before .before .before .before .step-all .ensures)) refl)
 
 pub named-sound-spec : {M : Type 1} → statement M
 named-sound-spec =
     tie.close
     (tie.spec
-    (λ c κs. search needs)
-    (λ c. search needs)
-    returns
-    (λ c κs. search needs)
-    (λ c κs. search needs)
-    (λ c. search needs)
-    returns-2)
+    (λ c κs. search needs) (λ c. search needs) returns (λ c κs. search needs) (λ c κs. search needs)
+    (λ c. search needs) returns-2)

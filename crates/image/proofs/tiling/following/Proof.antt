@@ -6,7 +6,10 @@ use Rattle.image.proofs.tiling.following.Statement.{statement}
 use Rattle.image.proofs.tiling.following.Tie as tie
 
 add-result : tie.Need-add-result
-add-result c = let start = c .before .before .before in let f = follows _ _ _ _ (start .pre .0) (start .pre .1) (start .args .a + c .size-at .result) (omega arith) in omega (arith, f .within)
+add-result c =
+    let start = c .before .before .before in
+    let f = follows _ _ _ _ (start .pre .0) (start .pre .1) (start .args .a + c .size-at .result) (omega arith) in
+    omega (arith, f .within)
 
 returns : tie.Need-returns
 returns c = let start = c .before .before .before in follows _ _ _ _ (start .pre .0) (start .pre .1) _ (omega arith)

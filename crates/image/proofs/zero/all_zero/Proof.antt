@@ -31,7 +31,13 @@ loop-less : tie.Need-loop-less Inv-loop μ-loop
 loop-less c = omega arith
 
 loop-again : tie.Need-loop-again Inv-loop μ-loop
-loop-again c = (omega arith, let f = c .shared-slice-known .given (c .before .before .loop .i) in or-lt 32 (c .before .before .loop .bits) (getD (c .before .before .before .args .words .now) (c .before .before .loop .i) 0) (omega arith) (omega arith), zero-next _ _ _ (omega arith) ∙ c .before .before .loop .inv .2)
+loop-again c = (
+  omega arith,
+  let f = c .shared-slice-known .given (c .before .before .loop .i) in
+      or-lt 32 (c .before .before .loop .bits) (getD (c .before .before .before .args .words .now) (c .before .before .loop .i) 0)
+      (omega arith) (omega arith),
+  zero-next _ _ _ (omega arith) ∙ c .before .before .loop .inv .2,
+)
 
 returns : tie.Need-returns Inv-loop μ-loop
 unfolding _=?_
@@ -41,12 +47,4 @@ pub all-zero-spec : {M : Type 1} → statement M
 all-zero-spec =
     tie.close
     (tie.spec
-    Inv-loop
-    μ-loop
-    loop-holds
-    mul-bits
-    shared-slice-read-bits
-    add-i
-    loop-less
-    loop-again
-    returns)
+    Inv-loop μ-loop loop-holds mul-bits shared-slice-read-bits add-i loop-less loop-again returns)

@@ -28,25 +28,22 @@ loop-less : tie.Need-loop-less Inv-loop μ-loop
 loop-less c = omega arith
 
 loop-again : tie.Need-loop-again Inv-loop μ-loop
-loop-again c = let l = c .before .loop in let d = c .before .before .args .words .now in let h : l .i < length d = omega arith in (omega arith, rw (l .inv .1) (fill-more (l .i) 0 d h), simp length-set (l .inv .2))
+loop-again c =
+    let l = c .before .loop in
+    let d = c .before .before .args .words .now in
+    let h : l .i < length d = omega arith in (omega arith, rw (l .inv .1) (fill-more (l .i) 0 d h), simp length-set (l .inv .2))
 
 same-length : tie.Need-same-length Inv-loop μ-loop
 same-length c = cc
 
 returns : tie.Need-returns Inv-loop μ-loop
-returns c = let d = c .before .before .args .words .now in let e : c .before .loop .i ≡ length d = omega arith in c .before .loop .inv .1 ∙ rw (e, drop-length) (append-nil _)
+returns c =
+    let d = c .before .before .args .words .now in
+    let e : c .before .loop .i ≡ length d = omega arith in c .before .loop .inv .1 ∙ rw (e, drop-length) (append-nil _)
 
 pub wipe-spec : {M : Type 1} → statement M
 wipe-spec =
     tie.close
     (tie.spec
-    Inv-loop
-    μ-loop
-    loop-holds
-    (λ c. search needs)
-    slice-write-words
-    add-i
-    loop-less
-    loop-again
-    same-length
-    returns)
+    Inv-loop μ-loop loop-holds (λ c. search needs) slice-write-words add-i loop-less loop-again
+    same-length returns)

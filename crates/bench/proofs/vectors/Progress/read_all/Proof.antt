@@ -4,10 +4,10 @@ use Rattle.bench.proofs.vectors.Progress.read_all.Statement.{statement}
 use Rattle.bench.proofs.vectors.Progress.read_all.Tie as tie
 
 abbrev Inv-loop : tie.InvT-loop
-Inv-loop fd program₀ state₀ turns₀ program state turns = Unit {0}
+Inv-loop fd room₀ state₀ turns₀ room state turns = Unit {0}
 
 abbrev μ-loop : tie.MeasureT-loop
-μ-loop fd program₀ state₀ turns₀ program state turns = turns
+μ-loop fd room₀ state₀ turns₀ room state turns = turns
 
 loop-holds : tie.Need-loop-holds Inv-loop μ-loop
 loop-holds c = tt

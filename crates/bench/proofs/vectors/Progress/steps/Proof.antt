@@ -6,10 +6,10 @@ use Rattle.bench.proofs.vectors.Progress.steps.Statement.{statement}
 use Rattle.bench.proofs.vectors.Progress.steps.Tie as tie
 
 abbrev Inv-loop : tie.InvT-loop
-Inv-loop text program₀ state₀ i₀ program state i = Unit {0}
+Inv-loop text room₀ state₀ i₀ room state i = Unit {0}
 
 abbrev μ-loop : tie.MeasureT-loop
-μ-loop text program₀ state₀ i₀ program state i = length text - i
+μ-loop text room₀ state₀ i₀ room state i = length text - i
 
 loop-holds : tie.Need-loop-holds Inv-loop μ-loop
 loop-holds c = tt

@@ -1,0 +1,16 @@
+use borrow.Author.Needs.{needs}
+use lib.Seq.{length-take-le}
+use mathlib.Core.Path.{sym}
+use native.Mathlib.Omega.{arith}
+use Rattle.bench.proofs.trial.agrees_within.Statement.{statement}
+use Rattle.bench.proofs.trial.agrees_within.Tie as tie
+
+slice-aggregate-agrees-on : tie.Need-slice-aggregate-agrees-on
+slice-aggregate-agrees-on c = sym (length-take-le _ _ (omega arith))
+
+pub agrees-within-spec : {M : Type 1} → statement M
+agrees-within-spec =
+    tie.close
+    (tie.spec
+    (λ c κs. search needs) (λ c. search needs) (λ c. search needs) slice-aggregate-agrees-on
+    (λ c κs. search needs) (λ c. search needs) (λ c. search needs))

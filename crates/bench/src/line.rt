@@ -1,0 +1,161 @@
+// A line of a file of vectors, read byte by byte.
+//
+// A line is fields with a space between: the number and the place that 01 gives, in decimal; the
+// bytes of the program, in hexadecimal, or `=` for those of the line before; and no, one or two
+// fields of words, `n:` and the bytes of the n words in hexadecimal, further words being zero.
+
+// Bytes that a field has in the room.
+const FIELD: usize = 65536;
+
+// Bytes for the five fields of a line.
+pub const ROOM: usize = 327680;
+
+// What is read of a line: which field it has come to, and whether that is at its bytes; for each
+// field its decimal number and how many hexadecimal digits it has; and how many digits the program
+// of the line before has.
+pub struct Line {
+    field: u8,
+    hex: bool,
+    numbers: [u32; 5],
+    digits: [u32; 5],
+    kept: u32,
+}
+
+impl Line {
+    pub fn first() -> Line {
+        Line {
+            field: 0,
+            hex: false,
+            numbers: [0; 5],
+            digits: [0; 5],
+            kept: 0,
+        }
+    }
+
+    // The line after this one.
+    pub fn following(self) -> Line {
+        let mut line = Line::first();
+        line.kept = self.digits[2];
+        line
+    }
+
+    // One more byte of the line; the bytes that it spells go into the room.
+    pub fn step(self, b: u8, room: &mut [u8; ROOM]) -> Line {
+        match b {
+            b' ' => self.next_field(),
+            b':' => self.at_bytes(),
+            b'=' => self.repeat(),
+            _ => self.digit(value_of(b), room),
+        }
+    }
+
+    fn next_field(self) -> Line {
+        let mut line = self;
+        line.field = self.field % 4 + 1;
+        line.hex = line.field == 2;
+        line
+    }
+
+    fn at_bytes(self) -> Line {
+        let mut line = self;
+        line.hex = true;
+        line
+    }
+
+    fn repeat(self) -> Line {
+        let mut line = self;
+        line.digits[2] = self.kept;
+        line
+    }
+
+    fn digit(self, d: u8, room: &mut [u8; ROOM]) -> Line {
+        let mut line = self;
+        let f = self.field as usize;
+        if 5 <= f {
+            return line;
+        }
+        if !self.hex {
+            line.numbers[f] = append(line.numbers[f], d);
+            return line;
+        }
+        let i = line.digits[f];
+        put_digit(room, self.field, i, d);
+        line.digits[f] = i % 1000000 + 1;
+        line
+    }
+
+    pub fn number(self) -> u32 {
+        self.numbers[0]
+    }
+
+    // Whether these are the line's number and place.
+    pub fn says(self, number: u8, place: usize) -> bool {
+        (self.numbers[0] == number as u32) & (self.numbers[1] as usize == place)
+    }
+
+    pub fn program<'a>(self, room: &'a [u8]) -> &'a [u8] {
+        bytes_of(room, 2, self.digits[2])
+    }
+
+    // How many words there are, and the bytes of those that are written out.
+    pub fn count(self) -> usize {
+        self.numbers[3] as usize
+    }
+
+    pub fn words<'a>(self, room: &'a [u8]) -> &'a [u8] {
+        bytes_of(room, 3, self.digits[3])
+    }
+
+    // The same for the second field of words.
+    pub fn count_after(self) -> usize {
+        self.numbers[4] as usize
+    }
+
+    pub fn words_after<'a>(self, room: &'a [u8]) -> &'a [u8] {
+        bytes_of(room, 4, self.digits[4])
+    }
+}
+
+// A decimal number with one more digit; no field of a vector has more than seven.
+fn append(n: u32, d: u8) -> u32 {
+    (n % 1000000) * 10 + d as u32
+}
+
+// The value of a hexadecimal digit.
+fn value_of(b: u8) -> u8 {
+    match b {
+        b'0'..=b'9' => b - b'0',
+        b'a'..=b'f' => b - b'a' + 10,
+        _ => 0,
+    }
+}
+
+// Where the byte of digit i of a field stands in the room.
+fn place_of(field: u8, i: u32) -> usize {
+    field as usize * FIELD + (i / 2) as usize
+}
+
+fn put_digit(room: &mut [u8; ROOM], field: u8, i: u32, d: u8) {
+    let at = place_of(field, i);
+    if ROOM <= at {
+        return;
+    }
+    if i % 2 == 0 {
+        room[at] = d % 16 * 16;
+    } else {
+        room[at] = room[at] | d;
+    }
+}
+
+// The bytes of so many digits of a field, and none where the room does not have them.
+fn bytes_of<'a>(room: &'a [u8], field: u8, digits: u32) -> &'a [u8] {
+    let at = place_of(field, 0);
+    let end = place_of(field, digits);
+    if end < at {
+        return &room[..0];
+    }
+    if room.len() < end {
+        return &room[..0];
+    }
+    &room[at..end]
+}

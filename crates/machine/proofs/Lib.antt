@@ -1,0 +1,9 @@
+pub mod Acting
+pub mod Chains
+pub mod Clears
+pub mod Keeping
+pub mod Passing
+pub mod Running
+pub mod Safety
+pub mod Stretch
+pub mod Turning

@@ -1,0 +1,104 @@
+-- A pass over the deployments that changes each in its own words, and the loops over D slots and sinks, one step further.
+-- Assumes nothing.
+use Prim.Native.Nat.{ℕ, zero, suc, _+_, _*_, _-_, _≤_, _<_}
+use mathlib.Core.Path.{_≡_, refl, sym, ap, _∙_}
+use mathlib.Core.Bool.{Bool, true, false}
+use mathlib.Core.List.{List, [], _∷_}
+use native.Mathlib.Omega.{arith}
+use lib.ListN.{length, set, length-set}
+use Rattle.value.specs.Test.{_<?_, _=?_, guard}
+use Rattle.value.specs.Value.{value, pointMark}
+use Rattle.value.specs.declared.Value.{Value}
+use Rattle.program.specs.Bytes.{reactors, mainOf}
+use Rattle.program.specs.Command.{Cmd, bytesOf, madeBy, cmdOf}
+use Rattle.program.specs.declared.Command.{Command}
+use Rattle.program.proofs.Decode.{as-make, by-code}
+use Rattle.program.specs.Location.{commandLoc, sinkLoc, sizeOf}
+use Rattle.image.specs.Memory.{mainAt, word, reactor, mark, content, valueAt, store, sizeAt, startsFrom, patch}
+use Rattle.image.specs.Passes.{over, tilesFrom}
+use Rattle.image.specs.Walk.{Tiling, Follows, startsOn}
+use Rattle.image.proofs.Tiles.{starts-done}
+use Rattle.remus.specs.Clear.{pairsFrom}
+use Rattle.remus.specs.Undo.{below, slotBack, slotsBack}
+use Rattle.machine.proofs.Clears.{Local}
+use Rattle.machine.proofs.Stretch.{patch-cons, patch-none}
+
+-- ---- the deployments
+
+module _ (p m m′ : List ℕ) (b : ℕ) (same : (i : ℕ) → b ≤ i → word m′ i ≡ word m i) where
+  same-size : (a : ℕ) → b ≤ a → sizeAt p m′ a ≡ sizeAt p m a
+  unfolding sizeAt reactor
+  same-size a h = ap (sizeOf p) (same a h)
+
+  starts-same : (n u a : ℕ) → b ≤ a → startsFrom p n m′ u a ≡ startsFrom p n m u a
+  unfolding startsFrom
+  starts-same zero u a h = refl
+  starts-same (suc n) u a h =
+      rw (same-size a h) (ap (λ (l : List ℕ). guard (a <? u) [] (λ _. a ∷ l)) (starts-same n u (a + sizeAt p m a) (omega arith)))
+
+  tiles-same : (n u a : ℕ) → b ≤ a → tilesFrom p m′ n u a ≡ tilesFrom p m n u a
+  unfolding tilesFrom reactor
+  tiles-same zero u a h = refl
+  tiles-same (suc n) u a h =
+      rw (same-size a h, same a h)
+      (ap (λ (t : Bool). guard (a <? u) (a =? u) (λ _. guard (word m a <? reactors p) false (λ _. t))) (tiles-same n u (a + sizeAt p m a) (omega arith)))
+
+module _ (p : List ℕ) (f : List ℕ → ℕ → List ℕ) (m : List ℕ) (u a : ℕ) where
+  module _ (b : ℕ) (g : Follows p m u a b) (e : b ≡ a + sizeAt p m a) (l : Local p m a (f m a)) where
+    pub pass-tiles : Tiling p (f m a) u b
+    pass-tiles =
+        record {
+          fits = rw (l .long) (g .tiling .fits);
+          tiled = rw (l .long) (tiles-same p m (f m a) b (λ i h. l .rest i (omega arith)) (length m) u b (omega arith) ∙ g .tiling .tiled);
+        }
+
+    pub pass-next : over f (f m a) (startsOn p (f m a) u b) ≡ over f m (startsOn p m u a)
+    unfolding over
+    pass-next = rw (g .here, l .long, starts-same p m (f m a) b (λ i h. l .rest i (omega arith)) (length m) u b (omega arith))
+
+  pub pass-done : u ≤ a → m ≡ over f m (startsOn p m u a)
+  unfolding over
+  pass-done h = rw (starts-done p m u a h)
+
+-- ---- the D slots of one
+
+module _ (p : List ℕ) (u n j : ℕ) (m : List ℕ) (o : ℕ) where
+  pub slots-next : j < n
+      → slotsBack p u (n - (j + 1)) (j + 1) (slotBack p u m o (commandLoc p (reactor m o) j) (madeBy (cmdOf p (reactor m o) j))) o ≡ slotsBack p u (n - j) j m o
+  unfolding slotsBack
+  slots-next h = let e : n - j ≡ suc (n - (j + 1)) = omega arith in rw e
+
+  pub slots-done : n ≤ j → m ≡ slotsBack p u (n - j) j m o
+  unfolding slotsBack
+  slots-done h = let e : n - j ≡ 0 = omega arith in rw e
+
+-- ---- what the bytes of a D command say of its slot
+
+module _ (p : List ℕ) (u : ℕ) (m : List ℕ) (o l r j : ℕ) (c : Command) (e : c ≡ bytesOf p r j) where
+  pub slot-point : {z : List ℕ} → c .code ≡ 2 → z ≡ store p m o l (value pointMark (below (reactors p + 1) m u (content p m o l)))
+      → z ≡ slotBack p u m o l (madeBy (cmdOf p r j))
+  unfolding cmdOf slotBack madeBy
+  slot-point f h = rw (← e) (as-make (λ (d : Cmd). slotBack p u m o l (madeBy d)) c f h)
+
+  pub slot-other : (c .code ≡ 2 → ⊥) → m ≡ slotBack p u m o l (madeBy (cmdOf p r j))
+  unfolding cmdOf slotBack madeBy
+  slot-other f =
+      rw (← e)
+      (by-code (λ (d : Cmd). m ≡ slotBack p u m o l (madeBy d)) c (λ q. refl) (λ q. absurd (f q)) (λ q. refl) (λ q. refl) (λ q. refl) (λ q. refl)
+      (λ q. refl) (λ q. refl) (λ q. refl) (λ q. refl) (λ q. refl))
+
+-- ---- main's sinks
+
+module _ (p m sk : List ℕ) (n x : ℕ) where
+  pub sinks-next : (v : Value) (l r : ℕ) → v ≡ valueAt p m mainAt l → l ≡ sinkLoc p r x → r ≡ mainOf p → x < n → 2 * n ≤ length sk
+      → patch (set (set sk (2 * x) (v .mark)) (2 * x + 1) (v .content)) (2 * (x + 1)) (pairsFrom p (n - (x + 1)) (x + 1) m) ≡ patch sk (2 * x) (pairsFrom p (n - x) x m)
+  unfolding pairsFrom valueAt
+  sinks-next v l r e f g h k =
+      let s : n - x ≡ suc (n - (x + 1)) = omega arith in
+      let i : 2 * (x + 1) ≡ 2 * x + 1 + 1 = omega arith in
+      let q : 2 * x + 1 < length (set sk (2 * x) (mark p m mainAt l)) = simp length-set (omega arith) in
+      rw (s, i, e, ← g, ← f) (patch-cons _ (2 * x + 1) _ _ q ∙ patch-cons sk (2 * x) _ _ (omega arith))
+
+  pub sinks-done : n ≤ x → sk ≡ patch sk (2 * x) (pairsFrom p (n - x) x m)
+  unfolding pairsFrom
+  sinks-done h = let s : n - x ≡ 0 = omega arith in rw s (sym (patch-none sk (2 * x)))

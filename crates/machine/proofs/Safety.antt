@@ -1,0 +1,56 @@
+-- A sound image of an accepted program is safe for the turn's code, whatever the readings.
+-- Assumes nothing.
+use Prim.Native.Nat.{ℕ, _≤_}
+use mathlib.Core.Path.{_≡_, subst, ap}
+use mathlib.Core.List.{List}
+use native.Mathlib.Omega.{arith}
+use lib.ListN.{length}
+use Rattle.load.specs.Check.{numberOf, checkOf}
+use Rattle.load.specs.Rules.{Rules}
+use Rattle.load.specs.declared.Checked.the-variants.{Accepted}
+use Rattle.load.specs.declared.Refusal.{Refusal}
+use Rattle.load.proofs.Exact.{exact}
+use Rattle.image.specs.Memory.{mostDepth, mostWords, mainAt, used}
+use Rattle.image.specs.Sound.{Tiles, Sound}
+use Rattle.image.specs.Walk.{Tiling}
+use Rattle.image.proofs.Exact.{exact-soundness}
+use Rattle.image.proofs.Exact.Tiling.{tiles!, in-to}
+use Rattle.image.proofs.Memory.Tiles.{tiles-kept}
+use Rattle.remus.specs.Run.{ran, stopped, mainRun}
+use Rattle.remus.proofs.Undo.Entry.{entry-firm}
+use Rattle.remus.proofs.Undo.Runs.{After, run-keeps}
+use Rattle.remus.proofs.Undo.Undoing.{undoes}
+use Rattle.machine.specs.Answer.{Safe, Sure}
+
+tiling : (p m : List ℕ) (u : ℕ) → u ≤ length m → Tiles p m u mainAt → Tiling p m u mainAt
+tiling p m u h t = record { fits = h; tiled = tiles! p m (length m) u mainAt (omega arith) t }
+
+module _ (p : List ℕ) (rules : Rules p) (m rd : List ℕ) (few : length m ≤ mostWords) (s : Sound p m) where
+  after-run : After p m (λ (x : List ℕ). Unit {0}) (mainRun p rd m)
+  unfolding mainRun
+  after-run = run-keeps p rules rd mostDepth 1 m mainAt (entry-firm p rules m s) (s .main)
+
+  ends : (m′ : List ℕ) → mainRun p rd m ≡ ran m′ → Tiling p m′ (used m′) mainAt
+  ends m′ e =
+      let k = subst (After p m (λ (x : List ℕ). Unit {0})) e after-run in
+      tiling p m′ (used m′) (k .0 .firm .good .fits) (k .0 .firm .good .tiles)
+
+  stops : (w : Refusal) (m′ : List ℕ) → mainRun p rd m ≡ stopped w m′ → Tiling p m′ (used m) mainAt
+  stops w m′ e =
+      let k = subst (After p m (λ (x : List ℕ). Unit {0})) e after-run in
+      tiling p m′ (used m) (omega (arith, k .later .len, s .fits)) (tiles-kept p (k .later .reactors) (s .tiles))
+
+  safe : Safe p rd m
+  safe =
+      record {
+        few = few;
+        past = omega (arith, in-to p m (s .main));
+        ends = ends;
+        stops = stops;
+        undoes = λ w m′ e. undoes p rules m rd m′ w s e;
+      }
+
+pub sure : (p : List ℕ) (size : ℕ) → checkOf p ≡ Accepted size → Sure p
+sure p size e m rd few h =
+    let rules = exact p .0 (ap numberOf e) in
+    safe p rules m rd few (exact-soundness p (rules .header .few-reactors) m few .0 h)

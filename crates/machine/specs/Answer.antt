@@ -1,0 +1,37 @@
+-- The answers to what a turn brings, and the turn's own, as the definitions say them; and what of a sound image's run the turn's code
+-- goes by.
+use Prim.Native.Nat.{ℕ, _≤_, _<_}
+use mathlib.Core.Path.{_≡_}
+use mathlib.Core.List.{List}
+use lib.ListN.{length}
+use Rattle.load.specs.declared.Refusal.{Refusal}
+use Rattle.image.specs.Memory.{mostWords, mainAt, used}
+use Rattle.image.specs.Passes.{sound, soundOf}
+use Rattle.image.specs.Walk.{Tiling}
+use Rattle.remus.specs.Run.{ran, stopped, mainRun}
+use Rattle.remus.specs.Undo.{undoOf}
+use Rattle.remus.specs.Turn.{Turn, Asked, fine, asked}
+use Rattle.remus.specs.declared.Turned.{Turned}
+use Rattle.machine.specs.declared.Brought as Br
+use Rattle.machine.specs.declared.Brought.the-variants.{Fine, Refused}
+
+unfoldable pub broughtAs : Br.Brought → Asked
+broughtAs Fine = fine
+broughtAs (Refused w) = asked w
+
+-- an answer with the words then
+unfoldable pub turned : Turned → List ℕ → List ℕ → Turn
+turned r m sk = record { answer = r; memory = m; sinkSpace = sk }
+
+-- what the turn's code goes by: the deployments tile the words when main's run ends, and where it is refused the old ones do, and
+-- undoing gives the words before
+pub record Safe (p rd m : List ℕ) : Type 0 where
+  pub few : length m ≤ mostWords
+  pub past : mainAt ≤ used m
+  pub ends : (m′ : List ℕ) → mainRun p rd m ≡ ran m′ → Tiling p m′ (used m′) mainAt
+  pub stops : (w : Refusal) (m′ : List ℕ) → mainRun p rd m ≡ stopped w m′ → Tiling p m′ (used m) mainAt
+  pub undoes : (w : Refusal) (m′ : List ℕ) → mainRun p rd m ≡ stopped w m′ → undoOf p (used m) m′ ≡ m
+
+-- of an accepted program: each sound image is safe, whatever the readings
+abbrev pub Sure : List ℕ → Type 0
+Sure p = (m rd : List ℕ) → length m ≤ mostWords → soundOf p m ≡ sound → Safe p rd m

@@ -1,0 +1,43 @@
+// The machine: a turn of document 01 as code.
+//
+// A command is decoded once (exec) and carried out by a function of its own (command, allocate); a
+// deployment's commands follow one another (run). A completed run leaves its sinks and cleared words
+// (clear), a refused one is undone in place (undo). Memory is never copied. The work of a turn is
+// linear in the program's bytes and the used words.
+mod allocate;
+mod asked;
+mod calls;
+mod clear;
+mod command;
+mod exec;
+mod run;
+mod undo;
+
+pub use calls::turn;
+use load::Refusal;
+
+// What a command comes to: the next command follows; first the deployment named runs; or the turn
+// ends.
+pub enum Outcome {
+    Move,
+    Call(u32),
+    Fail(Refusal),
+}
+
+// How a run ends.
+pub enum Ended {
+    Whole,
+    Stopped(Refusal),
+}
+
+// The byte at which a reactor's commands begin.
+pub struct Position {
+    pub reactor: u32,
+    pub at: u64,
+}
+
+// What a turn brings is as it should be, or why it is refused.
+pub enum Brought {
+    Fine,
+    Refused(Refusal),
+}
