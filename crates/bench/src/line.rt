@@ -1,16 +1,17 @@
 // A line of a file of vectors, read byte by byte.
 //
-// A line is fields with a space between: the number and the place that 01 gives, in decimal; the
-// bytes of the program, in hexadecimal, or `=` for those of the line before; and no, one or two
-// fields of words, `n:` and the bytes of the n words in hexadecimal, further words being zero.
+// Its fields, with a space between: 0 the number and 1 the place that 01 gives, in decimal; 2 the
+// bytes of the program, in hexadecimal, or `=` for the program of the line before; 3 and 4, where
+// there are any, words before and words after, as `n:` and the bytes of n words in hexadecimal, the
+// words that are not written being zero.
 
-// Bytes that a field has in the room.
+// Bytes for each field.
 const FIELD: usize = 65536;
 
-// Bytes for the five fields of a line.
-pub const ROOM: usize = 327680;
+// Bytes for all fields of a line.
+pub const ROOM: usize = 5 * FIELD;
 
-// What is read of a line: which field it has come to, and whether that is at its bytes; for each
+// What is read of a line: the field that it has come to, and whether bytes are read there; for each
 // field its decimal number and how many hexadecimal digits it has; and how many digits the program
 // of the line before has.
 pub struct Line {
@@ -97,7 +98,7 @@ impl Line {
         bytes_of(room, 2, self.digits[2])
     }
 
-    // How many words there are, and the bytes of those that are written out.
+    // How many words before, and the bytes of those that are written.
     pub fn count(self) -> usize {
         self.numbers[3] as usize
     }
@@ -106,7 +107,7 @@ impl Line {
         bytes_of(room, 3, self.digits[3])
     }
 
-    // The same for the second field of words.
+    // The same of the words after.
     pub fn count_after(self) -> usize {
         self.numbers[4] as usize
     }

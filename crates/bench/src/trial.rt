@@ -35,7 +35,7 @@ fn image_agrees(line: Line, program: &[u8], memory: &[u32]) -> bool {
     }
 }
 
-// The same for a vector of any kind, in memory of the line's length.
+// A vector of any kind, on memory that is as long as its words before.
 fn agrees_on(kind: Kind, line: Line, room: &[u8], memory: &mut [u32]) -> bool {
     let program = line.program(room);
     fill(memory, line.words(room));
@@ -54,6 +54,7 @@ fn agrees_within(kind: Kind, line: Line, room: &[u8], space: &mut [u32]) -> bool
     agrees_on(kind, line, room, &mut space[..n])
 }
 
+// Whether the proved code gives what the line says.
 pub fn agrees(kind: Kind, line: Line, room: &[u8]) -> bool {
     let mut space = [0u32; MOST_WORDS];
     agrees_within(kind, line, room, &mut space)
