@@ -4,6 +4,7 @@ ghost use mathlib.Core.Path.{_≡_};
 ghost use Rattle.image.specs.Start.{numberOf, placeOf};
 
 impl Started {
+    // 0, or the refusal's number.
     pub fn number(self) -> u8
         ensures { λ n. ⌜ n ≡ numberOf self ⌝ }
     {
@@ -13,6 +14,7 @@ impl Started {
         }
     }
 
+    // u after start, or the refusal's place.
     pub fn place(self) -> usize
         ensures { λ q. ⌜ q ≡ placeOf self ⌝ }
     {

@@ -31,7 +31,14 @@ fn joins(program: &[u8], seen: &[u8], s: u8, r: u32) -> bool
 
 // Whether the chain from `head` is one of strictly falling indices, all above the owner o, of shape
 // s, no reactor twice.
-pub fn chain_sound(program: &[u8], memory: &[u32], table: &[u8], o: u32, s: u8, head: u32) -> bool
+pub(crate) fn chain_sound(
+    program: &[u8],
+    memory: &[u32],
+    table: &[u8],
+    o: u32,
+    s: u8,
+    head: u32,
+) -> bool
     ensures { λ r. ⌜ r ≡ P.chainFrom (now (program .entry)) (now (memory .entry)) (B.reactors (now (program .entry)) + 1) (now (table .entry)) o s (M.used (now (memory .entry))) (replicate 64 0) head ⌝ }
 {
     let mut seen = [0u8; 64];

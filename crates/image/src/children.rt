@@ -1,4 +1,4 @@
-// The passes over the children of each deployment.
+// The passes over the children of each deployment: the deployments that its D slots name.
 use crate::DSlot;
 use crate::Pass;
 use crate::commands::position;
@@ -59,7 +59,7 @@ fn step(pass: Pass, table: &mut [u8], o: u32, c: u32)
     }
 }
 
-// For each deployment on the chain from `head`.
+// Does it for each deployment on the chain from `head`.
 fn step_chain(pass: Pass, program: &[u8], memory: &[u32], table: &mut [u8], o: u32, head: u32)
     ensures { λ _. ⌜ now (table .exit) ≡ P.over (W.step pass o) (now (table .entry)) (P.membersFrom (now (program .entry)) (now (memory .entry)) (B.reactors (now (program .entry))) head) ⌝ }
 {
@@ -75,7 +75,7 @@ fn step_chain(pass: Pass, program: &[u8], memory: &[u32], table: &mut [u8], o: u
     }
 }
 
-// For each deployment that a D slot of o names.
+// Does it for each deployment that a D slot of o names.
 fn step_slot(pass: Pass, program: &[u8], memory: &[u32], table: &mut [u8], o: u32, s: DSlot)
     ensures { λ _. ⌜ now (table .exit) ≡ P.over (W.step pass o) (now (table .entry)) (P.namedBy (now (program .entry)) (now (memory .entry)) o (s .location) (W.madeOf (s .code) (s .x))) ⌝ }
 {
@@ -89,7 +89,7 @@ fn step_slot(pass: Pass, program: &[u8], memory: &[u32], table: &mut [u8], o: u3
     }
 }
 
-// For each child of o.
+// Does it for each child of o.
 fn step_children(pass: Pass, program: &[u8], at: u32, memory: &[u32], table: &mut [u8], o: u32)
     requires { ⌜ at ≡ B.commandsAt (now program) (M.reactor (now memory) o) ⌝ }
     ensures { λ _. ⌜ now (table .exit) ≡ W.stepAll (now (program .entry)) (now (memory .entry)) pass (now (table .entry)) o ⌝ }
@@ -104,8 +104,8 @@ fn step_children(pass: Pass, program: &[u8], at: u32, memory: &[u32], table: &mu
     }
 }
 
-// A whole pass.
-pub fn step_all(
+// Does it for each child of each deployment.
+pub(crate) fn step_all(
     pass: Pass,
     program: &[u8],
     places: &[u32],
@@ -137,7 +137,7 @@ fn fitting(pass: Pass, n: u8) -> bool
 }
 
 // The lowest deployment but main that a pass has left unfit; 0 if none.
-pub fn lowest_unfit(pass: Pass, program: &[u8], memory: &[u32], table: &[u8], u: u32) -> u32
+pub(crate) fn lowest_unfit(pass: Pass, program: &[u8], memory: &[u32], table: &[u8], u: u32) -> u32
     requires { ⌜ W.Tiling (now program) (now memory) u M.mainAt ⌝ }
     requires { ⌜ M.mainAt < u ⌝ }
     ensures { λ r. ⌜ r ≡ W.lowestUnfit (now (program .entry)) (now (memory .entry)) pass (now (table .entry)) u ⌝ }

@@ -16,7 +16,7 @@ ghost use Rattle.image.specs.Memory as M;
 ghost use Rattle.image.specs.Walk as W;
 
 // Fills in the byte at which each reactor's commands begin.
-pub fn fill_positions(program: &[u8], places: &mut [u32])
+pub(crate) fn fill_positions(program: &[u8], places: &mut [u32])
     requires { ⌜ length (now places) ≡ 256 ⌝ }
     ensures { λ _. ⌜ W.Positions (now (program .entry)) (now (places .exit)) ⌝ }
 {
@@ -31,7 +31,7 @@ pub fn fill_positions(program: &[u8], places: &mut [u32])
 }
 
 // The byte at which the commands of the deployment at o begin.
-pub fn position(program: &[u8], places: &[u32], memory: &[u32], o: u32) -> u32
+pub(crate) fn position(program: &[u8], places: &[u32], memory: &[u32], o: u32) -> u32
     requires { ⌜ W.Positions (now program) (now places) ⌝ }
     requires { ⌜ M.reactor (now memory) o < B.reactors (now program) ⌝ }
     ensures { λ at. ⌜ at ≡ B.commandsAt (now (program .entry)) (M.reactor (now (memory .entry)) o) ⌝ }
@@ -41,7 +41,7 @@ pub fn position(program: &[u8], places: &[u32], memory: &[u32], o: u32) -> u32
 }
 
 // The slot of D command j of o, whose commands begin at byte `at`.
-pub fn slot_of(program: &[u8], at: u32, memory: &[u32], o: u32, j: u8) -> DSlot
+pub(crate) fn slot_of(program: &[u8], at: u32, memory: &[u32], o: u32, j: u8) -> DSlot
     requires { ⌜ at ≡ B.commandsAt (now program) (M.reactor (now memory) o) ⌝ }
     ensures { λ s. ⌜ W.SlotOf (now (program .entry)) (now (memory .entry)) o j s ⌝ }
 {

@@ -23,6 +23,7 @@ pub fn slot(program: &[u8], memory: &[u32], a: u32, l: u16) -> usize
     a as usize + wide_slot_at(program, r, l) as usize
 }
 
+// The mark of location l, in the deployment at a.
 pub fn mark(program: &[u8], memory: &[u32], a: u32, l: u16) -> u32
     ensures { λ r. ⌜ r ≡ M.mark (now (program .entry)) (now (memory .entry)) a l ⌝ }
 {
@@ -30,6 +31,7 @@ pub fn mark(program: &[u8], memory: &[u32], a: u32, l: u16) -> u32
     word(memory, i)
 }
 
+// The content beside it.
 pub fn content(program: &[u8], memory: &[u32], a: u32, l: u16) -> u32
     ensures { λ r. ⌜ r ≡ M.content (now (program .entry)) (now (memory .entry)) a l ⌝ }
 {
@@ -37,6 +39,7 @@ pub fn content(program: &[u8], memory: &[u32], a: u32, l: u16) -> u32
     word(memory, i + 1)
 }
 
+// Both, as a value.
 pub fn value_at(program: &[u8], memory: &[u32], a: u32, l: u16) -> Value
     ensures { λ v. ⌜ v ≡ M.valueAt (now (program .entry)) (now (memory .entry)) a l ⌝ }
 {
@@ -46,6 +49,7 @@ pub fn value_at(program: &[u8], memory: &[u32], a: u32, l: u16) -> Value
     }
 }
 
+// Stores a value at location l.
 pub fn store(program: &[u8], memory: &mut [u32], a: u32, l: u16, v: Value)
     ensures { λ _. ⌜ now (memory .exit) ≡ M.store (now (program .entry)) (now (memory .entry)) a l v ⌝ }
 {

@@ -27,6 +27,8 @@ ghost use Rattle.image.specs.Memory as M;
 ghost use Rattle.image.specs.Passes as P;
 ghost use Rattle.image.specs.Walk as W;
 
+// The marks of D slots: "4 deployment index, 5 branch point with the index of its newest
+// deployment".
 const DEPLOYMENT: u32 = 4;
 
 const POINT: u32 = 5;
@@ -113,7 +115,13 @@ fn own_sound(program: &[u8], at: u32, memory: &[u32], table: &[u8], a: u32) -> b
 }
 
 // The lowest deployment whose own words are wrong; 0 if none.
-pub fn lowest_unsound(program: &[u8], places: &[u32], memory: &[u32], table: &[u8], u: u32) -> u32
+pub(crate) fn lowest_unsound(
+    program: &[u8],
+    places: &[u32],
+    memory: &[u32],
+    table: &[u8],
+    u: u32,
+) -> u32
     requires { ⌜ W.Positions (now program) (now places) ⌝ }
     requires { ⌜ W.Tiling (now program) (now memory) u M.mainAt ⌝ }
     ensures { λ r. ⌜ r ≡ P.lowest (P.ownSound (now (program .entry)) (now (memory .entry)) (now (table .entry))) (W.startsOn (now (program .entry)) (now (memory .entry)) u M.mainAt) ⌝ }

@@ -8,14 +8,14 @@ ghost use Rattle.image.specs.Passes as P;
 ghost use Rattle.image.specs.Walk as W;
 
 // The entry at `i`, and 0 past the end.
-pub fn entry(table: &[u8], i: u32) -> u8
+pub(crate) fn entry(table: &[u8], i: u32) -> u8
     ensures { λ r. ⌜ r ≡ getD (now (table .entry)) i 0 ⌝ }
 {
     byte(table, i as usize)
 }
 
 // Stores v at `i`, and nothing past the end.
-pub fn put_entry(table: &mut [u8], i: u32, v: u8)
+pub(crate) fn put_entry(table: &mut [u8], i: u32, v: u8)
     ensures { λ _. ⌜ now (table .exit) ≡ set (now (table .entry)) i v ⌝ }
 {
     if (i as usize) < table.len() {
@@ -23,7 +23,8 @@ pub fn put_entry(table: &mut [u8], i: u32, v: u8)
     }
 }
 
-pub fn is_start(table: &[u8], c: u32) -> bool
+// Whether a deployment begins at c.
+pub(crate) fn is_start(table: &[u8], c: u32) -> bool
     ensures { λ r. ⌜ r ≡ P.isStart (now (table .entry)) c ⌝ }
 {
     0 < entry(table, c)

@@ -12,7 +12,7 @@ ghost use Rattle.image.specs.Passes as P;
 ghost use Rattle.image.specs.Walk as W;
 
 // Whether deployments tile the words from 2 up to u exactly.
-pub fn tiles(program: &[u8], memory: &[u32], u: u32) -> bool
+pub(crate) fn tiles(program: &[u8], memory: &[u32], u: u32) -> bool
     requires { ⌜ u ≤ length (now memory) ⌝ }
     ensures { λ r. ⌜ r ≡ P.tilesFrom (now (program .entry)) (now (memory .entry)) (length (now (memory .entry))) u M.mainAt ⌝ }
 {
@@ -32,7 +32,7 @@ pub fn tiles(program: &[u8], memory: &[u32], u: u32) -> bool
 }
 
 // Where the deployment at a ends.
-pub fn following(program: &[u8], memory: &[u32], u: u32, a: u32) -> u32
+pub(crate) fn following(program: &[u8], memory: &[u32], u: u32, a: u32) -> u32
     requires { ⌜ W.Tiling (now program) (now memory) u a ⌝ }
     requires { ⌜ a < u ⌝ }
     ensures { λ b. ⌜ W.Follows (now (program .entry)) (now (memory .entry)) u a b ⌝ }
@@ -41,7 +41,7 @@ pub fn following(program: &[u8], memory: &[u32], u: u32, a: u32) -> u32
 }
 
 // Marks where each deployment begins.
-pub fn mark_starts(program: &[u8], memory: &[u32], table: &mut [u8], u: u32)
+pub(crate) fn mark_starts(program: &[u8], memory: &[u32], table: &mut [u8], u: u32)
     requires { ⌜ W.Tiling (now program) (now memory) u M.mainAt ⌝ }
     ensures { λ _. ⌜ now (table .exit) ≡ P.over (λ t a. set t a 1) (now (table .entry)) (W.startsOn (now (program .entry)) (now (memory .entry)) u M.mainAt) ⌝ }
 {

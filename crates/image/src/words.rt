@@ -50,6 +50,7 @@ pub fn reactor(memory: &[u32], a: u32) -> u32
     word(memory, a as usize)
 }
 
+// 1 once its D commands have run, 0 before.
 pub fn wired(memory: &[u32], a: u32) -> u32
     ensures { λ r. ⌜ r ≡ M.wired (now (memory .entry)) a ⌝ }
 {
@@ -63,18 +64,21 @@ pub fn next(memory: &[u32], a: u32) -> u32
     word(memory, a as usize + 2)
 }
 
+// Stores u.
 pub fn set_used(memory: &mut [u32], u: u32)
     ensures { λ _. ⌜ now (memory .exit) ≡ M.withUsed (now (memory .entry)) u ⌝ }
 {
     put(memory, 0, u)
 }
 
+// Stores the completed turns.
 pub fn set_turns(memory: &mut [u32], t: u32)
     ensures { λ _. ⌜ now (memory .exit) ≡ M.withTurns (now (memory .entry)) t ⌝ }
 {
     put(memory, 1, t)
 }
 
+// Stores whether the deployment at a is wired.
 pub fn set_wired(memory: &mut [u32], a: u32, w: u32)
     ensures { λ _. ⌜ now (memory .exit) ≡ M.withWired (now (memory .entry)) a w ⌝ }
 {

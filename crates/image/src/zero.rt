@@ -4,6 +4,7 @@ ghost use mathlib.Core.Path.{_≡_};
 ghost use lib.ListN.{length, replicate};
 ghost use Rattle.image.specs.Memory as M;
 
+// Whether all words are zero.
 fn all_zero(words: &[u32]) -> bool
     ensures { λ r. ⌜ r ≡ M.allZero (now (words .entry)) ⌝ }
 {
@@ -30,6 +31,7 @@ pub fn zero_at(memory: &[u32], from: usize, n: usize) -> bool
     all_zero(&memory[from..end])
 }
 
+// Zeroes all words.
 pub fn wipe(words: &mut [u32])
     ensures { λ _. ⌜ now (words .exit) ≡ replicate (length (now (words .entry))) 0 ⌝ }
 {
@@ -40,7 +42,8 @@ pub fn wipe(words: &mut [u32])
     }
 }
 
-pub fn wipe_bytes(bytes: &mut [u8])
+// Zeroes all bytes.
+pub(crate) fn wipe_bytes(bytes: &mut [u8])
     ensures { λ _. ⌜ now (bytes .exit) ≡ replicate (length (now (bytes .entry))) 0 ⌝ }
 {
     let mut i = 0;

@@ -76,7 +76,14 @@ fn allocate(program: &[u8], memory: &mut [u32], o: u32, i: u16, x: u8) -> Outcom
 }
 
 // 1 AllocMono: a new deployment of reactor x.
-pub fn alloc_mono(program: &[u8], memory: &mut [u32], h: u8, o: u32, i: u16, x: u8) -> Outcome
+pub(crate) fn alloc_mono(
+    program: &[u8],
+    memory: &mut [u32],
+    h: u8,
+    o: u32,
+    i: u16,
+    x: u8,
+) -> Outcome
     requires { ⌜ i < 511 ⌝ }
     requires { ⌜ length (now memory) ≤ M.mostWords ⌝ }
     ensures { λ r. ⌜ Acts (now (program .entry)) h (now (memory .entry)) o i (C.allocMono x) r (now (memory .exit)) ⌝ }
@@ -183,7 +190,7 @@ fn choose(program: &[u8], memory: &mut [u32], h: u8, o: u32, i: u16, q: u32, b: 
 
 // 9 AllocPoly: the deployment of the operator's reactor on branch point b; blank for a blank
 // operator.
-pub fn alloc_poly(
+pub(crate) fn alloc_poly(
     program: &[u8],
     memory: &mut [u32],
     h: u8,

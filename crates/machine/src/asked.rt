@@ -42,7 +42,7 @@ fn bad_reading(program: &[u8], readings: &[u32]) -> u8
 }
 
 // The first question that is not answered well.
-pub fn asked(program: &[u8], memory: &[u32], readings: &[u32], space: &[u32]) -> Brought
+pub(crate) fn asked(program: &[u8], memory: &[u32], readings: &[u32], space: &[u32]) -> Brought
     ensures { λ r. ⌜ broughtAs r ≡ T.askedOf (now (program .entry)) (now (memory .entry)) (now (readings .entry)) (now (space .entry)) ⌝ }
 {
     let g = globals(program);

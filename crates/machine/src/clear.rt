@@ -61,7 +61,7 @@ fn clear_words(program: &[u8], words: &mut [u32], r: u32)
 
 // Clears the deployment at a. "Clearing works on one deployment's words at a time and touches no
 // other stretch of memory."
-pub fn clear_one(program: &[u8], memory: &mut [u32], a: u32)
+pub(crate) fn clear_one(program: &[u8], memory: &mut [u32], a: u32)
     requires { ⌜ a + M.sizeAt (now program) (now memory) a ≤ length (now memory) ⌝ }
     ensures { λ _. ⌜ now (memory .exit) ≡ E.clearOne (now (program .entry)) (now (memory .entry)) a ⌝ }
 {
@@ -85,7 +85,7 @@ fn clear(program: &[u8], memory: &mut [u32], u: u32)
 }
 
 // The words after a completed turn.
-pub fn finish(program: &[u8], memory: &mut [u32])
+pub(crate) fn finish(program: &[u8], memory: &mut [u32])
     requires { ⌜ Tiling (now program) (now memory) (M.used (now memory)) M.mainAt ⌝ }
     requires { ⌜ M.turns (now memory) < 4294967295 ⌝ }
     ensures { λ _. ⌜ now (memory .exit) ≡ E.finished (now (program .entry)) (now (memory .entry)) ⌝ }
@@ -106,7 +106,7 @@ fn put_pair(space: &mut [u32], x: u8, v: Value)
 }
 
 // Main's sinks as pairs.
-pub fn write_sinks(program: &[u8], memory: &[u32], space: &mut [u32])
+pub(crate) fn write_sinks(program: &[u8], memory: &[u32], space: &mut [u32])
     requires { ⌜ 2 * L.sinks (now program) (B.mainOf (now program)) ≤ length (now space) ⌝ }
     ensures { λ _. ⌜ now (space .exit) ≡ E.sunk (now (program .entry)) (now (memory .entry)) (now (space .entry)) ⌝ }
 {

@@ -27,7 +27,7 @@ pub const DEPLOYMENT: u32 = 4;
 pub const POINT: u32 = 5;
 
 // The location of command i of the deployment at o.
-pub fn here(program: &[u8], memory: &[u32], o: u32, i: u16) -> u16
+pub(crate) fn here(program: &[u8], memory: &[u32], o: u32, i: u16) -> u16
     requires { ⌜ i < 511 ⌝ }
     ensures { λ l. ⌜ l ≡ L.commandLoc (now (program .entry)) (M.reactor (now (memory .entry)) o) i ⌝ }
 {
@@ -36,7 +36,7 @@ pub fn here(program: &[u8], memory: &[u32], o: u32, i: u16) -> u16
 }
 
 // The command gives v.
-pub fn give(program: &[u8], memory: &mut [u32], o: u32, i: u16, v: Value) -> Outcome
+pub(crate) fn give(program: &[u8], memory: &mut [u32], o: u32, i: u16, v: Value) -> Outcome
     requires { ⌜ i < 511 ⌝ }
     ensures { λ r. ⌜ did r (now (memory .exit)) ≡ acted (now (memory .entry)) (X.move (M.store (now (program .entry)) (now (memory .entry)) o (L.commandLoc (now (program .entry)) (M.reactor (now (memory .entry)) o) i) v)) ⌝ }
 {
@@ -46,7 +46,7 @@ pub fn give(program: &[u8], memory: &mut [u32], o: u32, i: u16, v: Value) -> Out
 }
 
 // 2 MakePoly: an empty branch point.
-pub fn make_poly(program: &[u8], memory: &mut [u32], o: u32, i: u16, x: u8) -> Outcome
+pub(crate) fn make_poly(program: &[u8], memory: &mut [u32], o: u32, i: u16, x: u8) -> Outcome
     requires { ⌜ i < 511 ⌝ }
     ensures { λ r. ⌜ ((h : ℕ) → Acts (now (program .entry)) h (now (memory .entry)) o i (C.makePoly x) r (now (memory .exit))) ⌝ }
 {
@@ -63,7 +63,7 @@ pub fn make_poly(program: &[u8], memory: &mut [u32], o: u32, i: u16, x: u8) -> O
 }
 
 // 3 Constant: the value v of kind x.
-pub fn constant(program: &[u8], memory: &mut [u32], o: u32, i: u16, x: u8, v: u32) -> Outcome
+pub(crate) fn constant(program: &[u8], memory: &mut [u32], o: u32, i: u16, x: u8, v: u32) -> Outcome
     requires { ⌜ i < 511 ⌝ }
     ensures { λ r. ⌜ ((h : ℕ) → Acts (now (program .entry)) h (now (memory .entry)) o i (C.constant x v) r (now (memory .exit))) ⌝ }
 {
@@ -75,7 +75,7 @@ pub fn constant(program: &[u8], memory: &mut [u32], o: u32, i: u16, x: u8, v: u3
 }
 
 // Reading k, from 0.
-pub fn reading_at(readings: &[u32], k: u8) -> Value
+pub(crate) fn reading_at(readings: &[u32], k: u8) -> Value
     ensures { λ v. ⌜ v ≡ T.readingAt (now (readings .entry)) k ⌝ }
 {
     let i = 2 * (k as usize);
@@ -101,7 +101,7 @@ fn global_value(readings: &[u32], memory: &[u32], x: u8) -> Value
 }
 
 // 4 Global: global x.
-pub fn global(
+pub(crate) fn global(
     program: &[u8],
     readings: &[u32],
     memory: &mut [u32],
@@ -136,7 +136,7 @@ fn pass(program: &[u8], memory: &mut [u32], o: u32, x: u8, a: u8, b: u8) -> Outc
 }
 
 // 5 Supply: value a to source x of deployment b, where there is one.
-pub fn supply(program: &[u8], memory: &mut [u32], o: u32, x: u8, a: u8, b: u8) -> Outcome
+pub(crate) fn supply(program: &[u8], memory: &mut [u32], o: u32, x: u8, a: u8, b: u8) -> Outcome
     ensures { λ r. ⌜ ((h i : ℕ) → Acts (now (program .entry)) h (now (memory .entry)) o i (C.supply x a b) r (now (memory .exit))) ⌝ }
 {
     if !there(program, memory, o, b) {
@@ -146,7 +146,7 @@ pub fn supply(program: &[u8], memory: &mut [u32], o: u32, x: u8, a: u8, b: u8) -
 }
 
 // 6 React: deployment b is to run, where there is one.
-pub fn react(program: &[u8], memory: &[u32], o: u32, b: u8) -> Outcome
+pub(crate) fn react(program: &[u8], memory: &[u32], o: u32, b: u8) -> Outcome
     ensures { λ r. ⌜ ((h i : ℕ) → Acts (now (program .entry)) h (now (memory .entry)) o i (C.react b) r (now (memory .entry))) ⌝ }
 {
     if !there(program, memory, o, b) {
@@ -164,7 +164,7 @@ fn sink_value(program: &[u8], memory: &[u32], d: u32, x: u8) -> Value
 }
 
 // 7 Consume: sink x of deployment b, blank where there is none.
-pub fn consume(program: &[u8], memory: &mut [u32], o: u32, i: u16, x: u8, b: u8) -> Outcome
+pub(crate) fn consume(program: &[u8], memory: &mut [u32], o: u32, i: u16, x: u8, b: u8) -> Outcome
     requires { ⌜ i < 511 ⌝ }
     ensures { λ r. ⌜ ((h : ℕ) → Acts (now (program .entry)) h (now (memory .entry)) o i (C.consume x b) r (now (memory .exit))) ⌝ }
 {
@@ -177,7 +177,7 @@ pub fn consume(program: &[u8], memory: &mut [u32], o: u32, i: u16, x: u8, b: u8)
 }
 
 // 8 Sink: value a to own sink x.
-pub fn sink(program: &[u8], memory: &mut [u32], o: u32, x: u8, a: u8) -> Outcome
+pub(crate) fn sink(program: &[u8], memory: &mut [u32], o: u32, x: u8, a: u8) -> Outcome
     ensures { λ r. ⌜ ((h i : ℕ) → Acts (now (program .entry)) h (now (memory .entry)) o i (C.sink x a) r (now (memory .exit))) ⌝ }
 {
     let r = reactor(memory, o);
@@ -188,7 +188,7 @@ pub fn sink(program: &[u8], memory: &mut [u32], o: u32, x: u8, a: u8) -> Outcome
 }
 
 // 10 Primitive: x of the operands a, b and the first byte of v.
-pub fn primitive(program: &[u8], memory: &mut [u32], o: u32, i: u16, c: Command) -> Outcome
+pub(crate) fn primitive(program: &[u8], memory: &mut [u32], o: u32, i: u16, c: Command) -> Outcome
     requires { ⌜ i < 511 ⌝ }
     ensures { λ r. ⌜ ((h : ℕ) → Acts (now (program .entry)) h (now (memory .entry)) o i (C.primitive (c .x) (c .a) (c .b) (c .v0)) r (now (memory .exit))) ⌝ }
 {

@@ -57,7 +57,7 @@ fn position(program: &[u8], known: Position, r: u32) -> u64
 }
 
 // The bytes of command i of the deployment at o.
-pub fn command_of(program: &[u8], memory: &[u32], known: Position, o: u32, i: u16) -> Command
+pub(crate) fn command_of(program: &[u8], memory: &[u32], known: Position, o: u32, i: u16) -> Command
     requires { ⌜ Located (now program) known ⌝ }
     ensures { λ c. ⌜ c ≡ C.bytesOf (now (program .entry)) (M.reactor (now (memory .entry)) o) i ⌝ }
 {
@@ -107,7 +107,7 @@ fn exec(
 }
 
 // Carries out command i of the deployment at o, which stands at depth h.
-pub fn act(
+pub(crate) fn act(
     program: &[u8],
     readings: &[u32],
     memory: &mut [u32],

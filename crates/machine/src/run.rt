@@ -83,7 +83,7 @@ fn sequence(
 }
 
 // Runs the deployment at o, which stands at depth h, to its end.
-pub fn run(program: &[u8], readings: &[u32], memory: &mut [u32], h: u8, o: u32) -> Ended
+pub(crate) fn run(program: &[u8], readings: &[u32], memory: &mut [u32], h: u8, o: u32) -> Ended
     requires { ⌜ Workable (now memory) ⌝ }
     ensures { λ r. ⌜ ranAs r (now (memory .exit)) ≡ R.runOf (65 - h) (now (program .entry)) (now (readings .entry)) h (now (memory .entry)) o ⌝ }
 {

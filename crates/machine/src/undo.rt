@@ -164,7 +164,7 @@ fn back(program: &[u8], memory: &mut [u32], u: u32)
 }
 
 // The words before the turn.
-pub fn undo(program: &[u8], memory: &mut [u32], u: u32)
+pub(crate) fn undo(program: &[u8], memory: &mut [u32], u: u32)
     requires { ⌜ Tiling (now program) (now memory) u M.mainAt ⌝ }
     ensures { λ _. ⌜ now (memory .exit) ≡ U.undoOf (now (program .entry)) u (now (memory .entry)) ⌝ }
 {

@@ -8,7 +8,7 @@ ghost use lib.Signed.{quotZ, remZ};
 ghost use Rattle.value.specs.Primitive.{within, unlessZero, operation};
 
 // A result of 64 bits: blank where 32 bits do not hold it.
-pub fn narrow(z: i64) -> Value
+pub(crate) fn narrow(z: i64) -> Value
     ensures { λ r. ⌜ r ≡ within z ⌝ }
 {
     if z < -2147483648 {
@@ -20,26 +20,26 @@ pub fn narrow(z: i64) -> Value
     Value::number(z as i32)
 }
 
-pub fn add(x: i32, y: i32) -> Value
+pub(crate) fn add(x: i32, y: i32) -> Value
     ensures { λ r. ⌜ r ≡ within (x +ℤ y) ⌝ }
 {
     narrow(x as i64 + y as i64)
 }
 
-pub fn subtract(x: i32, y: i32) -> Value
+pub(crate) fn subtract(x: i32, y: i32) -> Value
     ensures { λ r. ⌜ r ≡ within (x -ℤ y) ⌝ }
 {
     narrow(x as i64 - y as i64)
 }
 
-pub fn times(x: i32, y: i32) -> Value
+pub(crate) fn times(x: i32, y: i32) -> Value
     ensures { λ r. ⌜ r ≡ within (x *ℤ y) ⌝ }
 {
     narrow(x as i64 * y as i64)
 }
 
 // The lowest integer has no negation in 32 bits.
-pub fn negate(x: i32) -> Value
+pub(crate) fn negate(x: i32) -> Value
     ensures { λ r. ⌜ r ≡ within (negℤ x) ⌝ }
 {
     if x == -2147483648 {
@@ -50,7 +50,7 @@ pub fn negate(x: i32) -> Value
 }
 
 // The machine's division is not defined at the lowest integer by -1, so -1 is apart.
-pub fn divide(x: i32, y: i32) -> Value
+pub(crate) fn divide(x: i32, y: i32) -> Value
     ensures { λ r. ⌜ r ≡ unlessZero quotZ x y ⌝ }
 {
     if y == 0 {
@@ -62,7 +62,7 @@ pub fn divide(x: i32, y: i32) -> Value
     Value::number(x / y)
 }
 
-pub fn remainder(x: i32, y: i32) -> Value
+pub(crate) fn remainder(x: i32, y: i32) -> Value
     ensures { λ r. ⌜ r ≡ unlessZero remZ x y ⌝ }
 {
     if y == 0 {
@@ -74,7 +74,7 @@ pub fn remainder(x: i32, y: i32) -> Value
     Value::number(x % y)
 }
 
-pub fn operate(f: Operation, x: i32, y: i32) -> Value
+pub(crate) fn operate(f: Operation, x: i32, y: i32) -> Value
     ensures { λ r. ⌜ r ≡ operation f x y ⌝ }
 {
     match f {

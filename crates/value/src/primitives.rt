@@ -11,7 +11,7 @@ ghost use Rattle.value.specs.Value.{blank, truth, isTruth};
 ghost use Rattle.value.specs.Primitive as P;
 
 // The primitives 0 to 6: blank unless both are numbers.
-pub fn on_numbers(f: Operation, a: Value, b: Value) -> Value
+pub(crate) fn on_numbers(f: Operation, a: Value, b: Value) -> Value
     ensures { λ r. ⌜ r ≡ P.onNumbers (P.operation f) a b ⌝ }
 {
     if a.mark != Value::NUMBER {
@@ -23,7 +23,7 @@ pub fn on_numbers(f: Operation, a: Value, b: Value) -> Value
     operate(f, signed(a.content), signed(b.content))
 }
 
-pub fn not(a: Value) -> Value
+pub(crate) fn not(a: Value) -> Value
     ensures { λ r. ⌜ r ≡ P.onTruth Bool.not a ⌝ }
 {
     if a.mark != Value::TRUTH {
@@ -33,7 +33,7 @@ pub fn not(a: Value) -> Value
 }
 
 // The truth t, of two truths; blank unless both are.
-pub fn on_truths(a: Value, b: Value, t: bool) -> Value
+pub(crate) fn on_truths(a: Value, b: Value, t: bool) -> Value
     ensures { λ r. ⌜ r ≡ pick (isTruth a and isTruth b) (truth t) blank ⌝ }
 {
     if a.mark != Value::TRUTH {
@@ -45,25 +45,25 @@ pub fn on_truths(a: Value, b: Value, t: bool) -> Value
     Value::truth(t)
 }
 
-pub fn and(a: Value, b: Value) -> Value
+pub(crate) fn and(a: Value, b: Value) -> Value
     ensures { λ r. ⌜ r ≡ P.onTruths _&&_ a b ⌝ }
 {
     on_truths(a, b, (a.content == 1) & (b.content == 1))
 }
 
-pub fn or(a: Value, b: Value) -> Value
+pub(crate) fn or(a: Value, b: Value) -> Value
     ensures { λ r. ⌜ r ≡ P.onTruths _||_ a b ⌝ }
 {
     on_truths(a, b, (a.content == 1) | (b.content == 1))
 }
 
-pub fn known(a: Value) -> Value
+pub(crate) fn known(a: Value) -> Value
     ensures { λ r. ⌜ r ≡ P.known a ⌝ }
 {
     Value::truth(a.mark != Value::BLANK)
 }
 
-pub fn choose(t: Value, a: Value, b: Value) -> Value
+pub(crate) fn choose(t: Value, a: Value, b: Value) -> Value
     ensures { λ r. ⌜ r ≡ P.choose t a b ⌝ }
 {
     if t.mark != Value::TRUTH {
@@ -72,7 +72,7 @@ pub fn choose(t: Value, a: Value, b: Value) -> Value
     if t.content == 1 { a } else { b }
 }
 
-pub fn instead(a: Value, b: Value) -> Value
+pub(crate) fn instead(a: Value, b: Value) -> Value
     ensures { λ r. ⌜ r ≡ P.instead a b ⌝ }
 {
     if a.mark == Value::BLANK { b } else { a }

@@ -10,7 +10,7 @@ pub fn is_primitive(op: u8) -> bool
     op < 13
 }
 
-pub fn takes_of(op: u8) -> Takes
+pub(crate) fn takes_of(op: u8) -> Takes
     ensures { λ r. ⌜ r ≡ P.rowOf op .takes ⌝ }
 {
     match op {
@@ -24,7 +24,7 @@ pub fn takes_of(op: u8) -> Takes
     }
 }
 
-pub fn gives_of(op: u8) -> Gives
+pub(crate) fn gives_of(op: u8) -> Gives
     ensures { λ r. ⌜ r ≡ P.rowOf op .gives ⌝ }
 {
     match op {
