@@ -17,7 +17,7 @@ use Rattle.program.specs.Location.{commandLoc, sinkLoc, sizeOf}
 use Rattle.image.specs.Memory.{mainAt, word, reactor, mark, content, valueAt, store, sizeAt, startsFrom, patch}
 use Rattle.image.specs.Passes.{over, tilesFrom}
 use Rattle.image.specs.Walk.{Tiling, Follows, startsOn}
-use Rattle.image.proofs.Tiles.{starts-done}
+use Rattle.image.proofs.Tiles.{starts-done, follows}
 use Rattle.remus.specs.Clear.{pairsFrom}
 use Rattle.remus.specs.Undo.{below, slotBack, slotsBack}
 use Rattle.machine.proofs.Clears.{Local}
@@ -43,22 +43,35 @@ module _ (p m m′ : List ℕ) (b : ℕ) (same : (i : ℕ) → b ≤ i → word 
       rw (same-size a h, same a h)
       (ap (λ (t : Bool). guard (a <? u) (a =? u) (λ _. guard (word m a <? reactors p) false (λ _. t))) (tiles-same n u (a + sizeAt p m a) (omega arith)))
 
-module _ (p : List ℕ) (f : List ℕ → ℕ → List ℕ) (m : List ℕ) (u a : ℕ) where
-  module _ (b : ℕ) (g : Follows p m u a b) (e : b ≡ a + sizeAt p m a) (l : Local p m a (f m a)) where
-    pub pass-tiles : Tiling p (f m a) u b
-    pass-tiles =
-        record {
-          fits = rw (l .long) (g .tiling .fits);
-          tiled = rw (l .long) (tiles-same p m (f m a) b (λ i h. l .rest i (omega arith)) (length m) u b (omega arith) ∙ g .tiling .tiled);
-        }
+module _ (p : List ℕ) (m : List ℕ) (u a : ℕ) where
+  module _ (t : Tiling p m u a) (l : a < u) (n : ℕ) (e : n ≡ sizeAt p m a) where
+    next : Follows p m u a (a + n)
+    next = follows p m u a t l (a + n) (ap (λ (k : ℕ). a + k) e)
 
-    pub pass-next : over f (f m a) (startsOn p (f m a) u b) ≡ over f m (startsOn p m u a)
+    pub pass-within : a + n ≤ u
+    pass-within = next .within
+
+    pub pass-rises : u - (a + n) < u - a
+    pass-rises = omega (arith, next .rises)
+
+    -- the pass f goes on from the words m′ that it leaves of m
+    pub pass-next : (f : List ℕ → ℕ → List ℕ) (m′ : List ℕ) (k : ℕ) (x : List ℕ) → m′ ≡ f m a → Local p m a (f m a) → length m ≡ k → over f m (startsOn p m u a) ≡ x
+        → (length m′ ≡ k) × Tiling p m′ u (a + n) × (over f m′ (startsOn p m′ u (a + n)) ≡ x)
     unfolding over
-    pass-next = rw (g .here, l .long, starts-same p m (f m a) b (λ i h. l .rest i (omega arith)) (length m) u b (omega arith))
+    pass-next f m′ k x q c h g =
+        let same : (i : ℕ) → a + n ≤ i → word (f m a) i ≡ word m i = (λ i d. c .rest i (omega arith)) in
+        let d : length (f m a) ≡ length m = c .long in
+        let tiled : tilesFrom p (f m a) (length m) u (a + n) ≡ true = tiles-same p m (f m a) (a + n) same (length m) u (a + n) (omega arith) ∙ next .tiling .tiled in
+        let rest : over f (f m a) (startsOn p (f m a) u (a + n)) ≡ over f m (startsOn p m u a) =
+        rw (next .here, d, starts-same p m (f m a) (a + n) same (length m) u (a + n) (omega arith)) in
+        rw q (d ∙ h, record { fits = rw d (t .fits); tiled = rw d tiled }, rest ∙ g)
 
-  pub pass-done : u ≤ a → m ≡ over f m (startsOn p m u a)
+  pub pass-inside : Tiling p m u a → a < u → a + sizeAt p m a ≤ length m
+  pass-inside t l = let g = pass-within t l (sizeAt p m a) refl in omega (arith, t .fits)
+
+  pub pass-done : (f : List ℕ → ℕ → List ℕ) → u ≤ a → m ≡ over f m (startsOn p m u a)
   unfolding over
-  pass-done h = rw (starts-done p m u a h)
+  pass-done f h = rw (starts-done p m u a h)
 
 -- ---- the D slots of one
 

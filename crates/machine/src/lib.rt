@@ -14,7 +14,9 @@ mod run;
 mod undo;
 
 pub use calls::turn;
+pub use image::start;
 use load::Refusal;
+pub use load::check;
 
 // What a command comes to: the next command follows; first the deployment named runs; or the turn
 // ends.

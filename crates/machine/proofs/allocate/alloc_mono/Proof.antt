@@ -1,12 +1,12 @@
-use Rattle.remus.specs.Exec.{allocated, exec}
+use Prim.Native.Nat.{_+_}
 use Rattle.machine.specs.Act.{acted}
+use Rattle.remus.specs.Exec.{allocated, exec}
 use Rattle.value.proofs.Tests.{le?, lt!, lt×, passed, refused}
 use Rattle.value.specs.Test.{_<?_}
-use Prim.Native.Nat.{_+_}
-use mathlib.Core.Path.{_≡_}
-use mathlib.Core.Bool.{false, true}
-use native.Mathlib.Omega.{arith}
 use borrow.Author.Needs.{needs}
+use mathlib.Core.Bool.{false, true}
+use mathlib.Core.Path.{_≡_}
+use native.Mathlib.Omega.{arith}
 use Rattle.machine.proofs.allocate.alloc_mono.Statement.{statement}
 use Rattle.machine.proofs.allocate.alloc_mono.Tie as tie
 
@@ -14,34 +14,27 @@ returns : tie.Need-returns
 unfolding exec allocated acted
 returns c = let e : (64 <? c .before .before .before .args .h + 1) ≡ true = lt! (omega arith) in λ rd. rw e
 
-room-requires : tie.Need-room-requires
-room-requires c κs = search needs
-
-same-length : tie.Need-same-length
-same-length c = search needs
-
 returns-2 : tie.Need-returns-2
 unfolding exec allocated acted
-returns-2 c = let e : (64 <? c .before .before .before .before .before .before .args .h + 1) ≡ false = lt× (omega arith) in λ rd. rw (e, refused (c .before .room .ensures) (c .if2 .taken))
+returns-2 c =
+    let args = c .before .before .before .before .before .before .args in
+    let e : (64 <? args .h + 1) ≡ false = lt× (omega arith) in
+    λ rd. rw (e, refused (c .before .room .ensures) (c .if2 .taken))
 
 allocate-requires : tie.Need-allocate-requires
 allocate-requires c κs = (search needs, (search needs, le? (passed (c .before .before .room .ensures) (c .before .if2 .left))))
 
-same-length-2 : tie.Need-same-length-2
-same-length-2 c = search needs
-
 returns-3 : tie.Need-returns-3
 unfolding exec allocated
-returns-3 c = let e : (64 <? c .before .before .before .before .before .before .before .before .before .before .args .h + 1) ≡ false = lt× (omega arith) in λ rd. rw (e, passed (c .before .before .before .before .before .room .ensures) (c .before .before .before .before .if2 .left)) (c .before .before .allocate .ensures)
+returns-3 c =
+    let at-if2 = c .before .before .before .before .if2 in
+    let at-room = c .before .before .before .before .before .room in
+    let args = c .before .before .before .before .before .before .before .before .before .before .args in
+    let e : (64 <? args .h + 1) ≡ false = lt× (omega arith) in
+    λ rd. rw (e, passed (at-room .ensures) (at-if2 .left)) (c .before .before .allocate .ensures)
 
 pub alloc-mono-spec : {M : Type 1} → statement M
 alloc-mono-spec =
     tie.close
     (tie.spec
-    returns
-    room-requires
-    same-length
-    returns-2
-    allocate-requires
-    same-length-2
-    returns-3)
+    returns (λ c κs. search needs) (λ c. search needs) returns-2 allocate-requires (λ c. search needs) returns-3)

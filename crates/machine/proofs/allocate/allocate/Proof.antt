@@ -1,28 +1,19 @@
-use Rattle.machine.specs.Act.{acted}
+use Rattle.machine.specs.Act.{acted, did}
+use Rattle.machine.specs.declared.Outcome.the-variants.{Move}
 use borrow.Author.Needs.{needs}
+use mathlib.Core.Path.{ap}
 use Rattle.machine.proofs.allocate.allocate.Statement.{statement}
 use Rattle.machine.proofs.allocate.allocate.Tie as tie
 
-used-requires : tie.Need-used-requires
-used-requires c κs = search needs
-
-here-requires : tie.Need-here-requires
-here-requires c κs = search needs
-
-place-new-requires : tie.Need-place-new-requires
-place-new-requires c κs = search needs
-
-store-requires : tie.Need-store-requires
-store-requires c κs = search needs
-
-same-length : tie.Need-same-length
-same-length c = search needs
-
 returns : tie.Need-returns
 unfolding acted
-returns c = cc
+returns c =
+    let at-place-new = c .before .before .before .before .before .before .place-new in
+    let at-here = c .before .before .before .before .before .before .before .before .here in
+    let at-used = c .before .before .before .before .before .before .before .before .before .before .used in
+    rw (← at-used .ensures, ← at-here .ensures, ← at-place-new .ensures) (ap (did Move) (c .before .before .store .ensures))
 
 pub allocate-spec : {M : Type 1} → statement M
 allocate-spec =
     tie.close
-    (tie.spec used-requires here-requires place-new-requires store-requires same-length returns)
+    (tie.spec (λ c κs. search needs) (λ c κs. search needs) (λ c κs. search needs) (λ c κs. search needs) (λ c. search needs) returns)

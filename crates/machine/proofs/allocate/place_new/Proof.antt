@@ -1,19 +1,15 @@
 use Rattle.machine.proofs.Acting.{fits}
 use Rattle.program.specs.Location.{size-formula}
+use borrow.Author.Needs.{needs}
 use mathlib.Core.Path.{_∙_}
 use native.Mathlib.Omega.{arith}
-use borrow.Author.Needs.{needs}
 use Rattle.machine.proofs.allocate.place_new.Statement.{statement}
 use Rattle.machine.proofs.allocate.place_new.Tie as tie
 
-place-requires : tie.Need-place-requires
-place-requires c κs = search needs
-
-same-length : tie.Need-same-length
-same-length c = search needs
-
 returns : tie.Need-returns
-returns c = c .before .before .place .ensures .0 ∙ fits _ _ _ _ (omega (arith, size-formula (c .before .before .before .before .before .before .args .program .now) (c .before .before .before .before .before .before .args .r)))
+returns c =
+    let args = c .before .before .before .before .before .before .args in
+    c .before .before .place .ensures .0 ∙ fits _ _ _ _ (omega (arith, size-formula (args .program .now) (args .r)))
 
 pub place-new-spec : {M : Type 1} → statement M
-place-new-spec = tie.close (tie.spec place-requires same-length returns)
+place-new-spec = tie.close (tie.spec (λ c κs. search needs) (λ c. search needs) returns)

@@ -1,60 +1,48 @@
 use Rattle.machine.proofs.Turning.{few-words}
-use Rattle.remus.specs.Turn.{byCheck, bySound, refused}
 use Rattle.machine.specs.Answer.{turned}
+use Rattle.remus.specs.Turn.{byCheck, bySound, refused}
 use Rattle.value.proofs.Tests.{goes, passed, refused as no-pass, stops}
-use mathlib.Core.Path.{refl, sym}
 use borrow.Author.Needs.{needs}
+use mathlib.Core.Path.{refl, sym}
 use Rattle.machine.proofs.calls.turn_accepted.Statement.{statement}
 use Rattle.machine.proofs.calls.turn_accepted.Tie as tie
-
-words-legal-requires : tie.Need-words-legal-requires
-words-legal-requires c κs = search needs
 
 returns : tie.Need-returns
 unfolding byCheck refused turned
 returns c = stops _ (no-pass (c .before .words-legal .ensures) (c .if1 .taken)) refl
 
-sound-requires : tie.Need-sound-requires
-sound-requires c κs = search needs
-
-enum-told : tie.Need-enum-told
-enum-told c = search needs
-
 turn-on-sound-requires : tie.Need-turn-on-sound-requires
-turn-on-sound-requires c κs = let e = sym (rw (c .before .before .enum-told .given .1) at (c .before .before .before .before .sound .ensures)) in c .before .before .before .before .before .before .before .before .before .before .before .before .pre _ _ (few-words _ (passed (c .before .before .before .before .before .before .before .words-legal .ensures) (c .before .before .before .before .before .before .if1 .left))) e
-
-enum-known-q : tie.Need-enum-known-q
-enum-known-q c = search needs
-
-same-length : tie.Need-same-length
-same-length c = search needs
-
-same-length-2 : tie.Need-same-length-2
-same-length-2 c = search needs
+turn-on-sound-requires c κs =
+    let at-sound = c .before .before .before .before .sound in
+    let at-if1 = c .before .before .before .before .before .before .if1 in
+    let at-words-legal = c .before .before .before .before .before .before .before .words-legal in
+    let pre = c .before .before .before .before .before .before .before .before .before .before .before .before .pre in
+    let e = sym (rw (c .before .before .enum-told .given .1) at (at-sound .ensures)) in
+    pre _ _ (few-words _ (passed (at-words-legal .ensures) (at-if1 .left))) e
 
 returns-2 : tie.Need-returns-2
 unfolding byCheck bySound
-returns-2 c = let e = sym (rw (c .before .before .before .before .before .before .before .enum-told .given .1) at (c .before .before .before .before .before .before .before .before .before .sound .ensures)) in goes _ _ (passed (c .before .before .before .before .before .before .before .before .before .before .before .before .words-legal .ensures) (c .before .before .before .before .before .before .before .before .before .before .before .if1 .left)) (rw e (c .before .before .before .before .turn-on-sound .ensures))
-
-same-length-3 : tie.Need-same-length-3
-same-length-3 c = search needs
+returns-2 c =
+    let at-turn-on-sound = c .before .before .before .before .turn-on-sound in
+    let at-enum-told = c .before .before .before .before .before .before .before .enum-told in
+    let at-sound = c .before .before .before .before .before .before .before .before .before .sound in
+    let at-if1 = c .before .before .before .before .before .before .before .before .before .before .before .if1 in
+    let at-words-legal = c .before .before .before .before .before .before .before .before .before .before .before .before .words-legal in
+    let e = sym (rw (at-enum-told .given .1) at (at-sound .ensures)) in
+    goes _ _ (passed (at-words-legal .ensures) (at-if1 .left)) (rw e (at-turn-on-sound .ensures))
 
 returns-3 : tie.Need-returns-3
 unfolding byCheck bySound refused turned
-returns-3 c = let e = sym (rw (c .before .q .given .1) at (c .before .before .before .sound .ensures)) in goes _ _ (passed (c .before .before .before .before .before .before .words-legal .ensures) (c .before .before .before .before .before .if1 .left)) (rw e)
+returns-3 c =
+    let at-sound = c .before .before .before .sound in
+    let at-if1 = c .before .before .before .before .before .if1 in
+    let at-words-legal = c .before .before .before .before .before .before .words-legal in
+    let e = sym (rw (c .before .q .given .1) at (at-sound .ensures)) in
+    goes _ _ (passed (at-words-legal .ensures) (at-if1 .left)) (rw e)
 
 pub turn-accepted-spec : {M : Type 1} → statement M
 turn-accepted-spec =
     tie.close
     (tie.spec
-    words-legal-requires
-    returns
-    sound-requires
-    enum-told
-    turn-on-sound-requires
-    enum-known-q
-    same-length
-    same-length-2
-    returns-2
-    same-length-3
-    returns-3)
+    (λ c κs. search needs) returns (λ c κs. search needs) (λ c. search needs) turn-on-sound-requires (λ c. search needs)
+    (λ c. search needs) (λ c. search needs) returns-2 (λ c. search needs) returns-3)

@@ -2,23 +2,8 @@ use borrow.Author.Needs.{needs}
 use Rattle.machine.proofs.clear.put_pair.Statement.{statement}
 use Rattle.machine.proofs.clear.put_pair.Tie as tie
 
-mul-i : tie.Need-mul-i
-mul-i c = search needs
-
-put-requires : tie.Need-put-requires
-put-requires c κs = search needs
-
-add-put : tie.Need-add-put
-add-put c = search needs
-
-put-requires-2 : tie.Need-put-requires-2
-put-requires-2 c κs = search needs
-
-same-length : tie.Need-same-length
-same-length c = search needs
-
 returns : tie.Need-returns
-returns c = cc
+returns c = rw (← c .before .before .before .before .before .before .put .ensures) (c .before .before .put2 .ensures)
 
 pub put-pair-spec : {M : Type 1} → statement M
-put-pair-spec = tie.close (tie.spec mul-i put-requires add-put put-requires-2 same-length returns)
+put-pair-spec = tie.close (tie.spec (λ c. search needs) (λ c κs. search needs) (λ c. search needs) (λ c κs. search needs) (λ c. search needs) returns)

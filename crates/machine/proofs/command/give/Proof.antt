@@ -1,20 +1,13 @@
-use Rattle.machine.specs.Act.{acted}
+use Rattle.machine.specs.Act.{acted, did}
+use Rattle.machine.specs.declared.Outcome.the-variants.{Move}
 use borrow.Author.Needs.{needs}
+use mathlib.Core.Path.{ap}
 use Rattle.machine.proofs.command.give.Statement.{statement}
 use Rattle.machine.proofs.command.give.Tie as tie
 
-here-requires : tie.Need-here-requires
-here-requires c κs = search needs
-
-store-requires : tie.Need-store-requires
-store-requires c κs = search needs
-
-same-length : tie.Need-same-length
-same-length c = search needs
-
 returns : tie.Need-returns
 unfolding acted
-returns c = cc
+returns c = rw (← c .before .before .before .before .here .ensures) (ap (did Move) (c .before .before .store .ensures))
 
 pub give-spec : {M : Type 1} → statement M
-give-spec = tie.close (tie.spec here-requires store-requires same-length returns)
+give-spec = tie.close (tie.spec (λ c κs. search needs) (λ c κs. search needs) (λ c. search needs) returns)

@@ -3,15 +3,9 @@ use borrow.Author.Needs.{needs}
 use Rattle.machine.proofs.command.make_poly.Statement.{statement}
 use Rattle.machine.proofs.command.make_poly.Tie as tie
 
-give-requires : tie.Need-give-requires
-give-requires c κs = search needs
-
-same-length : tie.Need-same-length
-same-length c = search needs
-
 returns : tie.Need-returns
 unfolding exec
 returns c = λ h rd. c .before .before .give .ensures
 
 pub make-poly-spec : {M : Type 1} → statement M
-make-poly-spec = tie.close (tie.spec give-requires same-length returns)
+make-poly-spec = tie.close (tie.spec (λ c κs. search needs) (λ c. search needs) returns)

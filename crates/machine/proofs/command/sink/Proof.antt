@@ -1,35 +1,22 @@
+use Rattle.machine.specs.Act.{acted, did}
+use Rattle.machine.specs.declared.Outcome.the-variants.{Move}
 use Rattle.remus.specs.Exec.{exec}
-use Rattle.machine.specs.Act.{acted}
 use borrow.Author.Needs.{needs}
+use mathlib.Core.Path.{ap}
 use Rattle.machine.proofs.command.sink.Statement.{statement}
 use Rattle.machine.proofs.command.sink.Tie as tie
 
-reactor-requires : tie.Need-reactor-requires
-reactor-requires c κs = search needs
-
-wide-sink-loc-requires : tie.Need-wide-sink-loc-requires
-wide-sink-loc-requires c κs = search needs
-
-value-at-requires : tie.Need-value-at-requires
-value-at-requires c κs = search needs
-
-store-requires : tie.Need-store-requires
-store-requires c κs = search needs
-
-same-length : tie.Need-same-length
-same-length c = search needs
-
 returns : tie.Need-returns
 unfolding exec acted
-returns c = λ h i rd. cc
+returns c =
+    let at-value-at = c .before .before .before .before .value-at in
+    let at-wide-sink-loc = c .before .before .before .before .before .before .wide-sink-loc in
+    let at-reactor = c .before .before .before .before .before .before .before .reactor in
+    λ h i rd. rw (← at-reactor .ensures, ← at-wide-sink-loc .ensures, ← at-value-at .ensures)
+    (ap (did Move) (c .before .before .store .ensures))
 
 pub sink-spec : {M : Type 1} → statement M
 sink-spec =
     tie.close
     (tie.spec
-    reactor-requires
-    wide-sink-loc-requires
-    value-at-requires
-    store-requires
-    same-length
-    returns)
+    (λ c κs. search needs) (λ c κs. search needs) (λ c κs. search needs) (λ c κs. search needs) (λ c. search needs) returns)

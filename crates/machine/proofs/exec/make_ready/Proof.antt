@@ -1,45 +1,29 @@
+use Rattle.program.specs.Bytes.{declared}
 use Rattle.remus.specs.Exec.{ready}
 use Rattle.value.proofs.Tests.{eq!, eq×, no, yes}
-use mathlib.Core.Path.{refl}
 use borrow.Author.Needs.{needs}
+use mathlib.Core.Path.{_∙_, ap, refl, sym}
 use Rattle.machine.proofs.exec.make_ready.Statement.{statement}
 use Rattle.machine.proofs.exec.make_ready.Tie as tie
 
-reactor-requires : tie.Need-reactor-requires
-reactor-requires c κs = search needs
-
-wide-declared-requires : tie.Need-wide-declared-requires
-wide-declared-requires c κs = search needs
-
-cast-if1 : tie.Need-cast-if1
-cast-if1 c = search needs
-
-set-wired-requires : tie.Need-set-wired-requires
-set-wired-requires c κs = search needs
-
-same-length : tie.Need-same-length
-same-length c = search needs
-
 returns : tie.Need-returns
 unfolding ready
-returns c = yes _ (eq! (cc)) (c .before .before .set-wired .ensures)
-
-same-length-2 : tie.Need-same-length-2
-same-length-2 c = search needs
+returns c =
+    let at-if1 = c .before .before .before .before .if1 in
+    let at-wide-declared = c .before .before .before .before .before .wide-declared in
+    let at-reactor = c .before .before .before .before .before .before .reactor in
+    yes _ (eq! (at-if1 .taken ∙ at-wide-declared .ensures ∙ ap (declared _) (at-reactor .ensures)))
+    (c .before .before .set-wired .ensures)
 
 returns-2 : tie.Need-returns-2
 unfolding ready
-returns-2 c = no _ (eq× (λ e. c .if1 .left (cc))) refl
+returns-2 c =
+    no _ (eq× (λ e. c .if1 .left (e ∙ sym (c .before .wide-declared .ensures ∙ ap (declared _)
+    (c .before .before .reactor .ensures))))) refl
 
 pub make-ready-spec : {M : Type 1} → statement M
 make-ready-spec =
     tie.close
     (tie.spec
-    reactor-requires
-    wide-declared-requires
-    cast-if1
-    set-wired-requires
-    same-length
-    returns
-    same-length-2
-    returns-2)
+    (λ c κs. search needs) (λ c κs. search needs) (λ c. search needs) (λ c κs. search needs) (λ c. search needs) returns
+    (λ c. search needs) returns-2)

@@ -3,24 +3,12 @@ use borrow.Author.Needs.{needs}
 use Rattle.machine.proofs.undo.later_back.Statement.{statement}
 use Rattle.machine.proofs.undo.later_back.Tie as tie
 
-old-back-requires : tie.Need-old-back-requires
-old-back-requires c κs = search needs
-
-zero-from-requires : tie.Need-zero-from-requires
-zero-from-requires c κs = search needs
-
-same-length : tie.Need-same-length
-same-length c = search needs
-
 returns : tie.Need-returns
 unfolding back zeroFrom
-returns c = cc
+returns c = rw (← c .before .before .before .before .before .before .old-back .ensures) (c .before .before .zero-from .ensures)
 
 pub later-back-spec : {M : Type 1} → statement M
 later-back-spec =
     tie.close
     (tie.spec
-    old-back-requires
-    zero-from-requires
-    same-length
-    returns)
+    (λ c κs. search needs) (λ c κs. search needs) (λ c. search needs) returns)

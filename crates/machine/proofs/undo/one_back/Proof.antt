@@ -4,14 +4,11 @@ use borrow.Author.Needs.{needs}
 use Rattle.machine.proofs.undo.one_back.Statement.{statement}
 use Rattle.machine.proofs.undo.one_back.Tie as tie
 
-slots-back-requires : tie.Need-slots-back-requires
-slots-back-requires c κs = search needs
-
 clear-one-requires : tie.Need-clear-one-requires
-clear-one-requires c κs = rw (c .before .before .before .slots-back .ensures) (slots-inside _ _ _ _ (c .before .before .before .before .before .before .before .pre))
-
-same-length : tie.Need-same-length
-same-length c = search needs
+clear-one-requires c κs =
+    let at-slots-back = c .before .before .before .slots-back in
+    let pre = c .before .before .before .before .before .before .before .pre in
+    rw (at-slots-back .ensures) (slots-inside _ _ _ _ (pre))
 
 returns : tie.Need-returns
 unfolding oneBack
@@ -21,7 +18,4 @@ pub one-back-spec : {M : Type 1} → statement M
 one-back-spec =
     tie.close
     (tie.spec
-    slots-back-requires
-    clear-one-requires
-    same-length
-    returns)
+    (λ c κs. search needs) clear-one-requires (λ c. search needs) returns)

@@ -2,27 +2,14 @@ use borrow.Author.Needs.{needs}
 use Rattle.machine.proofs.undo.point_back.Statement.{statement}
 use Rattle.machine.proofs.undo.point_back.Tie as tie
 
-content-requires : tie.Need-content-requires
-content-requires c κs = search needs
-
-first-below-requires : tie.Need-first-below-requires
-first-below-requires c κs = search needs
-
-store-requires : tie.Need-store-requires
-store-requires c κs = search needs
-
-same-length : tie.Need-same-length
-same-length c = search needs
-
 returns : tie.Need-returns
-returns c = cc
+returns c =
+    let at-first-below = c .before .before .before .before .first-below in
+    let at-content = c .before .before .before .before .before .before .content in
+    rw (← at-content .ensures, ← at-first-below .ensures) (c .before .before .store .ensures)
 
 pub point-back-spec : {M : Type 1} → statement M
 point-back-spec =
     tie.close
     (tie.spec
-    content-requires
-    first-below-requires
-    store-requires
-    same-length
-    returns)
+    (λ c κs. search needs) (λ c κs. search needs) (λ c κs. search needs) (λ c. search needs) returns)

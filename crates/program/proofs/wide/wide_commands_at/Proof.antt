@@ -14,32 +14,8 @@ Inv-loop program r at₀ i₀ at i = (at ≡ commandsAt program i) × (i ≤ r) 
 abbrev μ-loop : tie.MeasureT-loop
 μ-loop program r at₀ i₀ at i = r - i
 
-tables-end-requires : tie.Need-tables-end-requires Inv-loop μ-loop
-tables-end-requires c κs = search needs
-
-cast-at : tie.Need-cast-at Inv-loop μ-loop
-cast-at c = omega arith
-
 loop-holds : tie.Need-loop-holds Inv-loop μ-loop
 loop-holds c = (c .tables-end .ensures ∙ sym (commands-first _), omega arith, omega arith)
-
-wide-commands-in-requires : tie.Need-wide-commands-in-requires Inv-loop μ-loop
-wide-commands-in-requires c κs = search needs
-
-cast-at-2 : tie.Need-cast-at-2 Inv-loop μ-loop
-cast-at-2 c = omega arith
-
-mul-at : tie.Need-mul-at Inv-loop μ-loop
-mul-at c = omega arith
-
-add-at : tie.Need-add-at Inv-loop μ-loop
-add-at c = omega arith
-
-add-i : tie.Need-add-i Inv-loop μ-loop
-add-i c = omega arith
-
-loop-less : tie.Need-loop-less Inv-loop μ-loop
-loop-less c = omega arith
 
 loop-again : tie.Need-loop-again Inv-loop μ-loop
 loop-again c =
@@ -54,14 +30,14 @@ wide-commands-at-spec =
     (tie.spec
     Inv-loop
     μ-loop
-    tables-end-requires
-    cast-at
+    (λ c κs. search needs)
+    (λ c. omega arith)
     loop-holds
-    wide-commands-in-requires
-    cast-at-2
-    mul-at
-    add-at
-    add-i
-    loop-less
+    (λ c κs. search needs)
+    (λ c. omega arith)
+    (λ c. omega arith)
+    (λ c. omega arith)
+    (λ c. omega arith)
+    (λ c. omega arith)
     loop-again
     returns)
