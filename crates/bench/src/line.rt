@@ -1,15 +1,29 @@
 // A line of a file of vectors, read byte by byte.
 //
 // Its fields, with a space between: 0 the number and 1 the place that 01 gives, in decimal; 2 the
-// bytes of the program, in hexadecimal, or `=` for the program of the line before; 3 and 4, where
-// there are any, words before and words after, as `n:` and the bytes of n words in hexadecimal, the
-// words that are not written being zero.
+// bytes of the program, in hexadecimal, or `=` for the program of the line before; from 3 on, where
+// there are any, words, as `n:` and the bytes of n words in hexadecimal, the words that are not
+// written being zero.
+
+// Memory before and after.
+pub const MEMORY: u8 = 3;
+
+pub const MEMORY_AFTER: u8 = 4;
+
+pub const READINGS: u8 = 5;
+
+// Sink space before and after.
+pub const SINKS: u8 = 6;
+
+pub const SINKS_AFTER: u8 = 7;
+
+const FIELDS: usize = 8;
 
 // Bytes for each field.
 const FIELD: usize = 65536;
 
 // Bytes for all fields of a line.
-pub const ROOM: usize = 5 * FIELD;
+pub const ROOM: usize = FIELDS * FIELD;
 
 // What is read of a line: the field that it has come to, and whether bytes are read there; for each
 // field its decimal number and how many hexadecimal digits it has; and how many digits the program
@@ -17,8 +31,8 @@ pub const ROOM: usize = 5 * FIELD;
 pub struct Line {
     field: u8,
     hex: bool,
-    numbers: [u32; 5],
-    digits: [u32; 5],
+    numbers: [u32; FIELDS],
+    digits: [u32; FIELDS],
     kept: u32,
 }
 
@@ -27,8 +41,8 @@ impl Line {
         Line {
             field: 0,
             hex: false,
-            numbers: [0; 5],
-            digits: [0; 5],
+            numbers: [0; FIELDS],
+            digits: [0; FIELDS],
             kept: 0,
         }
     }
@@ -52,7 +66,7 @@ impl Line {
 
     fn next_field(self) -> Line {
         let mut line = self;
-        line.field = self.field % 4 + 1;
+        line.field = self.field % SINKS_AFTER + 1;
         line.hex = line.field == 2;
         line
     }
@@ -72,7 +86,7 @@ impl Line {
     fn digit(self, d: u8, room: &mut [u8; ROOM]) -> Line {
         let mut line = self;
         let f = self.field as usize;
-        if 5 <= f {
+        if FIELDS <= f {
             return line;
         }
         if !self.hex {
@@ -98,22 +112,21 @@ impl Line {
         bytes_of(room, 2, self.digits[2])
     }
 
-    // How many words before, and the bytes of those that are written.
-    pub fn count(self) -> usize {
-        self.numbers[3] as usize
+    // How many words a field has, and the bytes of those that are written.
+    pub fn count(self, field: u8) -> usize {
+        let f = field as usize;
+        if FIELDS <= f {
+            return 0;
+        }
+        self.numbers[f] as usize
     }
 
-    pub fn words<'a>(self, room: &'a [u8]) -> &'a [u8] {
-        bytes_of(room, 3, self.digits[3])
-    }
-
-    // The same of the words after.
-    pub fn count_after(self) -> usize {
-        self.numbers[4] as usize
-    }
-
-    pub fn words_after<'a>(self, room: &'a [u8]) -> &'a [u8] {
-        bytes_of(room, 4, self.digits[4])
+    pub fn words<'a>(self, field: u8, room: &'a [u8]) -> &'a [u8] {
+        let f = field as usize;
+        if FIELDS <= f {
+            return &room[..0];
+        }
+        bytes_of(room, field, self.digits[f])
     }
 }
 

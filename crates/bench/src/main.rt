@@ -6,6 +6,7 @@ mod primitives;
 mod programs;
 mod text;
 mod trial;
+mod turns;
 mod vectors;
 mod words;
 
@@ -13,5 +14,6 @@ fn main() {
     primitives::print_all();
     programs::print_checks();
     programs::print_starts();
+    turns::print_all();
     vectors::run();
 }

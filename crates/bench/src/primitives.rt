@@ -1,6 +1,6 @@
 // The cases of 01 about primitives: the starred ones first, then its rules on bounds and blanks.
 use crate::text::put;
-use crate::text::put_decimal;
+use crate::text::put_value;
 use value::Value;
 
 const ADD: u8 = 0;
@@ -32,29 +32,6 @@ const INSTEAD: u8 = 12;
 const LOWEST: i32 = -2147483648;
 
 const HIGHEST: i32 = 2147483647;
-
-fn put_integer(z: i32) {
-    if z < 0 {
-        put(b"-");
-    }
-    put_decimal(value::magnitude(z) as u64);
-}
-
-fn put_value(v: Value) {
-    if v.mark == Value::BLANK {
-        put(b"blank");
-        return;
-    }
-    if v.mark == Value::NUMBER {
-        put_integer(value::signed(v.content));
-        return;
-    }
-    if v.content == 1 {
-        put(b"true");
-    } else {
-        put(b"false");
-    }
-}
 
 fn put_result(v: Value) {
     put(b" = ");

@@ -1,17 +1,27 @@
 // A vector run through the proved code: whether what comes of it is what its line says.
 use crate::line::Line;
+use crate::line::MEMORY;
+use crate::line::MEMORY_AFTER;
+use crate::line::READINGS;
+use crate::line::SINKS;
+use crate::line::SINKS_AFTER;
 use crate::words::fill;
 use crate::words::same;
 use image::Judged;
+use remus::Turned;
 
 // One more than memory may have, so that too many can be tried.
 const MOST_WORDS: usize = 16385;
+
+// Words for a line's readings, and for its sink space: a pair more than 31 globals have.
+const FEW_WORDS: usize = 64;
 
 // What the vectors of a file are of.
 pub enum Kind {
     Check,
     Start,
     Image,
+    Turn,
 }
 
 // The check's number and place.
@@ -20,10 +30,15 @@ fn check_agrees(line: Line, program: &[u8]) -> bool {
     line.says(answer.number(), answer.place())
 }
 
+// Whether these are all the words of a field of the line.
+fn all_words(line: Line, field: u8, room: &[u8], words: &[u32]) -> bool {
+    (line.count(field) == words.len()) & same(words, line.words(field, room))
+}
+
 // Start's number and place, and every word of memory after it.
-fn start_agrees(line: Line, program: &[u8], after: &[u8], memory: &mut [u32]) -> bool {
-    let answer = image::start(program, memory);
-    let words = (line.count_after() == memory.len()) & same(memory, after);
+fn start_agrees(line: Line, room: &[u8], memory: &mut [u32]) -> bool {
+    let answer = image::start(line.program(room), memory);
+    let words = all_words(line, MEMORY_AFTER, room, memory);
     line.says(answer.number(), answer.place()) & words
 }
 
@@ -35,19 +50,68 @@ fn image_agrees(line: Line, program: &[u8], memory: &[u32]) -> bool {
     }
 }
 
-// A vector of any kind, on memory that is as long as its words before.
+// Whether a turn's number and place are the line's.
+fn turn_says(line: Line, answer: Turned) -> bool {
+    match answer {
+        Turned::Done(u) => line.says(0, u),
+        Turned::Refused(why) => line.says(why.number(), why.place()),
+    }
+}
+
+// A turn's number and place, and every word of memory and of sink space after it.
+fn turn_agrees(
+    line: Line,
+    room: &[u8],
+    memory: &mut [u32],
+    readings: &mut [u32],
+    sinks: &mut [u32],
+) -> bool {
+    fill(readings, line.words(READINGS, room));
+    fill(sinks, line.words(SINKS, room));
+    let answer = machine::turn(line.program(room), memory, readings, sinks);
+    let words = all_words(line, MEMORY_AFTER, room, memory);
+    let sunk = all_words(line, SINKS_AFTER, room, sinks);
+    turn_says(line, answer) & words & sunk
+}
+
+// The same in parts of two spaces, as long as the line's readings and sinks.
+fn turn_within(
+    line: Line,
+    room: &[u8],
+    memory: &mut [u32],
+    readings: &mut [u32],
+    sinks: &mut [u32],
+) -> bool {
+    let r = line.count(READINGS);
+    let s = line.count(SINKS);
+    if readings.len() < r {
+        return false;
+    }
+    if sinks.len() < s {
+        return false;
+    }
+    turn_agrees(line, room, memory, &mut readings[..r], &mut sinks[..s])
+}
+
+fn turn_runs(line: Line, room: &[u8], memory: &mut [u32]) -> bool {
+    let mut readings = [0u32; FEW_WORDS];
+    let mut sinks = [0u32; FEW_WORDS];
+    turn_within(line, room, memory, &mut readings, &mut sinks)
+}
+
+// A vector of any kind, on memory that is as long as the line's.
 fn agrees_on(kind: Kind, line: Line, room: &[u8], memory: &mut [u32]) -> bool {
-    let program = line.program(room);
-    fill(memory, line.words(room));
+    fill(memory, line.words(MEMORY, room));
     match kind {
-        Kind::Check => check_agrees(line, program),
-        Kind::Start => start_agrees(line, program, line.words_after(room), memory),
-        Kind::Image => image_agrees(line, program, memory),
+        Kind::Check => check_agrees(line, line.program(room)),
+        Kind::Start => start_agrees(line, room, memory),
+        Kind::Image => image_agrees(line, line.program(room), memory),
+        Kind::Turn => turn_runs(line, room, memory),
     }
 }
 
 fn agrees_within(kind: Kind, line: Line, room: &[u8], space: &mut [u32]) -> bool {
-    let n = line.count();
+    let n = line.count(MEMORY);
     if space.len() < n {
         return false;
     }

@@ -130,12 +130,37 @@ fn print_images(agree: [u32; 16]) {
     print_row(b"image unsound: ", agree[9]);
 }
 
+// The numbers that say something of memory, readings, sinks or the run.
+fn print_turns_on_memory(agree: [u32; 16]) {
+    print_row(b"turn 8: ", agree[8]);
+    print_row(b"turn 9: ", agree[9]);
+    print_row(b"turn 10: ", agree[10]);
+    print_row(b"turn 11: ", agree[11]);
+    print_row(b"turn 12: ", agree[12]);
+    print_row(b"turn 13: ", agree[13]);
+    print_row(b"turn 14: ", agree[14]);
+    print_row(b"turn 15: ", agree[15]);
+}
+
+fn print_turns(agree: [u32; 16]) {
+    print_row(b"turn 0: ", agree[0]);
+    print_row(b"turn 1: ", agree[1]);
+    print_row(b"turn 2: ", agree[2]);
+    print_row(b"turn 3: ", agree[3]);
+    print_row(b"turn 4: ", agree[4]);
+    print_row(b"turn 5: ", agree[5]);
+    print_row(b"turn 6: ", agree[6]);
+    print_row(b"turn 7: ", agree[7]);
+    print_turns_on_memory(agree);
+}
+
 fn print(kind: Kind, tally: Tally) {
     let agree = tally.agree;
     match kind {
         Kind::Check => print_checks(agree),
         Kind::Start => print_starts(agree),
         Kind::Image => print_images(agree),
+        Kind::Turn => print_turns(agree),
     }
     print_row(b"differ: ", tally.differ);
 }
@@ -159,4 +184,5 @@ pub fn run() {
     run_file(Kind::Check, 1);
     run_file(Kind::Start, 2);
     run_file(Kind::Image, 3);
+    run_file(Kind::Turn, 4);
 }

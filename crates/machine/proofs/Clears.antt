@@ -1,15 +1,15 @@
 -- One deployment's words with all slots but D slots zeroed, stretch by stretch.
 -- Assumes nothing.
-use Prim.Native.Nat.{ℕ, zero, suc, _+_, _*_, _-_, _≤_, _<_}
+use Prim.Native.Nat.{ℕ, zero, suc, _+_, _-_, _≤_, _<_}
 use mathlib.Core.Path.{_≡_, refl, sym, ap, _∙_}
 use mathlib.Core.List.{List, _++_, append-assoc}
 use native.Mathlib.Omega.{arith}
-use lib.ListN.{length, set, take, drop, replicate, length-append, length-replicate, length-drop, length-set}
+use lib.ListN.{length, set, take, drop, replicate, length-replicate, length-drop, length-set}
 use lib.Seq.{length-take-le, take-append-add}
 use borrow.Rule.Slice.PartMut.{midOf, putMid, same-len-mid}
 use Rattle.program.specs.Bytes.{declared, commandsIn}
 use Rattle.program.specs.Command.{Made, deployment, point, nothing, madeBy, cmdOf}
-use Rattle.program.specs.Location.{sources, sinks, commandLoc, sinkLoc, locations, slotAt, sizeOf}
+use Rattle.program.specs.Location.{commandLoc, sinkLoc, locations, slotAt, sizeOf}
 use Rattle.value.specs.declared.Value.{Value}
 use Rattle.image.specs.Memory.{reactor, sizeAt, word, slot, store, slotsD, slotsR, patch}
 use Rattle.remus.specs.Clear.{clearedWords, clearOne}

@@ -1,22 +1,19 @@
 -- Each command, and so each run, leaves words on which u and the time fit a word.
 -- Assumes nothing.
 use Prim.Native.Nat.{ℕ, zero, suc, _+_, _≤_, _<_}
-use mathlib.Core.Path.{_≡_, refl, sym, subst}
+use mathlib.Core.Path.{_≡_, sym, subst}
 use mathlib.Core.Logic.{⊎-elim}
 use mathlib.Core.Bool.{Bool, true, false}
 use mathlib.Core.List.{List, [], _∷_}
 use native.Mathlib.Omega.{arith}
 use lib.ListN.{length, set, length-set}
 use lib.Seq.{set-out}
-use Rattle.value.specs.Test.{pick}
-use Rattle.value.specs.Value.{value}
 use Rattle.value.specs.declared.Value.{Value}
 use Rattle.value.proofs.Tests.{pick-any, below}
 use Rattle.program.specs.Command.{Cmd, cmdOf, allocMono, makePoly, constant, global, supply, react, consume, sink, allocPoly, primitive, none}
-use Rattle.program.specs.Location.{slotAt, sizeOf}
-use Rattle.load.specs.declared.Refusal.{Refusal}
+use Rattle.program.specs.Location.{slotAt}
 use Rattle.image.specs.Memory.{mainAt, word, used, turns, reactor, content, withUsed, withWired, slot, store, place}
-use Rattle.remus.specs.Exec.{Eff, move, call, fail, find, exec, allocated, branched, chosen, operated, supplied, reacted, consumed, ready, eff}
+use Rattle.remus.specs.Exec.{Eff, move, call, fail, exec, allocated, branched, chosen, operated, supplied, reacted, consumed, ready, eff}
 use Rattle.remus.specs.Run.{Ran, ran, stopped, andThen, entered, commands, stepOf, runOf}
 use Rattle.remus.proofs.Undo.Back.{word-set, word-unset}
 use Rattle.machine.specs.declared.Ended.the-variants.{Whole}
@@ -148,19 +145,22 @@ unfolding andThen
 then-keeps more f (ran m) w = f m w
 then-keeps more f (stopped v m) w = w
 
-entered-keeps : (enter : List ℕ → ℕ → Ran) → ((m : List ℕ) (d : ℕ) → Workable m → Worked (enter m d)) → (m : List ℕ) → Workable m → (e : Eff) → Kept e → Worked (entered enter m e)
+entered-keeps : (enter : List ℕ → ℕ → Ran) → ((m : List ℕ) (d : ℕ) → Workable m → Worked (enter m d)) → (m : List ℕ) → Workable m → (e : Eff)
+    → Kept e → Worked (entered enter m e)
 unfolding entered
 entered-keeps enter f m w (move m′) k = k
 entered-keeps enter f m w (call m′ d) k = f m′ d k
 entered-keeps enter f m w (fail v) k = w
 
-commands-keep : (step : ℕ → List ℕ → Ran) → ((i : ℕ) (m : List ℕ) → Workable m → Worked (step i m)) → (n i : ℕ) (m : List ℕ) → Workable m → Worked (commands step n i m)
+commands-keep : (step : ℕ → List ℕ → Ran) → ((i : ℕ) (m : List ℕ) → Workable m → Worked (step i m)) → (n i : ℕ) (m : List ℕ) → Workable m
+    → Worked (commands step n i m)
 unfolding commands
 commands-keep step f zero i m w = w
 commands-keep step f (suc n) i m w = then-keeps (commands step n (i + 1)) (commands-keep step f n (i + 1)) (step i m) (f i m w)
 
 module _ (p rd : List ℕ) where
-  step-keeps : (enter : List ℕ → ℕ → Ran) → ((m : List ℕ) (d : ℕ) → Workable m → Worked (enter m d)) → (h o i : ℕ) (m : List ℕ) → Workable m → Worked (stepOf enter p rd h o i m)
+  step-keeps : (enter : List ℕ → ℕ → Ran) → ((m : List ℕ) (d : ℕ) → Workable m → Worked (enter m d)) → (h o i : ℕ) (m : List ℕ) → Workable m
+      → Worked (stepOf enter p rd h o i m)
   unfolding stepOf
   step-keeps enter f h o i m w = entered-keeps enter f (ready p m o i) (ready-keeps p m o i w) (eff p rd h m o i) (eff-keeps p rd h m o i w)
 

@@ -55,7 +55,8 @@ module _ (p : List ℕ) (m : List ℕ) (u a : ℕ) where
     pass-rises = omega (arith, next .rises)
 
     -- the pass f goes on from the words m′ that it leaves of m
-    pub pass-next : (f : List ℕ → ℕ → List ℕ) (m′ : List ℕ) (k : ℕ) (x : List ℕ) → m′ ≡ f m a → Local p m a (f m a) → length m ≡ k → over f m (startsOn p m u a) ≡ x
+    pub pass-next : (f : List ℕ → ℕ → List ℕ) (m′ : List ℕ) (k : ℕ) (x : List ℕ) → m′ ≡ f m a → Local p m a (f m a) → length m ≡ k
+        → over f m (startsOn p m u a) ≡ x
         → (length m′ ≡ k) × Tiling p m′ u (a + n) × (over f m′ (startsOn p m′ u (a + n)) ≡ x)
     unfolding over
     pass-next f m′ k x q c h g =

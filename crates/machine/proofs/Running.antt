@@ -1,7 +1,7 @@
 -- How a run goes on, by what the present command comes to.
 -- Assumes nothing.
-use Prim.Native.Nat.{ℕ, zero, suc, _+_, _-_, _≤_, _<_}
-use mathlib.Core.Path.{_≡_, refl}
+use Prim.Native.Nat.{ℕ, suc, _+_, _-_, _≤_, _<_}
+use mathlib.Core.Path.{_≡_}
 use mathlib.Core.List.{List}
 use native.Mathlib.Omega.{arith}
 use Rattle.program.specs.Bytes.{commandsIn}
@@ -9,7 +9,7 @@ use Rattle.load.specs.declared.Refusal.{Refusal}
 use Rattle.load.specs.declared.Refusal.the-variants.{TooDeep}
 use Rattle.image.specs.Memory.{reactor}
 use Rattle.remus.specs.Exec.{Eff, move, call, fail, opening}
-use Rattle.remus.specs.Run.{Ran, ran, stopped, andThen, entered, commands, stepOf, runOf}
+use Rattle.remus.specs.Run.{Ran, andThen, entered, commands, stepOf, runOf}
 use Rattle.machine.specs.declared.Ended.the-variants.{Whole, Stopped}
 use Rattle.machine.specs.declared.Outcome.the-variants.{Move, Call, Fail}
 use Rattle.machine.specs.Act.{did, acted, ranAs}

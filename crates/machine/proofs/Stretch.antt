@@ -1,13 +1,13 @@
 -- Stretches of a list that are lent on and come back, as the definitions put them.
 -- Assumes nothing.
-use Prim.Native.Nat.{ℕ, zero, suc, _+_, _*_, _-_, _≤_, _<_}
-use mathlib.Core.Path.{_≡_, refl, sym, ap, _∙_}
+use Prim.Native.Nat.{ℕ, suc, _+_, _-_, _≤_, _<_}
+use mathlib.Core.Path.{_≡_, sym, ap, _∙_}
 use mathlib.Core.List.{List, [], _∷_, _++_, append-assoc, append-nil}
 use native.Mathlib.Omega.{arith}
 use native.Mathlib.Numerals.{add-one}
-use lib.ListN.{length, set, take, drop, replicate, length-append, length-replicate, length-drop, length-set, take-append-drop}
-use lib.Seq.{length-take-le, drop-drop, drop-length, take-append-add, take-suc-set, drop-set-lt}
-use borrow.Rule.Slice.PartMut.{midOf, putMid, mid-len, post-is, same-len-mid}
+use lib.ListN.{length, set, take, drop, replicate, length-replicate, take-append-drop}
+use lib.Seq.{drop-length, take-suc-set, drop-set-lt}
+use borrow.Rule.Slice.PartMut.{midOf, putMid, mid-len, post-is}
 use Rattle.image.specs.Memory.{patch}
 
 -- ---- zeros

@@ -1,6 +1,6 @@
 -- The answers to what a turn brings, and the turn's own, as the definitions say them; and what of a sound image's run the turn's code
 -- goes by.
-use Prim.Native.Nat.{ℕ, _≤_, _<_}
+use Prim.Native.Nat.{ℕ, _≤_}
 use mathlib.Core.Path.{_≡_}
 use mathlib.Core.List.{List}
 use lib.ListN.{length}

@@ -1,8 +1,9 @@
 // The commands that allocate: AllocMono and AllocPoly. 01: "At 65 the turn ends with 15; else, if
 // its size exceeds n less u at that moment, with 14".
+use crate::DEPLOYMENT;
+use crate::MOST_DEPTH;
 use crate::Outcome;
-use crate::command::DEPLOYMENT;
-use crate::command::POINT;
+use crate::POINT;
 use crate::command::give;
 use crate::command::here;
 use image::content;
@@ -19,9 +20,9 @@ use value::Value;
 ghost use mathlib.Core.Path.{_≡_};
 ghost use mathlib.Core.Bool.{true, false};
 ghost use mathlib.Core.List.{List};
-ghost use Prim.Native.Nat.{ℕ, _+_, _-_, _<_, _≤_};
+ghost use Prim.Native.Nat.{ℕ, _-_, _<_, _≤_};
 ghost use lib.ListN.{length};
-ghost use Rattle.value.specs.Test.{_≤?_, _<?_};
+ghost use Rattle.value.specs.Test.{_≤?_};
 ghost use Rattle.value.specs.Value as W;
 ghost use Rattle.program.specs.Bytes as B;
 ghost use Rattle.program.specs.Command as C;
@@ -29,8 +30,6 @@ ghost use Rattle.program.specs.Location as L;
 ghost use Rattle.image.specs.Memory as M;
 ghost use Rattle.remus.specs.Exec as X;
 ghost use Rattle.machine.specs.Act.{did, acted, Acts};
-
-const MOST_DEPTH: u8 = 64;
 
 // Whether a deployment of reactor r fits the words that are left.
 fn room(program: &[u8], memory: &[u32], r: u32) -> bool

@@ -2,6 +2,7 @@
 // in place; where it is refused, the words before it are brought back.
 use crate::Brought;
 use crate::Ended;
+use crate::MAIN_AT;
 use crate::asked::asked;
 use crate::clear::finish;
 use crate::clear::write_sinks;
@@ -29,8 +30,6 @@ ghost use Rattle.remus.specs.Undo as U;
 ghost use Rattle.remus.specs.Turn as T;
 ghost use Rattle.remus.specs.declared.Turned.the-variants.{Done, Refused};
 ghost use Rattle.machine.specs.Answer.{turned, Safe, Sure};
-
-const MAIN_AT: u32 = 2;
 
 // Main has run to its end.
 fn complete(program: &[u8], memory: &mut [u32], space: &mut [u32]) -> Turned

@@ -1,5 +1,6 @@
 // The end of a completed turn. 01: "At the end main's sinks are written as pairs in order, further
 // sink words keep their content, every slot but D slots is zeroed, and word 1 grows by 1."
+use crate::MAIN_AT;
 use image::put;
 use image::reactor;
 use image::set_turns;
@@ -26,8 +27,6 @@ ghost use Rattle.image.specs.Walk.{Tiling};
 ghost use Rattle.remus.specs.Clear as E;
 
 const HEADER: usize = 3;
-
-const MAIN_AT: u32 = 2;
 
 // Where the D slots begin, from the deployment's first word.
 fn slots_d(program: &[u8], r: u32) -> u32

@@ -1,5 +1,7 @@
 // The commands that allocate nothing, one function each: 01, the command table.
+use crate::DEPLOYMENT;
 use crate::Outcome;
+use crate::POINT;
 use image::content;
 use image::mark;
 use image::reactor;
@@ -13,7 +15,6 @@ use program::wide_sink_loc;
 use program::wide_sources;
 use value::Value;
 ghost use mathlib.Core.Path.{_≡_};
-ghost use mathlib.Core.List.{List};
 ghost use Prim.Native.Nat.{ℕ, _<_};
 ghost use Rattle.program.specs.Command as C;
 ghost use Rattle.program.specs.Location as L;
@@ -21,10 +22,6 @@ ghost use Rattle.image.specs.Memory as M;
 ghost use Rattle.remus.specs.Exec as X;
 ghost use Rattle.remus.specs.Turn as T;
 ghost use Rattle.machine.specs.Act.{did, acted, Acts};
-
-pub const DEPLOYMENT: u32 = 4;
-
-pub const POINT: u32 = 5;
 
 // The location of command i of the deployment at o.
 pub(crate) fn here(program: &[u8], memory: &[u32], o: u32, i: u16) -> u16

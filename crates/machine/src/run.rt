@@ -2,6 +2,7 @@
 // command of the outer one; an unwired one runs D first." A run calls itself for the nested one, and
 // 64 less the depth falls.
 use crate::Ended;
+use crate::MOST_DEPTH;
 use crate::Outcome;
 use crate::Position;
 use crate::exec::act;
@@ -16,8 +17,6 @@ ghost use Prim.Native.Nat.{_+_, _-_, _<_, _≤_};
 ghost use Rattle.remus.specs.Exec as X;
 ghost use Rattle.remus.specs.Run as R;
 ghost use Rattle.machine.specs.Act.{ranAs, Workable, Located};
-
-const MOST_DEPTH: u8 = 64;
 
 // The command at which the deployment at o opens.
 fn opening(program: &[u8], memory: &[u32], o: u32) -> u8

@@ -1,8 +1,9 @@
 // How a refused turn's words are brought back in place, with u as it was. 01: "A refused call leaves
 // memory and sink space as at entry."
+use crate::MAIN_AT;
+use crate::POINT;
 use crate::Position;
 use crate::clear::clear_one;
-use crate::command::POINT;
 use crate::command::here;
 use crate::exec::command_of;
 use image::content;
@@ -33,8 +34,6 @@ ghost use Rattle.image.specs.Passes as P;
 ghost use Rattle.image.specs.Walk.{Tiling};
 ghost use Rattle.remus.specs.Undo as U;
 ghost use Rattle.machine.specs.Act.{Located};
-
-const MAIN_AT: u32 = 2;
 
 const MAIN_SLOTS: usize = 5;
 

@@ -1,0 +1,104 @@
+// The cases of 01 about turns, as a user sees them: readings in; the sink and the words used, or the
+// refusal, out.
+use crate::programs::AVERAGE;
+use crate::programs::CLOCK;
+use crate::programs::NEST;
+use crate::programs::TOGGLE;
+use crate::text::put;
+use crate::text::put_decimal;
+use crate::text::put_value;
+use image::turns;
+use image::word;
+use load::Refusal;
+use machine::turn;
+use remus::Turned;
+use value::Value;
+
+// The values of pairs of words, each after a space.
+fn put_pairs(words: &[u32]) {
+    let mut i = 0;
+    while i < words.len() / 2 {
+        let mark = word(words, 2 * i);
+        let content = word(words, 2 * i + 1);
+        put(b" ");
+        put_value(Value { mark, content });
+        i += 1;
+    }
+}
+
+// `readings a b -> `, and nothing where there are none.
+fn put_readings(readings: &[u32]) {
+    if readings.len() == 0 {
+        return;
+    }
+    put(b"readings");
+    put_pairs(readings);
+    put(b" -> ");
+}
+
+// `sink v, u words used`.
+fn put_done(sinks: &[u32], u: usize) {
+    put(b"sink");
+    put_pairs(sinks);
+    put(b", ");
+    put_decimal(u as u64);
+    put(b" words used\n");
+}
+
+// `refused number, place; turns completed t`.
+fn put_refused(why: Refusal, memory: &[u32]) {
+    put(b"refused ");
+    put_decimal(why.number() as u64);
+    put(b", ");
+    put_decimal(why.place() as u64);
+    put(b"; turns completed ");
+    put_decimal(turns(memory) as u64);
+    put(b"\n");
+}
+
+// One turn, with space for one sink that is not zero before it, and the line of it.
+fn put_turn(name: &[u8], program: &[u8], memory: &mut [u32], readings: &[u32]) {
+    let mut sinks = [77u32; 2];
+    put(name);
+    put(b", turn ");
+    put_decimal(turns(memory) as u64 + 1);
+    put(b": ");
+    put_readings(readings);
+    match turn(program, memory, readings, &mut sinks) {
+        Turned::Done(u) => put_done(&sinks, u),
+        Turned::Refused(why) => put_refused(why, memory),
+    }
+}
+
+fn clock(memory: &mut [u32]) {
+    image::start(&CLOCK, memory);
+    put_turn(b"clock", &CLOCK, memory, &[]);
+    put_turn(b"clock", &CLOCK, memory, &[]);
+}
+
+fn toggle(name: &[u8], memory: &mut [u32]) {
+    image::start(&TOGGLE, memory);
+    put_turn(name, &TOGGLE, memory, &[1, 7, 1, 5]);
+    put_turn(name, &TOGGLE, memory, &[1, 7, 1, 5]);
+    put_turn(name, &TOGGLE, memory, &[1, 7, 1, 5]);
+}
+
+fn nest(name: &[u8], memory: &mut [u32]) {
+    image::start(&NEST, memory);
+    put_turn(name, &NEST, memory, &[]);
+}
+
+fn average(memory: &mut [u32], readings: &[u32]) {
+    image::start(&AVERAGE, memory);
+    put_turn(b"average", &AVERAGE, memory, readings);
+}
+
+pub fn print_all() {
+    clock(&mut [77u32; 11]);
+    toggle(b"toggle", &mut [77u32; 67]);
+    toggle(b"toggle in 66 words", &mut [77u32; 66]);
+    nest(b"nest in 1089 words", &mut [77u32; 1089]);
+    nest(b"nest in 1090 words", &mut [77u32; 1090]);
+    average(&mut [77u32; 23], &[1, 10, 1, 20, 1, 30]);
+    average(&mut [77u32; 23], &[1, 10, 0, 0, 1, 30]);
+}
