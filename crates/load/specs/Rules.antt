@@ -163,6 +163,6 @@ pub record Rules (p : List ℕ) : Type 0 where
   pub whole : length p ≡ wholeLength p
   pub every-reactor : (r : ℕ) → r < reactors p → ReactorRule p r
 
--- Demand 2, exact acceptance. To be proved: an element of this type.
+-- Demand 2, exact acceptance: `exact` in proofs/Exact.antt.
 abbrev pub ExactAcceptance : Type 0
 ExactAcceptance = (p : List ℕ) → IsAccepted p ↔ Rules p

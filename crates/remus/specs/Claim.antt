@@ -130,7 +130,7 @@ pub record Claim (p : List ℕ) (n : ℕ) (ts : List Input) : Type 0 where
   -- u is "2 plus main's size and the sizes allocated in completed turns"
   pub grown : (k : ℕ) × Grows p (startedOf p n) ts k × (used (memoryAfter p (startedOf p n) ts) ≡ mainAt + sizeOf p (mainOf p) + k)
 
--- ---- to be proved: elements of these types
+-- ---- proved in proofs/Demand.antt and proofs/Once.antt: an element of each of these types
 
 -- Demand 3.
 abbrev pub Demand : Type 0

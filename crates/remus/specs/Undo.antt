@@ -49,6 +49,6 @@ module _ (p : List ℕ) (u : ℕ) where
   unfoldable pub undoOf : List ℕ → List ℕ
   undoOf m = withUsed (back (turns m =? 0) m) u
 
--- To be proved, for a program that the check accepts: an element of this type.
+-- For a program that the check accepts: `refused-undone` in proofs/Demand.antt.
 abbrev pub Undoes : List ℕ → Type 0
 Undoes p = (m rd m′ : List ℕ) (w : Refusal) → Sound p m → mainRun p rd m ≡ stopped w m′ → undoOf p (used m) m′ ≡ m
