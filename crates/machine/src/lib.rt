@@ -1,4 +1,4 @@
-// The machine: a turn of document 01 as code.
+// The machine: the calls of document 01. Check and start are those of load and image; the turn is here.
 //
 // A command is decoded once (exec) and carried out by a function of its own (command, allocate); a
 // deployment's commands follow one another (run). A completed run leaves its sinks and cleared words

@@ -20,7 +20,7 @@ use Rattle.load.proofs.Exact.Fits.{InSequence, Fits, ValueAt, Stepwise}
 use Rattle.load.proofs.Exact.Rule.{rule-exact, point-of}
 use Rattle.load.proofs.Exact.KindLaws.{given-same}
 use Rattle.load.proofs.Exact.Holds.{kind-at-depth}
-use Rattle.load.proofs.Exact.Reactor.{first-run, first-fits}
+use Rattle.load.proofs.Exact.Reactor.{tables-right, first-run, first-fits}
 use Rattle.load.proofs.Exact.Static.{ValueBefore, source, made, DeploymentBefore, mono, poly, PointBefore, Static, Single}
 
 module _ (p : List ℕ) (r : ℕ) (u : ReactorRule p r) where
@@ -184,19 +184,6 @@ module _ (p : List ℕ) (r : ℕ) (u : ReactorRule p r) where
               );
           no-kind = λ i h e. own-kind i _ h refl ∙ no-value _ (cmdOf p r i) e;
         }
-
--- the tables of a program that keeps the rules
-tables-right : (p : List ℕ) → Rules p → TablesRight p
-tables-right p u =
-    record {
-      few-bytes = u .few-bytes;
-      header = u .header;
-      global-kinds = u .global-kinds;
-      every-shape = u .every-shape;
-      entries = u .entries;
-      main = u .main;
-      whole = u .whole;
-    }
 
 -- of each reactor of a program that keeps the rules
 pub all-static : (p : List ℕ) → Rules p → (r : ℕ) → r < reactors p → Static p r × Single p r
