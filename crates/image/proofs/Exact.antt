@@ -7,7 +7,6 @@ pub mod Chains
 pub mod SlotTests
 pub mod Names
 pub mod Depths
-pub mod Steps
 use Prim.Native.Nat.{ℕ, _≤_, _<_}
 use mathlib.Core.Path.{_≡_, refl, sym, _∙_, ap, subst}
 use mathlib.Core.Bool.{Bool, true, false}
@@ -26,7 +25,8 @@ use Rattle.image.specs.Sound.{here, Deployed, InD, Fresh, Grown, NamedOn
 use Rattle.image.specs.Passes.{Judged, sound, unsound, lowest, freshSound, grownSound, tailOf, byTurns, soundOf, ExactSoundness}
 use Rattle.image.proofs.Exact.Lists.{_∈_, Rising, rises, rising-from}
 use Rattle.image.proofs.Exact.Tables.{lowest-none}
-use Rattle.image.proofs.Exact.Tiling.{tiles?, tiles!, in-from, in-to, in-next, Laid, starts, start-in, start-rising}
+use Rattle.image.proofs.Memory.Tiles.{in-ge, in-to, in-next}
+use Rattle.image.proofs.Exact.Tiling.{tiles?, tiles!, Laid, starts, start-in, start-rising}
 use Rattle.image.proofs.Exact.Zeros.{zero-rest, slots-blank}
 use Rattle.image.proofs.Exact.SlotTests.{SlotsRight, Own, own-test}
 use Rattle.image.proofs.Exact.Names.{named-test}
@@ -70,8 +70,8 @@ module _ (p m : List ℕ) where
   fresh-empty e r d i =
       ⊎-elim
       (λ q. subst Empty (sym q) (λ l k n. r .empty l (subst (λ (x : ℕ). l < locations p x) e k)))
-      (λ q. absurd (omega (arith, in-to p m i, r .alone, ap (sizeOf p) e)))
-      (in-next p m i)
+      (λ q. absurd (omega (arith, in-to p i, r .alone, ap (sizeOf p) e)))
+      (in-next p i)
 
   -- ---- turns above 0
 
@@ -96,7 +96,7 @@ module _ (p m : List ℕ) where
     all-others : (ok : ℕ → Bool) → ((lowest ok (tailOf p m (starts p m)) =? 0) ≡ true) ↔
         ((d : ℕ) → Deployed p m d → d ≢ mainAt → ok d ≡ true)
     all-others ok =
-        let w = lowest-none ok (tailOf p m (starts p m)) (λ a i. omega (arith, in-from p m (other-in a .0 i .0))) in
+        let w = lowest-none ok (tailOf p m (starts p m)) (λ a i. omega (arith, in-ge p (other-in a .0 i .0))) in
         (λ h d i n. w .0 h d (other-in d .1 (i, n)), λ h. w .1 (λ d i. let k = other-in d .0 i in h d (k .0) (k .1)))
 
     grown-test : (grownSound p m (starts p m) (tailOf p m (starts p m)) ≡ sound) ↔ (((d : ℕ) → Deployed p m d → Empty d) × Grown p m)
@@ -183,7 +183,7 @@ exact-soundness p few m small = (
         grown = rest .grown;
       },
   λ s.
-      let some = in-to p m (s .main) in
+      let some = in-to p (s .main) in
       let laid = sound-laid p m few small s in
       ladder _ _ _ .1 (
         le! (s .fits),

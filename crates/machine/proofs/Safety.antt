@@ -14,7 +14,8 @@ use Rattle.image.specs.Memory.{mostDepth, mostWords, mainAt, used}
 use Rattle.image.specs.Sound.{Tiles, Sound}
 use Rattle.image.specs.Walk.{Tiling}
 use Rattle.image.proofs.Exact.{exact-soundness}
-use Rattle.image.proofs.Exact.Tiling.{tiles!, in-to}
+use Rattle.image.proofs.Memory.Tiles.{in-to}
+use Rattle.image.proofs.Exact.Tiling.{tiles! }
 use Rattle.image.proofs.Memory.Tiles.{tiles-kept}
 use Rattle.remus.specs.Run.{ran, stopped, mainRun}
 use Rattle.remus.proofs.Undo.Entry.{entry-firm}

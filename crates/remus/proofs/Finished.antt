@@ -113,8 +113,11 @@ module _ (p m : List ℕ) (w : Whole p m) where
         reactors = reactor-same;
         wireds = λ d i. header-same d 1 (d + 1) refl i (omega arith);
         nexts = λ d i. header-same d 2 (d + 2) refl i (omega arith);
-        marks = λ d l i h. rw (slot-same d l i) (at-zero (finished p m) m (slot p m d l) (point-same d l 0 i h (omega arith)));
-        contents = λ d l i h. rw (slot-same d l i) (point-same d l 1 i h (omega arith));
+        slots = λ d l i h.
+            record {
+              marks = rw (slot-same d l i) (at-zero (finished p m) m (slot p m d l) (point-same d l 0 i h (omega arith)));
+              contents = rw (slot-same d l i) (point-same d l 1 i h (omega arith));
+            };
       }
 
   slot-zero : (d l k : ℕ) → Deployed p m d → l < locations p (reactor m d) → (InD p m (reactor m d) l → ⊥) → k < 2 → word (finished p m) (slot p m d l + k) ≡ 0

@@ -5,16 +5,19 @@ use mathlib.Core.Bool.{Bool, true, false≢true}
 use mathlib.Core.Logic.{_↔_, ⊎-elim, _≢_}
 use mathlib.Core.List.{List, [], _∷_, List·Memᴰ·head as first, List·Memᴰ·tail as later, List·Memᴰ·cases-cons as in-cons, List·Memᴰ·not-nil as in-nil}
 use native.Mathlib.Omega.{arith}
-use lib.ListN.{length, getD, set, take, replicate, length-set, length-take, length-replicate}
-use lib.Seq.{getD-set-same, getD-set-other, getD-take, take-set-lt}
+use lib.ListN.{length, getD, set, replicate, length-set, length-replicate}
+use lib.Seq.{getD-set-same, getD-set-other}
 use Rattle.value.proofs.Tests.{lt!, lt×, lt?, eq!, eq?, both!, both?, goes, stops, guards}
 use Rattle.program.specs.Bytes.{reactors, mostReactors, shapeOf}
 use Rattle.image.specs.Memory.{used, reactor, next}
 use Rattle.image.specs.Sound.{Deployed, OnChain, head, tail, Chain, empty, link}
 use Rattle.image.specs.Passes.{startTable, chainFrom, membersFrom}
-use Rattle.image.proofs.Exact.Lists.{_∈_, same, total, is, is-same, is-other, count, count-none, count-most, count-set}
+use Rattle.image.proofs.Chains.{members-end, members-next}
+use Rattle.image.proofs.Memory.Tiles.{in-to}
+use Rattle.image.proofs.Memory.Distinct.{Members, end, one, few-members}
+use Rattle.image.proofs.Exact.Lists.{_∈_, same, total, is, is-same, is-other, count, count-none}
 use Rattle.image.proofs.Exact.Tables.{zeros-at}
-use Rattle.image.proofs.Exact.Tiling.{Laid, starts, start-test, deployed-reactor, in-to}
+use Rattle.image.proofs.Exact.Tiling.{Laid, starts, start-test, deployed-reactor}
 
 module _ (p m : List ℕ) where
   -- the test accepts the chain from c, after an index `last` and the reactors of `seen`: o is the owner, s the shape, f the steps
@@ -32,32 +35,28 @@ module _ (p m : List ℕ) where
 
   -- ---- members
 
-  pub members-end : (f c : ℕ) → c ≡ 0 → membersFrom p m f c ≡ []
-  unfolding membersFrom
-  members-end zero c e = refl
-  members-end (suc f) c e = sym (stops _ (lt× (omega arith)) refl)
-
-  pub members-next : (f c : ℕ) → c ≢ 0 → membersFrom p m (suc f) c ≡ c ∷ membersFrom p m f (next m c)
-  unfolding membersFrom
-  members-next f c n = sym (goes [] _ (lt! (omega arith)) refl)
+  after : (f c : ℕ) → c ≢ 0 → membersFrom p m (suc f) c ≡ c ∷ membersFrom p m f (next m c)
+  after f c n = members-next p m c (suc f) f (next m c) refl (omega arith) refl
 
   pub members? : (f c : ℕ) {d : ℕ} → d ∈ membersFrom p m f c → OnChain p m c d
   unfolding membersFrom
   members? zero c i = absurd (in-nil i)
   members? (suc f) c {d} i =
       same c 0
-      (λ e. absurd (in-nil (subst (λ (l : List ℕ). d ∈ l) (members-end (suc f) c e) i)))
+      (λ e. absurd (in-nil (subst (λ (l : List ℕ). d ∈ l) (members-end p m c (suc f) (omega arith)) i)))
       (λ n.
       ⊎-elim (λ e. subst (OnChain p m c) (sym e) (head n)) (λ k. tail n (members? f (next m c) k))
-      (in-cons (subst (λ (l : List ℕ). d ∈ l) (members-next f c n) i)))
+      (in-cons (subst (λ (l : List ℕ). d ∈ l) (after f c n) i)))
+
+  -- as many steps as there are members find them all
+  listed : (f : ℕ) {c d n : ℕ} → Members m c n → n ≤ f → OnChain p m c d → d ∈ membersFrom p m f c
+  listed f end l (head n) = absurd (n refl)
+  listed f end l (tail n i) = absurd (n refl)
+  listed zero (one n k) l i = absurd (omega arith)
+  listed (suc f) (one {c = c} n k) l (head q) = subst (λ (l : List ℕ). c ∈ l) (sym (after f c n)) (first refl)
+  listed (suc f) {d = d} (one {c = c} n k) l (tail q i) = subst (λ (l : List ℕ). d ∈ l) (sym (after f c n)) (later (listed f k (omega arith) i))
 
   module _ {o s : ℕ} where
-    pub chain-above : {c d : ℕ} → Chain p m o s c → OnChain p m c d → (Deployed p m d × (o < d))
-    chain-above empty (head n) = absurd (n refl)
-    chain-above empty (tail n i) = absurd (n refl)
-    chain-above (link h l e g u r) (head n) = (h, l)
-    chain-above (link h l e g u r) (tail n i) = chain-above r i
-
     chain-falls : {c d : ℕ} → Chain p m o s c → OnChain p m c d → d ≤ c
     chain-falls empty (head n) = absurd (n refl)
     chain-falls empty (tail n i) = absurd (n refl)
@@ -68,9 +67,9 @@ module _ (p m : List ℕ) where
     pub members-once : (f : ℕ) {c : ℕ} (d : ℕ) → Chain p m o s c → count d (membersFrom p m f c) ≤ 1
     unfolding membersFrom total
     members-once zero d r = omega arith
-    members-once (suc f) d empty = rw (members-end (suc f) 0 refl) (omega arith)
+    members-once (suc f) d empty = rw (members-end p m 0 (suc f) (omega arith)) (omega arith)
     members-once (suc f) d (link {c = c} h l e g u r) =
-        rw (members-next f c (omega arith))
+        rw (after f c (omega arith))
         (same c d
         (λ q.
         let none : count d (membersFrom p m f (next m c)) ≡ 0 = count-none d _ .1 (λ i. let k = chain-falls r (members? f (next m c) i) in omega arith) in
@@ -79,14 +78,6 @@ module _ (p m : List ℕ) where
         (λ q. omega (arith, is-other q, members-once f d r)))
 
   -- ---- the test
-
-  -- how many reactors are not met yet
-  unfoldable pub left : List ℕ → ℕ
-  left seen = count 0 (take (reactors p) seen)
-
-  pub left-most : (seen : List ℕ) → left seen ≤ reactors p
-  unfolding left
-  left-most seen = omega (arith, count-most 0 (take (reactors p) seen), length-take (reactors p) seen)
 
   module _ (laid : Laid p m) (o s : ℕ) where
     pub never : (last : ℕ) (seen : List ℕ) (c : ℕ) → Accepts o s 0 last seen c → ⊥
@@ -150,22 +141,13 @@ module _ (p m : List ℕ) where
         (λ d i q. omega (arith, met seen w (k .deployed), subst (λ (r : ℕ). getD (set seen (reactor m c) 1) r 0 ≡ 0) q (new? f c _ (k .rest) i)))
         (chain? f c (set seen (reactor m c) 1) (next m c) (rw length-set w) (k .rest)))
 
-    pub left-falls : (seen : List ℕ) {c : ℕ} → length seen ≡ mostReactors → Deployed p m c → getD seen (reactor m c) 0 ≡ 0 →
-        left (set seen (reactor m c) 1) + 1 ≡ left seen
-    unfolding left
-    left-falls seen {c} w h e =
-        let r = reactor m c in
-        let low : r < reactors p = deployed-reactor p m laid h in
-        let inside : r < length (take (reactors p) seen) = rw length-take (omega (arith, laid .few)) in
-        rw (take-set-lt (reactors p) seen r 1 low) (count-set (take (reactors p) seen) r inside (getD-take (reactors p) seen r 0 low ∙ e))
-
-    -- no reactor is met twice, so that one step more than there are reactors left is enough
-    pub chain! : (f last : ℕ) (seen : List ℕ) {c : ℕ} → length seen ≡ mostReactors → left seen < f → c < last →
+    -- one step more than the chain has members is enough
+    chain! : (f last : ℕ) (seen : List ℕ) {c n : ℕ} → length seen ≡ mostReactors → Members m c n → n < f → c < last →
         ((d : ℕ) → OnChain p m c d → getD seen (reactor m d) 0 ≡ 0) → Chain p m o s c → Accepts o s f last seen c
-    chain! zero last seen w l g h r = absurd (omega arith)
-    chain! (suc f) last seen w l g h empty = ended f last seen
-    chain! (suc f) last seen w l g h (link {c = c} a b e q u r) =
-        let n : c ≢ 0 = omega arith in
+    chain! zero last seen w k l g h r = absurd (omega arith)
+    chain! (suc f) last seen w k l g h empty = ended f last seen
+    chain! (suc f) last seen w end l g h (link a b e q u r) = absurd (omega arith)
+    chain! (suc f) last seen w (one n k) l g h (link {c = c} a b e q u r) =
         linked f last seen c n .1
         (record {
           deployed = a;
@@ -174,17 +156,9 @@ module _ (p m : List ℕ) where
           shape = e;
           new = h c (head n);
           rest =
-              chain! f c (set seen (reactor m c) 1) (rw length-set w) (omega (arith, left-falls seen w a (h c (head n)))) q
+              chain! f c (set seen (reactor m c) 1) (rw length-set w) k (omega arith) q
               (λ d i. getD-set-other seen (reactor m c) (reactor m d) 1 0 (u d i) ∙ h d (tail n i)) r;
         })
-
-    -- one step fewer than the test took finds all members
-    listed : (f last : ℕ) (seen : List ℕ) {c d : ℕ} → Accepts o s (suc f) last seen c → OnChain p m c d → d ∈ membersFrom p m f c
-    listed zero last seen {c} e (head n) = absurd (never c _ (next m c) (linked zero last seen c n .0 e .rest))
-    listed zero last seen {c} e (tail n i) = absurd (never c _ (next m c) (linked zero last seen c n .0 e .rest))
-    listed (suc f) last seen {c} e (head n) = subst (λ (l : List ℕ). c ∈ l) (sym (members-next f c n)) (first refl)
-    listed (suc f) last seen {c} {d} e (tail n i) =
-        subst (λ (l : List ℕ). d ∈ l) (sym (members-next f c n)) (later (listed f c _ (linked (suc f) last seen c n .0 e .rest) i))
 
     -- ---- a branch point's chain, from its head
 
@@ -193,20 +167,15 @@ module _ (p m : List ℕ) where
 
     low : {c : ℕ} → 0 < used m → Chain p m o s c → c < used m
     low h empty = h
-    low h (link a b e q u r) = in-to p m a
+    low h (link a b e q u r) = in-to p a
 
-    pub accepted : (f : ℕ) {c : ℕ} → reactors p < f → 0 < used m → Chain p m o s c → Accepts o s f (used m) (replicate mostReactors 0) c
-    accepted f l h r =
-        chain! f (used m) (replicate mostReactors 0) none-met (omega (arith, left-most (replicate mostReactors 0))) (low h r)
-        (λ d i. zeros-at mostReactors (reactor m d)) r
+    accepted : {c : ℕ} → 0 < used m → Chain p m o s c → Accepts o s (reactors p + 1) (used m) (replicate mostReactors 0) c
+    accepted h r =
+        let k = few-members (laid .tiles) r in
+        chain! (reactors p + 1) (used m) (replicate mostReactors 0) none-met (k .1) (omega (arith, k .2)) (low h r) (λ d i. zeros-at mostReactors (reactor m d)) r
 
     pub chain : (c : ℕ) → 0 < used m → Accepts o s (reactors p + 1) (used m) (replicate mostReactors 0) c ↔ Chain p m o s c
-    chain c h = (λ e. chain? (reactors p + 1) (used m) (replicate mostReactors 0) c none-met e, λ r. accepted (reactors p + 1) (omega arith) h r)
+    chain c h = (λ e. chain? (reactors p + 1) (used m) (replicate mostReactors 0) c none-met e, λ r. accepted h r)
 
     pub members : {c : ℕ} (d : ℕ) → Chain p m o s c → (d ∈ membersFrom p m (reactors p) c) ↔ OnChain p m c d
-    members {c} d r = (
-      λ i. members? (reactors p) c i,
-      λ i.
-          listed (reactors p) (used m) (replicate mostReactors 0)
-          (accepted (suc (reactors p)) (omega arith) (omega (arith, in-to p m (chain-above r i .0))) r) i,
-    )
+    members {c} d r = (λ i. members? (reactors p) c i, λ i. let k = few-members (laid .tiles) r in listed (reactors p) (k .1) (k .2) i)

@@ -15,7 +15,8 @@ use Rattle.image.specs.Sound.{Deployed, Owner, NamedOnce, Depth, top, ch
 use Rattle.image.specs.Passes.{over, below, childrenOf, depthTable}
 use Rattle.image.proofs.Exact.Lists.{_∈_, same, Rising, rises, rising-from}
 use Rattle.image.proofs.Exact.Tables.{over-keeps, writes, writes-length, writes-keep, writes-set}
-use Rattle.image.proofs.Exact.Tiling.{Laid, starts, start-in, start-rising, deployed-small, in-from}
+use Rattle.image.proofs.Exact.Tiling.{Laid, starts, start-in, start-rising, deployed-small}
+use Rattle.image.proofs.Memory.Tiles.{in-ge}
 use Rattle.image.proofs.Exact.SlotTests.{SlotsRight}
 use Rattle.image.proofs.Exact.Names.{owner-above, owner-child, child-owner}
 
@@ -96,7 +97,7 @@ module _ (p m : List ℕ) (laid : Laid p m) (right : (o : ℕ) → Deployed p m 
   entry-main : entry mainAt ≡ 1
   unfolding entry
   entry-main =
-      levels-keep mainAt (starts p m) (begun mostWords) (λ o i k. let s = start-in p m laid o .0 i in omega (arith, in-from p m s, child-above s k))
+      levels-keep mainAt (starts p m) (begun mostWords) (λ o i k. let s = start-in p m laid o .0 i in omega (arith, in-ge p s, child-above s k))
       ∙ begun-main mostWords (omega arith)
 
   module _ (named : (d : ℕ) → Deployed p m d → d ≢ mainAt → NamedOnce p m d) where
@@ -104,7 +105,7 @@ module _ (p m : List ℕ) (laid : Laid p m) (right : (o : ℕ) → Deployed p m 
     unfolding entry
     entry-child {o} {j} {d} w =
         let k = owner-above p m laid right w in
-        let once = named d (k .0) (omega (arith, k .1, in-from p m (w .deployed))) in
+        let once = named d (k .0) (omega (arith, k .1, in-ge p (w .deployed))) in
         levels-set d o (begun mostWords) (start-rising p m laid) (λ a i. start-in p m laid a .0 i)
         (λ a i c.
         let s = start-in p m laid a .0 i in

@@ -4,7 +4,7 @@ use mathlib.Core.Path.{_≡_, refl, sym, subst}
 use mathlib.Core.Logic.{_↔_, ⊎-elim, _≢_}
 use mathlib.Core.List.{List, [], _∷_, _++_, List·Memᴰ, List·Memᴰ·head as first, List·Memᴰ·tail as later, List·Memᴰ·cases-cons as in-cons, List·Memᴰ·not-nil as in-nil, List·Memᴰ·append-cases as in-append, Memᴰ·append-left as in-left, Memᴰ·append-right as in-right}
 use native.Mathlib.Omega.{arith}
-use lib.ListN.{length, getD, set}
+use lib.ListN.{length}
 use Rattle.value.specs.Test.{pick, _=?_}
 use Rattle.value.proofs.Tests.{cases, eq!, eq×, eq?, eq×?, yes, no}
 
@@ -152,13 +152,6 @@ pub count-most : (d : ℕ) (l : List ℕ) → count d l ≤ length l
 unfolding total
 count-most d [] = omega arith
 count-most d (a ∷ l) = let q = count-most d l in same a d (λ e. omega (arith, is-same e)) (λ e. omega (arith, is-other e))
-
--- one zero fewer
-pub count-set : (l : List ℕ) (i : ℕ) → i < length l → getD l i 0 ≡ 0 → count 0 (set l i 1) + 1 ≡ count 0 l
-unfolding total
-count-set [] i h e = absurd (omega arith)
-count-set (x ∷ l) zero h e = omega (arith, is-other {d = 0} {a = 1} (omega arith), is-same e)
-count-set (x ∷ l) (suc i) h e = omega (arith, count-set l i (omega arith) e)
 
 -- ---- lists joined
 

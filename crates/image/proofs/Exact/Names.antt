@@ -18,7 +18,8 @@ use Rattle.image.specs.Passes.{over, startTable, membersFrom, namedBy, c
 use Rattle.image.proofs.Exact.Lists.{_∈_, same, from, from-in, from-rising, total, OneOf, total-one, is, is-same, is-other, count, count-none, count-in, count-most, flat, flat-in, count-flat}
 use Rattle.image.proofs.Exact.Tables.{over-flat, writes-here}
 use Rattle.image.proofs.Exact.Tiling.{Laid, starts, start-in, start-rising, start-entry, start-length, deployed-small}
-use Rattle.image.proofs.Exact.Chains.{chain-above, members, members-once}
+use Rattle.image.proofs.Exact.Chains.{members, members-once}
+use Rattle.image.proofs.Memory.Slots.{names-above}
 use Rattle.image.proofs.Exact.SlotTests.{Makes, a-deployment, a-point, neither, makes, made-mono, made-point, SlotsRight}
 
 module _ (p m : List ℕ) where
@@ -66,9 +67,8 @@ module _ (p m : List ℕ) where
   -- ---- the lists of children
 
   module _ (laid : Laid p m) {o : ℕ} (right : SlotsRight p m o) {j : ℕ} (l : j < declared p (reactor m o)) where
-    names-above : {d : ℕ} → Names p m o j d → (Deployed p m d × (o < d))
-    names-above (by-mono x e q) = let s = right .monos j x l e in (subst (Deployed p m) q (s .child), subst (λ (d : ℕ). o < d) q (s .above))
-    names-above (by-point x e i) = chain-above p m (right .points j x l e .chain) i
+    owned-above : {d : ℕ} → Names p m o j d → (Deployed p m d × (o < d))
+    owned-above k = names-above p (λ x e. right .monos j x l e) (λ x e. right .points j x l e) k
 
     names-owned : {d : ℕ} → Names p m o j d → d ∈ owned o j
     names-owned {d} (by-mono x e q) = subst (λ (k : List ℕ). d ∈ k) (sym (owned-mono o j e)) (first (sym q))
@@ -91,7 +91,7 @@ module _ (p m : List ℕ) where
   module _ (laid : Laid p m) (right : (o : ℕ) → Deployed p m o → SlotsRight p m o) where
     -- what is named is deployed above its owner
     pub owner-above : {o j d : ℕ} → Owner p m o j d → (Deployed p m d × (o < d))
-    owner-above {o} w = names-above laid (right o (w .deployed)) (w .low) (w .names)
+    owner-above {o} w = owned-above laid (right o (w .deployed)) (w .low) (w .names)
 
     owner-owned : {o j d : ℕ} → Owner p m o j d → d ∈ owned o j
     owner-owned {o} w = names-owned laid (right o (w .deployed)) (w .low) (w .names)

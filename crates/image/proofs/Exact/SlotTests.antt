@@ -14,7 +14,8 @@ use Rattle.program.specs.Location.{commandLoc, locations}
 use Rattle.image.specs.Memory.{used, reactor, wired, content, valueAt}
 use Rattle.image.specs.Sound.{Deployed, InD, MonoSlot, PointSlot}
 use Rattle.image.specs.Passes.{startTable, slotSound, ownSound}
-use Rattle.image.proofs.Exact.Tiling.{Laid, starts, start-test, in-to}
+use Rattle.image.proofs.Exact.Tiling.{Laid, starts, start-test}
+use Rattle.image.proofs.Memory.Tiles.{in-to}
 use Rattle.image.proofs.Exact.Zeros.{clear}
 use Rattle.image.proofs.Exact.Chains.{chain}
 
@@ -108,7 +109,7 @@ module _ (p m : List ℕ) where
     unfolding ownSound
     own-test {o} i =
         let r = reactor m o in
-        let some : 0 < used m = omega (arith, in-to p m i) in
+        let some : 0 < used m = omega (arith, in-to p i) in
         let w = sweeps? (λ j. slotSound p m (startTable (starts p m)) o (commandLoc p r j) (madeBy (cmdOf p r j))) 0 (declared p r) (declared p r) (omega arith) in (
           λ e.
               let a = both? e in

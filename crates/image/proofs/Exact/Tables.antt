@@ -10,6 +10,7 @@ use lib.Seq.{getD-set-same, getD-set-other}
 use Rattle.value.specs.Test.{_=?_}
 use Rattle.value.proofs.Tests.{eq!, eq?, guards}
 use Rattle.image.specs.Passes.{lowest, over}
+use Rattle.image.proofs.Lists.{over-append}
 use Rattle.image.proofs.Exact.Lists.{_∈_, same, each, flat}
 
 -- no place is found where the test passes at each; a place is not 0
@@ -40,16 +41,11 @@ module _ (f : List ℕ → ℕ → List ℕ) where
   pub over-length : (l t : List ℕ) → ((s : List ℕ) (a : ℕ) → length (f s a) ≡ length s) → length (over f t l) ≡ length t
   over-length l t h = over-keeps (λ (s : List ℕ). length s ≡ length t) l t (λ s a i e. h s a ∙ e) refl
 
-  pub over-append : (k l t : List ℕ) → over f t (k ++ l) ≡ over f (over f t k) l
-  unfolding over
-  over-append [] l t = refl
-  over-append (a ∷ k) l t = over-append k l (f t a)
-
   -- a change for each of a list, for each of a list
   pub over-flat : (g : ℕ → List ℕ) (l t : List ℕ) → over (λ s a. over f s (g a)) t l ≡ over f t (flat g l)
   unfolding over flat
   over-flat g [] t = refl
-  over-flat g (a ∷ l) t = over-flat g l (over f t (g a)) ∙ sym (over-append (g a) (flat g l) t)
+  over-flat g (a ∷ l) t = over-flat g l (over f t (g a)) ∙ over-append f t (g a) (flat g l)
 
 -- ---- one entry written for each of a list
 

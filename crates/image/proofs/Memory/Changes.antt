@@ -28,6 +28,12 @@ module _ (p : List ℕ) where
     pub marks : mark p m′ d l ≡ mark p m d l
     pub contents : content p m′ d l ≡ content p m d l
 
+  -- deployments stay, with their reactors, on their chains
+  pub record Stays (m m′ : List ℕ) : Type 0 where
+    pub kept : (d : ℕ) → Deployed p m d → Deployed p m′ d
+    pub reactors : (d : ℕ) → Deployed p m d → reactor m′ d ≡ reactor m d
+    pub nexts : (d : ℕ) → Deployed p m d → next m′ d ≡ next m d
+
   -- what stays: W the slots written, N the deployments made, L those wired
   pub record Change (W : ℕ → ℕ → Type 0) (N L : ℕ → Type 0) (m m′ : List ℕ) : Type 0 where
     pub good : Good m′
@@ -39,6 +45,9 @@ module _ (p : List ℕ) where
     pub nexts : (d : ℕ) → Deployed p m d → next m′ d ≡ next m d
     pub wireds : (d : ℕ) → Deployed p m d → (wired m′ d ≡ wired m d) ⊎ L d
     pub slots : (d l : ℕ) → Deployed p m d → l < locations p (reactor m d) → Same m m′ d l ⊎ W d l
+
+  pub stays : {W : ℕ → ℕ → Type 0} {N L : ℕ → Type 0} {m m′ : List ℕ} → Change W N L m m′ → Stays m m′
+  stays c = record { kept = c .kept; reactors = c .reactors; nexts = c .nexts }
 
   -- a slot that is not written
   pub unwritten : {W : ℕ → ℕ → Type 0} {N L : ℕ → Type 0} {m m′ : List ℕ} → Change W N L m m′ →

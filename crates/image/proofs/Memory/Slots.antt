@@ -11,7 +11,7 @@ use Rattle.program.specs.Location.{commandLoc}
 use Rattle.image.specs.Memory.{mainAt, reactor, next, content, valueAt}
 use Rattle.image.specs.Sound.{Deployed, OnChain, head, tail, Chain, empty, link, MonoSlot, PointSlot, Names, by-mono, by-point, Owner, Depth, top, child}
 use Rattle.image.proofs.Memory.Tiles.{in-ge}
-use Rattle.image.proofs.Memory.Changes.{Same, Change, value-content}
+use Rattle.image.proofs.Memory.Changes.{Same, Stays, value-content}
 
 module _ (p : List ℕ) where
   -- what each member of a chain is
@@ -47,17 +47,27 @@ module _ (p : List ℕ) where
   Right m o l (primitive x a b c) = ⊥
   Right m o l none = ⊥
 
+  -- slot l of o heads a chain of shape x, or is blank
+  abbrev pub Begun : List ℕ → ℕ → ℕ → ℕ → Type 0
+  Begun m o l x = PointSlot p m o l x ⊎ (valueAt p m o l ≡ blank)
+
   -- D slot j of o is made, or blank
   abbrev pub Made : List ℕ → ℕ → ℕ → Type 0
   Made m o j = Right m o (commandLoc p (reactor m o) j) (cmdOf p (reactor m o) j) ⊎ (valueAt p m o (commandLoc p (reactor m o) j) ≡ blank)
 
+  pub made-begun : (m : List ℕ) (o j : ℕ) → Made m o j → (x : ℕ) → cmdOf p (reactor m o) j ≡ makePoly x → Begun m o (commandLoc p (reactor m o) j) x
+  made-begun m o j (inl r) x q = inl (rw q at r)
+  made-begun m o j (inr e) x q = inr e
+
   module _ {m : List ℕ} {o j d : ℕ} where
     -- what a right slot names is a deployment above its owner
-    pub right-names : Right m o (commandLoc p (reactor m o) j) (cmdOf p (reactor m o) j) → Names p m o j d → Deployed p m d × (o < d)
-    right-names r (by-mono x q ct) =
-        let s : MonoSlot p m o (commandLoc p (reactor m o) j) x = rw q at r in (rw ct at (s .child), rw ct at (s .above))
-    right-names r (by-point x q oc) =
-        let s : PointSlot p m o (commandLoc p (reactor m o) j) x = rw q at r in let k = member (s .chain) oc in (k .deployed, k .above)
+    pub names-above : ((x : ℕ) → cmdOf p (reactor m o) j ≡ allocMono x → MonoSlot p m o (commandLoc p (reactor m o) j) x) →
+        ((x : ℕ) → cmdOf p (reactor m o) j ≡ makePoly x → PointSlot p m o (commandLoc p (reactor m o) j) x) → Names p m o j d → Deployed p m d × (o < d)
+    names-above f g (by-mono x q ct) = let s = f x q in (rw ct at (s .child), rw ct at (s .above))
+    names-above f g (by-point x q oc) = let k = member (g x q .chain) oc in (k .deployed, k .above)
+
+    right-names : Right m o (commandLoc p (reactor m o) j) (cmdOf p (reactor m o) j) → Names p m o j d → Deployed p m d × (o < d)
+    right-names r k = names-above (λ x q. rw q at r) (λ x q. rw q at r) k
 
     -- a blank slot names nothing
     pub blank-names : valueAt p m o (commandLoc p (reactor m o) j) ≡ blank → Names p m o j d → d ≡ 0
@@ -70,7 +80,7 @@ module _ (p : List ℕ) where
 
   -- ---- under a change
 
-  module _ {W : ℕ → ℕ → Type 0} {N L : ℕ → Type 0} {m m′ : List ℕ} (c : Change p W N L m m′) where
+  module _ {m m′ : List ℕ} (c : Stays p m m′) where
     pub on-back : {o s h h′ d : ℕ} → h′ ≡ h → Chain p m o s h → OnChain p m′ h′ d → OnChain p m h d
     on-back e empty (head n) = absurd (n e)
     on-back e empty (tail n i) = absurd (n e)
@@ -119,32 +129,30 @@ module _ (p : List ℕ) where
     right-kept o l (primitive x a b e) s k = k
     right-kept o l none s k = k
 
-    -- names stay, both ways, where the slot does
-    module _ {o : ℕ} (j : ℕ) {d : ℕ} (t : Deployed p m o) (s : Same p m m′ o (commandLoc p (reactor m o) j)) (k : Made m o j) where
+    -- names stay, both ways, where the slot does and a branch point's slot heads a chain or is blank
+    module _ {o : ℕ} (j : ℕ) {d : ℕ} (t : Deployed p m o) (s : Same p m m′ o (commandLoc p (reactor m o) j))
+        (k : (x : ℕ) → cmdOf p (reactor m o) j ≡ makePoly x → Begun m o (commandLoc p (reactor m o) j) x) where
       pub names-back : Names p m′ o j d → Names p m o j d
       names-back (by-mono x q ct) =
           let same = c .reactors o t in by-mono x (rw same at q) (sym (s .contents) ∙ (rw same at ct))
-      names-back (by-point x q oc) = by-point x q′ (by k)
+      names-back (by-point x q oc) = by-point x q′ (by (k x q′))
         where
-          same : reactor m′ o ≡ reactor m o
-          same = c .reactors o t
-
           q′ : cmdOf p (reactor m o) j ≡ makePoly x
-          q′ = rw same at q
+          q′ = rw (c .reactors o t) at q
 
           e : content p m′ o (commandLoc p (reactor m′ o) j) ≡ content p m o (commandLoc p (reactor m o) j)
-          e = rw same (s .contents)
+          e = rw (c .reactors o t) (s .contents)
 
-          by : Made m o j → OnChain p m (content p m o (commandLoc p (reactor m o) j)) d
-          by (inl r) = let z : PointSlot p m o (commandLoc p (reactor m o) j) x = rw q′ at r in on-back e (z .chain) oc
+          by : Begun m o (commandLoc p (reactor m o) j) x → OnChain p m (content p m o (commandLoc p (reactor m o) j)) d
+          by (inl z) = on-back e (z .chain) oc
           by (inr b) = absurd (no-chain (e ∙ value-content p m o (commandLoc p (reactor m o) j) b) oc)
 
       pub names-forth : Names p m o j d → Names p m′ o j d
       names-forth (by-mono x q ct) = let same = c .reactors o t in by-mono x (rw same q) (rw same (s .contents ∙ ct))
-      names-forth (by-point x q oc) = by-point x (rw (c .reactors o t) q) (rw (c .reactors o t, s .contents) (by k))
+      names-forth (by-point x q oc) = by-point x (rw (c .reactors o t) q) (rw (c .reactors o t, s .contents) (by (k x q)))
         where
-          by : Made m o j → OnChain p m′ (content p m o (commandLoc p (reactor m o) j)) d
-          by (inl r) = let z : PointSlot p m o (commandLoc p (reactor m o) j) x = rw q at r in on-forth (z .chain) oc
+          by : Begun m o (commandLoc p (reactor m o) j) x → OnChain p m′ (content p m o (commandLoc p (reactor m o) j)) d
+          by (inl z) = on-forth (z .chain) oc
           by (inr b) = absurd (no-chain (value-content p m o (commandLoc p (reactor m o) j) b) oc)
 
   -- ---- depths

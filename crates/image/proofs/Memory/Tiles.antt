@@ -5,8 +5,8 @@ use mathlib.Core.Path.{_≡_, refl}
 use mathlib.Core.List.{List}
 use mathlib.Core.Logic.{_⊎_, inl, inr, _≢_}
 use native.Mathlib.Omega.{arith}
-use Rattle.value.specs.Test.{_<?_, _=?_}
-use Rattle.value.proofs.Tests.{cases, lt?, lt×?, eq?, eq×?}
+use Rattle.value.specs.Test.{_=?_}
+use Rattle.value.proofs.Tests.{cases, eq?, eq×?, below}
 use Rattle.program.specs.Bytes.{reactors}
 use Rattle.program.specs.Location.{slotAt, sizeOf, locations}
 use Rattle.image.specs.Memory.{reactor, sizeAt}
@@ -15,9 +15,6 @@ use Rattle.image.specs.Sound.{Tiles, done, more, In, here, there}
 -- numbers are equal or not
 pub same? : (x y : ℕ) → (x ≡ y) ⊎ (x ≢ y)
 same? x y = cases (x =? y) (λ e. inl (eq? e)) (λ e. inr (eq×? e))
-
-pub below? : (x y : ℕ) → (x < y) ⊎ (y ≤ x)
-below? x y = cases (x <? y) (λ e. inl (lt? e)) (λ e. inr (lt×? e))
 
 module _ (p : List ℕ) where
   pub size-words : (r : ℕ) → sizeOf p r ≡ 3 + 2 * locations p r
@@ -41,6 +38,15 @@ module _ (p : List ℕ) where
     in-lt (here h) = h
     in-lt (there h t) = h
 
+    pub in-to : {u a d : ℕ} → In p m u a d → d < u
+    in-to (here h) = h
+    in-to (there h t) = in-to t
+
+    -- the first, or past its words
+    pub in-next : {u a d : ℕ} → In p m u a d → (d ≡ a) ⊎ (a + sizeAt p m a ≤ d)
+    in-next (here h) = inl refl
+    in-next (there h t) = inr (in-ge t)
+
     -- a deployment lies within the used words
     pub in-fits : {u a d : ℕ} → Tiles p m u a → In p m u a d → d + sizeAt p m d ≤ u
     in-fits (more l h t) (here q) = tiles-le t
@@ -63,7 +69,7 @@ module _ (p : List ℕ) where
 
     -- a word belongs to one deployment
     pub own-unique : {u o : ℕ} (a b w : ℕ) → In p m u o a → In p m u o b → a ≤ w → w < a + sizeAt p m a → b ≤ w → w < b + sizeAt p m b → a ≡ b
-    own-unique a b w i j h₁ h₂ h₃ h₄ = by (below? a b) (below? b a)
+    own-unique a b w i j h₁ h₂ h₃ h₄ = by (below a b) (below b a)
       where
         by : (a < b) ⊎ (b ≤ a) → (b < a) ⊎ (a ≤ b) → a ≡ b
         by (inl l) z = let q = apart a b i j l in omega arith

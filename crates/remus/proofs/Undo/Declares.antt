@@ -18,7 +18,7 @@ use Rattle.load.proofs.Exact.Deduced.{all-static}
 use Rattle.image.specs.Memory.{mostDepth, used, reactor, wired, store, place}
 use Rattle.image.specs.Sound.{Deployed, empty, PointSlot}
 use Rattle.image.proofs.Memory.Tiles.{in-reactor}
-use Rattle.image.proofs.Memory.Changes.{Change, This-slot, unwired, unwritten, follow, stored, placed}
+use Rattle.image.proofs.Memory.Changes.{Change, This-slot, unwired, unwritten, follow, stored, placed, stays}
 use Rattle.image.proofs.Memory.Slots.{point-kept}
 use Rattle.remus.specs.Exec.{Eff, move, call, fail, exec, allocated}
 use Rattle.remus.proofs.Walk.Locations.{own-inside, declared-in, own-one}
@@ -88,7 +88,7 @@ module _ (p : List ℕ) where
     point-stays : {W : ℕ → ℕ → Type 0} {N L : ℕ → Type 0} {m′ : List ℕ} → Change p W N L m m′ → ((j : ℕ) → j < i → W o (own p m o j) → ⊥)
         → (j x : ℕ) → j < i → cmd p m o j ≡ makePoly x → PointSlot p m′ o (own p m o j) x
     point-stays c off j x l e =
-        point-kept p c (unwritten p c o (own p m o j) (s .deployed) (own-inside p r j (omega (arith, k))) (off j l)) (s .points (omega arith) j x l e)
+        point-kept p (stays p c) (unwritten p c o (own p m o j) (s .deployed) (own-inside p r j (omega (arith, k))) (off j l)) (s .points (omega arith) j x l e)
 
     -- after command i
     opened-next : {m′ : List ℕ} → Deployed p m′ o → reactor m′ o ≡ r → wired m′ o ≡ 0

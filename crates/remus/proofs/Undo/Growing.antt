@@ -14,7 +14,7 @@ use Rattle.load.proofs.Exact.Static.{DeploymentBefore, mono, poly}
 use Rattle.image.specs.Memory.{used, reactor, wired, next, mark, content, valueAt, store, place}
 use Rattle.image.specs.Sound.{Deployed, OnChain, Chain, empty, link, PointSlot}
 use Rattle.image.proofs.Memory.Each.{in-below}
-use Rattle.image.proofs.Memory.Changes.{Change, This-slot, unwired, unwritten, same-value, follow, Stored, stored, Placed, placed}
+use Rattle.image.proofs.Memory.Changes.{Change, This-slot, unwired, unwritten, same-value, follow, Stored, stored, Placed, placed, stays}
 use Rattle.image.proofs.Memory.Slots.{member, on-back, chain-kept}
 use Rattle.remus.proofs.Walk.Locations.{D-inside, own-one}
 use Rattle.remus.proofs.Undo.Search.{Newer, as-was, one-more}
@@ -74,8 +74,8 @@ module _ (p : List ℕ) where
     chain-new : Chain p m₂ o x (used m)
     chain-new =
         link {c = used m} branch-new (in-below p i) (ap (shapeOf p) branch-reactor ∙ fits) (rw next-new (head-low (content p m o b) (here .chain)))
-        (λ d k. let z = on-back p both next-new (here .chain) k in rw (branch-reactor, both .reactors d (member p (here .chain) z .deployed)) (missing d z))
-        (rw next-new (chain-kept p both (here .chain)))
+        (λ d k. let z = on-back p (stays p both) next-new (here .chain) k in rw (branch-reactor, both .reactors d (member p (here .chain) z .deployed)) (missing d z))
+        (rw next-new (chain-kept p (stays p both) (here .chain)))
 
     point-new : PointSlot p m₂ o b x
     point-new = record { marked = c₂ .mark-here; chain = rw (c₂ .content-here) chain-new }

@@ -11,7 +11,7 @@ use Rattle.program.specs.Location.{locations}
 use Rattle.program.specs.Kind.{kindOf, OfKind}
 use Rattle.image.specs.Memory.{used, reactor, wired, mark, content, valueAt}
 use Rattle.image.specs.Sound.{Deployed, PointSlot}
-use Rattle.image.proofs.Memory.Changes.{Same, Change, same-value, value-mark}
+use Rattle.image.proofs.Memory.Changes.{Same, Change, same-value, value-mark, stays}
 use Rattle.image.proofs.Memory.Slots.{point-kept}
 use Rattle.remus.proofs.Walk.Locations.{D-inside}
 use Rattle.remus.proofs.Walk.Operands.{operand-inside}
@@ -50,7 +50,7 @@ module _ (p : List ℕ) where
             e′ = rw r at e
 
             side : Same p m m′ o (own p m o j) ⊎ W o (own p m o j) → (wired m′ o ≡ wired m o) ⊎ L o → PointSlot p m′ o (own p m o j) x
-            side (inl z) (inl y) = point-kept p c z (f .points o j x t (rw y at w) h′ e′)
+            side (inl z) (inl y) = point-kept p (stays p c) z (f .points o j x t (rw y at w) h′ e′)
             side (inl z) (inr y) = a .points o j x t h′ e′ (inr y) w
             side (inr z) y = a .points o j x t h′ e′ (inl z) w
 

@@ -13,7 +13,7 @@ use Rattle.program.specs.Location.{locations, sizeOf}
 use Rattle.program.specs.Kind.{kindOf, OfKind}
 use Rattle.image.specs.Memory.{used, reactor, wired, mark, content, valueAt, withWired, store, place}
 use Rattle.image.specs.Sound.{Deployed, PointSlot}
-use Rattle.image.proofs.Memory.Changes.{This-slot, unwired, unwritten, Stored, stored, Placed, placed, Wired, wiring, value-of}
+use Rattle.image.proofs.Memory.Changes.{This-slot, unwired, unwritten, Stored, stored, Placed, placed, Wired, wiring, value-of, stays}
 use Rattle.image.proofs.Memory.Slots.{point-kept}
 use Rattle.remus.proofs.Walk.Locations.{D-inside}
 use Rattle.remus.proofs.Walk.Story.{own, cmd}
@@ -88,7 +88,7 @@ module _ (p : List ℕ) where
     chains-there a j x k e q =
         subst (λ (a : ℕ). j < declared p (reactor m a) → cmd p m a j ≡ makePoly x → PointSlot p (withWired m o 1) a (own p m a j) x) (sym q)
         (λ k e.
-        point-kept p (w .change)
+        point-kept p (stays p (w .change))
         (unwritten p (w .change) o (own p m o j) i (D-inside p (reactor m o) j k) (λ z. z)) (chains j x k e))
         k e
 

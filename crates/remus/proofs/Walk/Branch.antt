@@ -15,7 +15,7 @@ use Rattle.load.proofs.Exact.Places.{cmd-there}
 use Rattle.image.specs.Memory.{mostDepth, used, reactor, wired, next, content, valueAt, store, place}
 use Rattle.image.specs.Sound.{Deployed, OnChain, head, tail, Chain, empty, link, PointSlot, Names, by-mono, by-point}
 use Rattle.image.proofs.Memory.Tiles.{same?}
-use Rattle.image.proofs.Memory.Changes.{Same, Change, Nothing, This-slot, Stored, stored, Placed, placed, unwritten, unwired, follow, change-as, same-value}
+use Rattle.image.proofs.Memory.Changes.{Same, Change, Nothing, This-slot, Stored, stored, Placed, placed, unwritten, unwired, follow, change-as, same-value, stays}
 use Rattle.image.proofs.Memory.Slots.{member, on-back, on-forth, chain-kept}
 use Rattle.remus.specs.Walk.{Note, location, run, Frame}
 use Rattle.remus.specs.Point.{_∈_, first, later}
@@ -167,8 +167,8 @@ module _ (p : List ℕ) (u : Facts p) {w m : List ℕ} {ns : List Note} {o i : �
     chain : Chain p m₃ o shape (used m)
     chain =
         link {c = used m} u₃ above (rw new-reactor its) (rw new-next (old-low (slot .chain)))
-        (λ d z. let j = on-back p ch new-next (slot .chain) z in rw (new-reactor, ch .reactors d (member p (slot .chain) j .deployed)) (missing d j))
-        (rw new-next (chain-kept p ch (slot .chain)))
+        (λ d z. let j = on-back p (stays p ch) new-next (slot .chain) z in rw (new-reactor, ch .reactors d (member p (slot .chain) j .deployed)) (missing d j))
+        (rw new-next (chain-kept p (stays p ch) (slot .chain)))
 
     right : PointSlot p m₃ o b shape
     right = record { marked = point-same .marks ∙ s₁ .mark-here; chain = rw headed chain }
@@ -193,7 +193,7 @@ module _ (p : List ℕ) (u : Facts p) {w m : List ℕ} {ns : List Note} {o i : �
 
         from : (d : ℕ) {c : ℕ} → c ≡ used m → OnChain p m₃ c d → Names p m o (pt .0) d ⊎ Newest d
         from d z (head y) = inr z
-        from d z (tail y k) = let f = pt .3 in inl (by-point shape (pt .4) (rw (← f) (on-back p ch (rw z new-next) (slot .chain) k)))
+        from d z (tail y k) = let f = pt .3 in inl (by-point shape (pt .4) (rw (← f) (on-back p (stays p ch) (rw z new-next) (slot .chain) k)))
 
         back : (d : ℕ) → Names p m₃ o (pt .0) d → Names p m o (pt .0) d ⊎ Newest d
         back d (by-mono x z ct) = let z′ : cmd p m o (pt .0) ≡ allocMono x = rw r₃ at z in absurd (not-mono x shape (sym z′ ∙ pt .4))
@@ -204,7 +204,7 @@ module _ (p : List ℕ) (u : Facts p) {w m : List ℕ} {ns : List Note} {o i : �
         forth d (by-point x z oc) =
             let f = pt .3 in
             let oc′ : OnChain p m old d = rw (← f) at oc in
-            by-point x (rw r₃ z) (rw here-b (tail {c = used m} {d = d} not-main (rw new-next (on-forth p ch (slot .chain) oc′))))
+            by-point x (rw r₃ z) (rw here-b (tail {c = used m} {d = d} not-main (rw new-next (on-forth p (stays p ch) (slot .chain) oc′))))
 
     D-slot : (d j : ℕ) → Deployed p m d → j < declared p (reactor m d) → (d ≡ o) ⊎ (d ≢ o) → (j ≡ pt .0) ⊎ (j ≢ pt .0) →
         Same p m m₃ d (own p m d j) ⊎ (Renewed p m m₃ Newest B′ d j × (d ≡ o) × (j ≡ pt .0))

@@ -16,7 +16,7 @@ use Rattle.program.specs.Location.{sizeOf}
 use Rattle.program.specs.Kind.{OfKind}
 use Rattle.image.specs.Memory.{mostDepth, used, reactor, wired, mark, content, valueAt, store}
 use Rattle.image.specs.Sound.{Deployed, OnChain}
-use Rattle.image.proofs.Memory.Changes.{Same, Stored, stored, unwritten, value-of}
+use Rattle.image.proofs.Memory.Changes.{Same, Stored, stored, unwritten, value-of, stays}
 use Rattle.image.proofs.Memory.Slots.{on-forth}
 use Rattle.remus.specs.Exec.{move, branched, chosen, operated}
 use Rattle.remus.specs.Walk.{Note, location, Frame}
@@ -76,7 +76,7 @@ module _ (p : List ℕ) (u : Facts p) {w m : List ℕ} {ns : List Note} {o i : �
       chosen-now a₂ b₂ z (inl y) = inl (value-of p m′ o (own p m o i) k c (s .mark-here) (s .content-here) ∙ y)
       chosen-now a₂ b₂ z (inr y) =
           let b₃ : b₂ ≡ b = cc in
-          inr (s .mark-here ∙ y .0, rw (b₃, s .content-here, same-b .contents) (on-forth p (s .change) (slot p u v h then a b e .chain) (y .1)))
+          inr (s .mark-here ∙ y .0, rw (b₃, s .content-here, same-b .contents) (on-forth p (stays p (s .change)) (slot p u v h then a b e .chain) (y .1)))
 
   -- ---- AllocPoly
 

@@ -13,8 +13,8 @@ use Rattle.load.proofs.Exact.Static.{DeploymentBefore, mono, poly, Static, Sing
 use Rattle.image.specs.Memory.{mostDepth, mainAt, reactor, wired, content, valueAt}
 use Rattle.image.specs.Sound.{Deployed, OnChain, head, tail, Names, by-mono, by-point, Owner, Depth, child}
 use Rattle.image.proofs.Memory.Tiles.{in-ge, in-reactor}
-use Rattle.image.proofs.Memory.Changes.{Same, Change, unwritten, same-value}
-use Rattle.image.proofs.Memory.Slots.{Right, Made, blank-names, made-names, mono-kept, right-kept, names-back, names-forth, depth-forth}
+use Rattle.image.proofs.Memory.Changes.{Same, Change, unwritten, same-value, stays}
+use Rattle.image.proofs.Memory.Slots.{Right, Made, blank-names, made-names, mono-kept, right-kept, names-back, names-forth, depth-forth, made-begun}
 use Rattle.remus.specs.Walk.{Note, location}
 use Rattle.remus.specs.Point.{_∈_}
 use Rattle.remus.proofs.Walk.Story.{Valued, Deploys, own, cmd, Chosen, Noted, Done, Cause, Supplying, Reacting, Making, Story}
@@ -76,11 +76,11 @@ module _ (p : List ℕ) where
       right-now o j t h k = by (c .in-D o j t h)
         where
           by : Same p m m′ o (own p m o j) ⊎ (Renewed p m m′ N B′ o j × (o ≡ o₀) × (j ≡ j₀)) → Right p m′ o (own p m o j) (cmd p m o j)
-          by (inl z) = right-kept p ch o (own p m o j) (cmd p m o j) z k
+          by (inl z) = right-kept p (stays p ch) o (own p m o j) (cmd p m o j) z k
           by (inr z) = z .0 .right
 
       done-kept : (o j : ℕ) → B o j → (x : Cmd) → cmd p m o j ≡ x → Done p m ns E o (own p m o j) x → Done p m′ ns′ E′ o (own p m o j) x
-      done-kept o j k (allocMono x) e d = mono-kept p ch (slot-kept o j k (λ y. rw e (not-mono x y))) d
+      done-kept o j k (allocMono x) e d = mono-kept p (stays p ch) (slot-kept o j k (λ y. rw e (not-mono x y))) d
       done-kept o j k (makePoly x) e d =
           let w = s .scope o j k in
           let r : Right p m′ o (own p m o j) (cmd p m o j) = right-now o j (w .0) (static o (w .0) .points j x (w .1) e .0) (rw e d) in
@@ -113,7 +113,7 @@ module _ (p : List ℕ) where
               named (inr n) z = inr (n, z .0, z .1)
 
               side : Same p m m′ o (own p m o j) ⊎ (Renewed p m m′ N B′ o j × (o ≡ o₀) × (j ≡ j₀)) → Owner p m o j d ⊎ (N d × (o ≡ o₀) × (j ≡ j₀))
-              side (inl z) = inl (record { deployed = t; low = low; names = names-back p ch j t z (s .made o j t low) (w .names) })
+              side (inl z) = inl (record { deployed = t; low = low; names = names-back p (stays p ch) j t z (made-begun p m o j (s .made o j t low)) (w .names) })
               side (inr z) = named (z .0 .back d t′ (w .names)) (z .1, z .2)
 
       pub owner-forth : (o j d : ℕ) → d ≢ 0 → Owner p m o j d → Owner p m′ o j d
@@ -123,7 +123,7 @@ module _ (p : List ℕ) where
           t = w .deployed
 
           by : Same p m m′ o (own p m o j) ⊎ (Renewed p m m′ N B′ o j × (o ≡ o₀) × (j ≡ j₀)) → Names p m′ o j d
-          by (inl z) = names-forth p ch j t z (s .made o j t (w .low)) (w .names)
+          by (inl z) = names-forth p (stays p ch) j t z (made-begun p m o j (s .made o j t (w .low))) (w .names)
           by (inr z) = z .0 .forth d n (w .names)
 
       one-owner′ : (o j o′ j′ d : ℕ) → Deployed p m′ d → Owner p m′ o j d → Owner p m′ o′ j′ d → (o ≡ o′) × (j ≡ j′)
@@ -162,7 +162,7 @@ module _ (p : List ℕ) where
               side : Same p m m′ o (own p m o j) ⊎ (Renewed p m m′ N B′ o j × (o ≡ o₀) × (j ≡ j₀)) → Made p m o j →
                   Right p m′ o (own p m o j) (cmd p m o j) ⊎ (valueAt p m′ o (own p m o j) ≡ blank)
               side (inr z) k = inl (z .0 .right)
-              side (inl z) (inl k) = inl (right-kept p ch o (own p m o j) (cmd p m o j) z k)
+              side (inl z) (inl k) = inl (right-kept p (stays p ch) o (own p m o j) (cmd p m o j) z k)
               side (inl z) (inr k) = inr (same-value p o (own p m o j) z ∙ k)
 
       slots′ : (o j : ℕ) → Deployed p m′ o → wired m′ o ≡ 1 → j < declared p (reactor m′ o) → Right p m′ o (own p m′ o j) (cmd p m′ o j)
