@@ -74,9 +74,6 @@ module _ (t : ℕ) (b : t < 256) where
   pub bit-room : (x : ℕ) → x < 8 → (t / 2 ^ x % 2 =? 1) ≡ false → t + 2 ^ x < 256
   bit-room x h e = room x h (even _ (eq×? e))
 
-pub bit-fits : (t x : ℕ) → t + 2 ^ x < 256 → byteBit x ≡ 2 ^ x
-bit-fits t x h = ⊎-elim (λ (l : x < 8). sym (bit-low x l)) (λ (g : 8 ≤ x). absurd (omega (arith, high x g))) (below x 8)
-
 pub weights : (x : ℕ) → x < 8 → getD (1 ∷ 2 ∷ 4 ∷ 8 ∷ 16 ∷ 32 ∷ 64 ∷ 128 ∷ []) x 0 ≡ byteBit x
 weights x h = low-cases (λ (x : ℕ). getD (1 ∷ 2 ∷ 4 ∷ 8 ∷ 16 ∷ 32 ∷ 64 ∷ 128 ∷ []) x 0 ≡ 2 ^ x) refl refl refl refl refl refl refl refl x h ∙ bit-low x h
 

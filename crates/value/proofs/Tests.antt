@@ -5,7 +5,7 @@
 use Prim.Native.Nat.{ℕ, suc, _≤_, _<_}
 use mathlib.Core.Path.{_≡_, refl, sym, ap, _∙_}
 use mathlib.Core.Bool.{Bool, true, false, not, _&&_, _||_, false≢true, true≢false}
-use mathlib.Core.Logic.{_↔_, _⊎_, inl, inr}
+use mathlib.Core.Logic.{_↔_, _⊎_, inl, inr, _≢_}
 use native.Mathlib.Omega.{arith}
 use lib.Dec.{ltb, leb, eqb}
 use borrow.Author.Tests.{le-leb, lt-leb, lt-ltb, le-ltb, eq-eqb, ne-eqb, leb-true, leb-false, ltb-true, ltb-false, eqb-true, eqb-false}
@@ -84,6 +84,9 @@ module _ {a b : ℕ} where
 
 pub below : (a b : ℕ) → (a < b) ⊎ (b ≤ a)
 below a b = cases (a <? b) (λ e. inl (lt? e)) (λ e. inr (lt×? e))
+
+pub same? : (a b : ℕ) → (a ≡ b) ⊎ (a ≢ b)
+same? a b = cases (a =? b) (λ e. inl (eq? e)) (λ e. inr (eq×? e))
 
 -- ---- and, or
 

@@ -6,7 +6,7 @@ use mathlib.Core.List.{List, [], _∷_, _++_, List·Memᴰ, List·Memᴰ·head a
 use native.Mathlib.Omega.{arith}
 use lib.ListN.{length}
 use Rattle.value.specs.Test.{pick, _=?_}
-use Rattle.value.proofs.Tests.{cases, eq!, eq×, eq?, eq×?, yes, no}
+use Rattle.value.proofs.Tests.{eq!, eq×, yes, no, same?}
 
 infix 40 _∈_
 abbrev pub _∈_ : ℕ → List ℕ → Type 0
@@ -14,7 +14,7 @@ a ∈ l = List·Memᴰ a l
 
 -- by cases on whether two numbers are the same
 pub same : {C : Type 0} (a b : ℕ) → (a ≡ b → C) → (a ≢ b → C) → C
-same a b f g = cases (a =? b) (λ e. f (eq? e)) (λ e. g (eq×? e))
+same a b f g = ⊎-elim f g (same? a b)
 
 -- to say a thing of each of a list is to say it of the first and of the others
 pub each : (P : ℕ → Type 0) (b : ℕ) (l : List ℕ) → ((a : ℕ) → a ∈ (b ∷ l) → P a) ↔ (P b × ((a : ℕ) → a ∈ l → P a))

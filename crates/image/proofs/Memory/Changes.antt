@@ -8,13 +8,14 @@ use mathlib.Core.Logic.{_⊎_, inl, inr, _≢_, ⊎-map}
 use native.Mathlib.Omega.{arith}
 use lib.ListN.{length, set, length-set}
 use lib.Seq.{getD-set-same, getD-set-other}
+use Rattle.value.proofs.Tests.{same?}
 use Rattle.value.specs.Value.{value, blank}
 use Rattle.value.specs.declared.Value.{Value}
 use Rattle.program.specs.Bytes.{reactors}
 use Rattle.program.specs.Location.{slotAt, sizeOf, locations}
 use Rattle.image.specs.Memory.{mainAt, word, used, turns, reactor, wired, next, withUsed, withWired, slot, mark, content, valueAt, store, place, sizeAt}
 use Rattle.image.specs.Sound.{Tiles, Deployed}
-use Rattle.image.proofs.Memory.Tiles.{same?, size-words, size-at, tiles-le, in-ge, in-fits, own-unique, tiles-kept, in-kept, in-back, tiles-grow, in-grow, in-new, in-old}
+use Rattle.image.proofs.Memory.Tiles.{size-words, size-at, tiles-le, in-ge, in-fits, own-unique, tiles-kept, in-kept, in-back, tiles-grow, in-grow, in-new, in-old}
 
 module _ (p : List ℕ) where
   -- deployments tile the used words, and the others are zero

@@ -5,10 +5,11 @@ use mathlib.Core.List.{List, [], _∷_}
 use mathlib.Core.Logic.{_⊎_, inl, inr, _≢_}
 use native.Mathlib.Omega.{arith}
 use lib.ListN.{length}
+use Rattle.value.proofs.Tests.{same?}
 use Rattle.program.specs.Bytes.{reactors}
 use Rattle.image.specs.Memory.{used, mainAt, reactor, next}
 use Rattle.image.specs.Sound.{Tiles, OnChain, head, tail, Chain, empty, link}
-use Rattle.image.proofs.Memory.Tiles.{same?, in-reactor}
+use Rattle.image.proofs.Memory.Tiles.{in-reactor}
 
 -- x is one of the numbers
 data Has (x : ℕ) : List ℕ → Type 0 where

@@ -5,16 +5,11 @@ use mathlib.Core.Path.{_≡_, refl}
 use mathlib.Core.List.{List}
 use mathlib.Core.Logic.{_⊎_, inl, inr, _≢_}
 use native.Mathlib.Omega.{arith}
-use Rattle.value.specs.Test.{_=?_}
-use Rattle.value.proofs.Tests.{cases, eq?, eq×?, below}
+use Rattle.value.proofs.Tests.{below}
 use Rattle.program.specs.Bytes.{reactors}
 use Rattle.program.specs.Location.{slotAt, sizeOf, locations}
 use Rattle.image.specs.Memory.{reactor, sizeAt}
 use Rattle.image.specs.Sound.{Tiles, done, more, In, here, there}
-
--- numbers are equal or not
-pub same? : (x y : ℕ) → (x ≡ y) ⊎ (x ≢ y)
-same? x y = cases (x =? y) (λ e. inl (eq? e)) (λ e. inr (eq×? e))
 
 module _ (p : List ℕ) where
   pub size-words : (r : ℕ) → sizeOf p r ≡ 3 + 2 * locations p r

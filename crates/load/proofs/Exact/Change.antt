@@ -6,7 +6,7 @@ use mathlib.Core.List.{List}
 use native.Mathlib.Omega.{arith}
 use native.Mathlib.Numerals.{add-one}
 use Rattle.value.specs.Test.{_=?_}
-use Rattle.value.proofs.Tests.{cases, eq?, eq×?}
+use Rattle.value.proofs.Tests.{cases, eq?, eq×?, same?}
 use Rattle.program.specs.Bytes.{commandsIn}
 use Rattle.program.specs.Command.{Cmd, cmdOf, allocMono, makePoly, constant, global, supply, react, consume, sink, allocPoly, primitive, none}
 use Rattle.program.specs.Location.{commandLoc, sinkLoc}
@@ -35,9 +35,6 @@ touches? p r l c =
       | primitive x a b d ↦ inr (λ q. q)
       | none ↦ inr (λ q. q)
     ]
-  where
-    same? : (a b : ℕ) → (a ≡ b) ⊎ (a ≡ b → ⊥)
-    same? a b = cases (a =? b) (λ y. inl (eq? y)) (λ y. inr (eq×? y))
 
 -- from the state s before command k to the state u after it, which is c
 pub record Change (p : List ℕ) (r k : ℕ) (s : Scan) (c : Cmd) (u : Scan) : Type 0 where

@@ -4,6 +4,7 @@ use mathlib.Core.Path.{_≡_, refl, sym, _∙_}
 use mathlib.Core.List.{List, [], _∷_}
 use mathlib.Core.Logic.{_⊎_, inl, inr, _≢_}
 use native.Mathlib.Omega.{arith}
+use Rattle.value.proofs.Tests.{same?}
 use Rattle.value.specs.Value.{blank}
 use Rattle.program.specs.Bytes.{mainOf, declared, commandsIn}
 use Rattle.program.specs.Command.{Cmd, sequenceOf, D, allocMono, makePoly, constant, global, supply, react, consume, sink, allocPoly, primitive, none}
@@ -11,7 +12,7 @@ use Rattle.program.specs.Location.{sources, commandLoc}
 use Rattle.load.proofs.Exact.Static.{Static}
 use Rattle.image.specs.Memory.{mostDepth, mainAt, used, turns, reactor, wired, valueAt, sizeAt}
 use Rattle.image.specs.Sound.{In, here, there, Deployed, InD, Owner, Depth, top, Grown, Sound}
-use Rattle.image.proofs.Memory.Tiles.{same?, in-lt, in-ge, in-reactor}
+use Rattle.image.proofs.Memory.Tiles.{in-lt, in-ge, in-reactor}
 use Rattle.image.proofs.Memory.Changes.{Good}
 use Rattle.image.proofs.Memory.Slots.{Right, Made, made-names}
 use Rattle.remus.specs.Exec.{opening}

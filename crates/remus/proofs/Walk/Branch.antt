@@ -5,6 +5,7 @@ use mathlib.Core.List.{List, _∷_}
 use mathlib.Core.Logic.{_⊎_, inl, inr, _≢_}
 use native.Mathlib.Omega.{arith}
 use lib.ListN.{length}
+use Rattle.value.proofs.Tests.{same?}
 use Rattle.value.specs.Value.{deploymentMark, pointMark, reactorKind, value, blank}
 use Rattle.program.specs.Bytes.{reactors, shapeOf, declared, commandsIn}
 use Rattle.program.specs.Command.{sequenceOf, allocMono, makePoly, allocPoly}
@@ -14,7 +15,6 @@ use Rattle.load.proofs.Exact.Static.{PointBefore}
 use Rattle.load.proofs.Exact.Places.{cmd-there}
 use Rattle.image.specs.Memory.{mostDepth, used, reactor, wired, next, content, valueAt, store, place}
 use Rattle.image.specs.Sound.{Deployed, OnChain, head, tail, Chain, empty, link, PointSlot, Names, by-mono, by-point}
-use Rattle.image.proofs.Memory.Tiles.{same?}
 use Rattle.image.proofs.Memory.Changes.{Same, Change, Nothing, This-slot, Stored, stored, Placed, placed, unwritten, unwired, follow, change-as, same-value, stays}
 use Rattle.image.proofs.Memory.Slots.{member, on-back, on-forth, chain-kept}
 use Rattle.remus.specs.Walk.{Note, location, run, Frame}

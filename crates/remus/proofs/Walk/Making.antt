@@ -8,14 +8,13 @@ use native.Mathlib.Omega.{arith}
 use lib.ListN.{length}
 use Rattle.value.specs.Test.{_<?_, _≤?_}
 use Rattle.value.specs.Value.{deploymentMark, pointMark, value, blank}
-use Rattle.value.proofs.Tests.{lt?, lt×?, le?, le×?}
+use Rattle.value.proofs.Tests.{lt?, lt×?, le?, le×?, same?}
 use Rattle.program.specs.Bytes.{reactors, declared, commandsIn}
 use Rattle.program.specs.Command.{allocMono, makePoly, allocPoly}
 use Rattle.program.specs.Location.{sizeOf, locations}
 use Rattle.load.proofs.Exact.Places.{cmd-there}
 use Rattle.image.specs.Memory.{mostDepth, used, reactor, wired, valueAt, store, place}
 use Rattle.image.specs.Sound.{Deployed, empty, MonoSlot, Names, by-mono, by-point, Depth}
-use Rattle.image.proofs.Memory.Tiles.{same?}
 use Rattle.image.proofs.Memory.Changes.{Same, Change, Nothing, This-slot, Stored, stored, Placed, placed, unwritten, unwired, follow, change-as, same-value}
 use Rattle.image.proofs.Memory.Slots.{Right, no-chain, blank-names}
 use Rattle.remus.specs.Exec.{allocated, exec}

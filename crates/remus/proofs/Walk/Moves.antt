@@ -8,13 +8,13 @@ use native.Mathlib.Omega.{arith}
 use lib.ListN.{length}
 use Rattle.value.specs.Test.{_=?_}
 use Rattle.value.specs.Value.{deploymentMark}
-use Rattle.value.proofs.Tests.{cases, eq!, eq×, eq?, eq×?, yes, no}
+use Rattle.value.proofs.Tests.{cases, eq!, eq×, eq?, eq×?, yes, no, same?}
 use Rattle.program.specs.Bytes.{reactors, declared, commandsIn}
 use Rattle.program.specs.Command.{react}
 use Rattle.program.specs.Location.{sources}
 use Rattle.image.specs.Memory.{mainAt, used, reactor, wired, mark, content, withWired}
 use Rattle.image.specs.Sound.{Deployed, Owner, Depth, child}
-use Rattle.image.proofs.Memory.Tiles.{in-reactor, same?}
+use Rattle.image.proofs.Memory.Tiles.{in-reactor}
 use Rattle.image.proofs.Memory.Changes.{Wired, Change, This-slot, No-slot, Nothing, unwired, unchanged, wiring}
 use Rattle.image.proofs.Memory.Slots.{Right, depth-forth}
 use Rattle.remus.specs.Exec.{opening, ready}

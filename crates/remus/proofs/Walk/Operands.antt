@@ -7,7 +7,7 @@ use mathlib.Core.List.{List, _∷_}
 use mathlib.Core.Logic.{_⊎_, inl, inr}
 use native.Mathlib.Omega.{arith}
 use Rattle.value.specs.Value.{deploymentMark, reactorKind}
-use Rattle.value.proofs.Tests.{no, left×, right×, le×, lt×}
+use Rattle.value.proofs.Tests.{no, left×, right×, le×, lt×, below}
 use Rattle.program.specs.Bytes.{shapeOf, sourcesIn, declared, commandsIn}
 use Rattle.program.specs.Command.{Cmd, cmdOf, sequenceOf, givesValue, allocMono, makePoly, constant, global, supply, react, consume, sink, allocPoly, primitive, none}
 use Rattle.program.specs.Location.{sources, sinks, sinkLoc, locations, cmdAt, shapeMade, shapeThere}
@@ -17,7 +17,7 @@ use Rattle.load.proofs.Exact.Places.{cmd-there}
 use Rattle.load.proofs.Exact.KindLaws.{shape-here}
 use Rattle.image.specs.Memory.{mainAt, reactor, mark, content, valueAt}
 use Rattle.image.specs.Sound.{Deployed, MonoSlot, PointSlot, by-mono, by-point, Owner}
-use Rattle.image.proofs.Memory.Tiles.{below?, in-ge, in-reactor}
+use Rattle.image.proofs.Memory.Tiles.{in-ge, in-reactor}
 use Rattle.image.proofs.Memory.Changes.{value-mark}
 use Rattle.image.proofs.Memory.Slots.{member}
 use Rattle.remus.specs.Walk.{Note, location, run, Frame}
@@ -279,7 +279,7 @@ module _ (p : List ℕ) where
     -- there is a command
     pub some-command : cmd p m o i ≡ none → ⊥
     unfolding sequenceOf
-    some-command e = by (below? i (declared p (reactor m o)))
+    some-command e = by (below i (declared p (reactor m o)))
       where
         by : (i < declared p (reactor m o)) ⊎ (declared p (reactor m o) ≤ i) → ⊥
         by (inl l) = let z = static-here .in-D i l in let k : _≡_ {A = ℕ} 0 1 = cc in omega arith

@@ -4,6 +4,7 @@ use mathlib.Core.Path.{_≡_, refl, sym}
 use mathlib.Core.List.{List, _∷_}
 use mathlib.Core.Logic.{_⊎_, inl, inr}
 use native.Mathlib.Omega.{arith}
+use Rattle.value.proofs.Tests.{below}
 use Rattle.value.specs.declared.Value.{Value}
 use Rattle.program.specs.Bytes.{declared, commandsIn}
 use Rattle.program.specs.Command.{Cmd, sequenceOf, D, R, sink, allocPoly}
@@ -12,7 +13,7 @@ use Rattle.program.specs.Kind.{kindOf, OfKind}
 use Rattle.load.proofs.Exact.Places.{cmd-there}
 use Rattle.image.specs.Memory.{reactor, wired, valueAt, store}
 use Rattle.image.specs.Sound.{Deployed}
-use Rattle.image.proofs.Memory.Tiles.{below?, in-reactor}
+use Rattle.image.proofs.Memory.Tiles.{in-reactor}
 use Rattle.image.proofs.Memory.Changes.{Change, Stored, stored, This-slot, Nothing, unwritten, value-of}
 use Rattle.remus.specs.Walk.{Note, location, run, Frame}
 use Rattle.remus.specs.Point.{_∈_, first, later}
@@ -38,7 +39,7 @@ module _ (p : List ℕ) where
 
     -- an R command stands past D
     pub past-D : {c : Cmd} → cmd p m o i ≡ c → sequenceOf c ≡ R → declared p (reactor m o) ≤ i
-    past-D {c} e q = by (below? i (declared p (reactor m o)))
+    past-D {c} e q = by (below i (declared p (reactor m o)))
       where
         by : (i < declared p (reactor m o)) ⊎ (declared p (reactor m o) ≤ i) → declared p (reactor m o) ≤ i
         by (inr l) = l

@@ -5,11 +5,11 @@ use mathlib.Core.List.{List, _∷_}
 use mathlib.Core.Logic.{_⊎_, inl, inr, _≢_}
 use native.Mathlib.Omega.{arith}
 use lib.ListN.{length}
+use Rattle.value.proofs.Tests.{same?}
 use Rattle.program.specs.Bytes.{reactors}
 use Rattle.program.specs.Command.{Cmd, sequenceOf, D, allocMono, makePoly, constant, global, supply, react, consume, sink, allocPoly, primitive, none}
 use Rattle.image.specs.Memory.{reactor}
 use Rattle.image.specs.Sound.{Deployed, Depth}
-use Rattle.image.proofs.Memory.Tiles.{same?}
 use Rattle.image.proofs.Memory.Changes.{Change, This-slot}
 use Rattle.image.proofs.Memory.Slots.{Right}
 use Rattle.remus.specs.Walk.{Note, run, Frame}
