@@ -14,9 +14,8 @@ use Rattle.image.specs.Memory.{mostDepth, mostWords, mainAt, used}
 use Rattle.image.specs.Sound.{Tiles, Sound}
 use Rattle.image.specs.Walk.{Tiling}
 use Rattle.image.proofs.Exact.{exact-soundness}
-use Rattle.image.proofs.Memory.Tiles.{in-to}
 use Rattle.image.proofs.Exact.Tiling.{tiles! }
-use Rattle.image.proofs.Memory.Tiles.{tiles-kept}
+use Rattle.image.proofs.Memory.Tiles.{in-to, tiles-kept}
 use Rattle.remus.specs.Run.{ran, stopped, mainRun}
 use Rattle.remus.proofs.Undo.Entry.{entry-firm}
 use Rattle.remus.proofs.Undo.Runs.{After, run-keeps}
@@ -45,7 +44,7 @@ module _ (p : List ℕ) (rules : Rules p) (m rd : List ℕ) (few : length m ≤ 
   safe =
       record {
         few = few;
-        past = omega (arith, in-to p m (s .main));
+        past = omega (arith, in-to p (s .main));
         ends = ends;
         stops = stops;
         undoes = λ w m′ e. undoes p rules m rd m′ w s e;
