@@ -11,7 +11,7 @@ use Prim.Native.Nat.{ℕ, _≤_, _<_}
 use mathlib.Core.Path.{_≡_, refl, sym, _∙_, ap, subst}
 use mathlib.Core.Bool.{Bool, true, false}
 use mathlib.Core.Logic.{_↔_, ⊎-elim, _≢_}
-use mathlib.Core.List.{List, List·Memᴰ·head as first, List·Memᴰ·tail as later, List·Memᴰ·cases-cons as in-cons}
+use mathlib.Core.List.{List}
 use native.Mathlib.Omega.{arith}
 use lib.ListN.{length}
 use Rattle.value.specs.Test.{guard, _=?_}
@@ -22,11 +22,12 @@ use Rattle.program.specs.Location.{locations, slotAt, sizeOf}
 use Rattle.load.specs.Rules.{Rules}
 use Rattle.image.specs.Memory.{mostWords, mainAt, used, turns, reactor, valueAt, sizeAt}
 use Rattle.image.specs.Sound.{here, Deployed, InD, Fresh, Grown, NamedOnce, Sound}
-use Rattle.image.specs.Passes.{Judged, sound, unsound, lowest, freshSound, grownSound, tailOf, byTurns, soundOf, ExactSoundness}
-use Rattle.image.proofs.Exact.Lists.{_∈_, Rising, rises, rising-from}
+use Rattle.image.specs.Passes.{Judged, sound, unsound, fits, lowestUnfit, freshSound, grownSound, byTurns, soundOf, ExactSoundness}
+use Rattle.image.specs.declared.Pass.{Pass}
+use Rattle.image.proofs.Exact.Lists.{rising-from}
 use Rattle.image.proofs.Exact.Tables.{lowest-none}
-use Rattle.image.proofs.Memory.Tiles.{in-ge, in-to, in-next}
-use Rattle.image.proofs.Exact.Tiling.{tiles?, tiles!, Laid, starts, start-in, start-rising}
+use Rattle.image.proofs.Memory.Tiles.{in-to, in-next}
+use Rattle.image.proofs.Exact.Tiling.{tiles?, tiles!, Laid, starts, tableOf, start-in, start-rising}
 use Rattle.image.proofs.Exact.Zeros.{zero-rest, slots-blank}
 use Rattle.image.proofs.Exact.SlotTests.{SlotsRight, Own, own-test}
 use Rattle.image.proofs.Exact.Names.{named-test}
@@ -46,7 +47,7 @@ module _ (p m : List ℕ) where
 
   -- what the other files take of a sound image
   pub sound-laid : reactors p ≤ mostReactors → length m ≤ mostWords → Sound p m → Laid p m
-  sound-laid few small s = record { few = few; small = small; fits = s .fits; tiles = s .tiles }
+  sound-laid few small s = record { few = few; small = small; fits = s .fits; some = in-to p (s .main); tiles = s .tiles }
 
   pub grown-right : Grown p m → (o : ℕ) → Deployed p m o → SlotsRight p m o
   grown-right g o i = record { monos = λ j x. g .monos o j x i; points = λ j x. g .points o j x i }
@@ -75,58 +76,42 @@ module _ (p m : List ℕ) where
 
   -- ---- turns above 0
 
-  others-in : {a : ℕ} {l : List ℕ} (d : ℕ) → Rising a l → a ∈ l → (d ∈ tailOf p m l) ↔ ((d ∈ l) × (d ≢ a))
-  unfolding tailOf
-  others-in d (rises {b = b} h r) i =
-      let e = ⊎-elim (λ q. q) (λ k. absurd (omega (arith, rising-from r k))) (in-cons i) in
-      (λ k. (later k, omega (arith, rising-from r k)), λ k. ⊎-elim (λ q. absurd (k .1 (q ∙ sym e))) (λ j. j) (in-cons (k .0)))
-
-  module _ (laid : Laid p m) (some : mainAt < used m) where
-    all-starts : (ok : ℕ → Bool) → ((lowest ok (starts p m) =? 0) ≡ true) ↔ ((d : ℕ) → Deployed p m d → ok d ≡ true)
-    all-starts ok =
-        let w = lowest-none ok (starts p m) (λ a i. omega (arith, rising-from (start-rising p m laid) i)) in
+  module _ (laid : Laid p m) where
+    -- a pass finds no deployment unfit
+    all-fit : (pass : Pass) → ((lowestUnfit p m pass (starts p m) =? 0) ≡ true) ↔ ((d : ℕ) → Deployed p m d → fits p m pass (tableOf p m pass) d ≡ true)
+    unfolding lowestUnfit
+    all-fit pass =
+        let w = lowest-none (fits p m pass (tableOf p m pass)) (starts p m) (λ a i. omega (arith, rising-from (start-rising p m laid) i)) in
         (λ h d i. w .0 h d (start-in p m laid d .1 i), λ h. w .1 (λ d i. h d (start-in p m laid d .0 i)))
 
-    other-in : (d : ℕ) → (d ∈ tailOf p m (starts p m)) ↔ (Deployed p m d × (d ≢ mainAt))
-    other-in d =
-        let w = others-in d (start-rising p m laid) (start-in p m laid mainAt .1 (here some)) in
-        let s = start-in p m laid d in
-        (λ i. let k = w .0 i in (s .0 (k .0), k .1), λ k. w .1 (s .1 (k .0), k .1))
-
-    all-others : (ok : ℕ → Bool) → ((lowest ok (tailOf p m (starts p m)) =? 0) ≡ true) ↔
-        ((d : ℕ) → Deployed p m d → d ≢ mainAt → ok d ≡ true)
-    all-others ok =
-        let w = lowest-none ok (tailOf p m (starts p m)) (λ a i. omega (arith, in-ge p (other-in a .0 i .0))) in
-        (λ h d i n. w .0 h d (other-in d .1 (i, n)), λ h. w .1 (λ d i. let k = other-in d .0 i in h d (k .0) (k .1)))
-
-    grown-test : (grownSound p m (starts p m) (tailOf p m (starts p m)) ≡ sound) ↔ (((d : ℕ) → Deployed p m d → Empty d) × Grown p m)
+    grown-test : (grownSound p m (starts p m) ≡ sound) ↔ (((d : ℕ) → Deployed p m d → Empty d) × Grown p m)
     unfolding grownSound
     grown-test = (
       λ h.
           let a = ladder _ _ _ .0 h in
           let b = ladder _ _ _ .0 (a .1) in
           let c = ladder _ _ _ .0 (b .1) in
-          let own : (d : ℕ) → Deployed p m d → Own p m d = (λ d i. own-test p m laid i .0 (all-starts _ .0 (a .0) d i)) in
+          let own : (d : ℕ) → Deployed p m d → Own p m d = (λ d i. own-test p m laid i .0 (all-fit _ .0 (a .0) d i)) in
           let right : (d : ℕ) → Deployed p m d → SlotsRight p m d = (λ d i. own d i .slots) in
           let named : (d : ℕ) → Deployed p m d → d ≢ mainAt → NamedOnce p m d =
-          (λ d i n. named-test p m laid right i .0 (all-others _ .0 (b .0) d i n)) in (
+          (λ d i. named-test p m laid right i .0 (all-fit _ .0 (b .0) d i)) in (
             λ d i. own d i .empty,
             record {
               all-wired = λ d i. own d i .is-wired;
               monos = λ o j x i. right o i .monos j x;
               points = λ o j x i. right o i .points j x;
               named = named;
-              depth = depth-test p m laid right named .0 (all-others _ .0 (c .0));
+              depth = λ d i. depth-test p m laid right named i .0 (all-fit _ .0 (c .0) d i);
             },
           ),
       λ h.
           let g = h .1 in
           let right = grown-right g in
           ladder _ _ _ .1 (
-            all-starts _ .1 (λ d i. own-test p m laid i .1 (record { is-wired = g .all-wired d i; empty = h .0 d i; slots = right d i })),
+            all-fit _ .1 (λ d i. own-test p m laid i .1 (record { is-wired = g .all-wired d i; empty = h .0 d i; slots = right d i })),
             ladder _ _ _ .1 (
-              all-others _ .1 (λ d i n. named-test p m laid right i .1 (g .named d i n)),
-              ladder _ _ _ .1 (all-others _ .1 (depth-test p m laid right (g .named) .1 (g .depth)), refl),
+              all-fit _ .1 (λ d i. named-test p m laid right i .1 (g .named d i)),
+              ladder _ _ _ .1 (all-fit _ .1 (λ d i. depth-test p m laid right (g .named) i .1 (g .depth d i)), refl),
             ),
           ),
     )
@@ -169,7 +154,7 @@ exact-soundness p few m small = (
       let tiles = tiles? p m (length m) (used m) mainAt (omega arith) (tiling .1) in
       let some : mainAt < used m = lt? (main .0) in
       let first = eq? (tiling .0) in
-      let rest = turns-test p m (record { few = few; small = small; fits = fits; tiles = tiles }) some first (turns m =? 0) refl .0 (e .1) in
+      let rest = turns-test p m (record { few = few; small = small; fits = fits; some = some; tiles = tiles }) first (turns m =? 0) refl .0 (e .1) in
       record {
         fits = fits;
         tiles = tiles;
@@ -183,19 +168,18 @@ exact-soundness p few m small = (
         grown = rest .grown;
       },
   λ s.
-      let some = in-to p (s .main) in
       let laid = sound-laid p m few small s in
       ladder _ _ _ .1 (
         le! (s .fits),
         ladder _ _ _ .1 (
           le! (s .few-turns),
           ladder _ _ _ .1 (
-            both! (lt! some) (both! (eq! (s .first)) (tiles! p m (length m) (used m) mainAt (omega (arith, s .fits)) (s .tiles))),
+            both! (lt! (laid .some)) (both! (eq! (s .first)) (tiles! p m (length m) (used m) mainAt (omega (arith, s .fits)) (s .tiles))),
             ladder _ _ _ .1 (
               zero-rest m (used m) (s .fits) .1 (s .rest),
               ladder _ _ _ .1 (
                 eq! (s .last),
-                turns-test p m laid some (s .first) (turns m =? 0) refl .1
+                turns-test p m laid (s .first) (turns m =? 0) refl .1
                     (record { empties = λ d i l. s .empty d l i; fresh = s .fresh; grown = s .grown }),
               ),
             ),

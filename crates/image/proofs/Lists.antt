@@ -5,11 +5,7 @@ use mathlib.Core.Path.{_≡_, refl}
 use mathlib.Core.Bool.{Bool, true, false}
 use mathlib.Core.List.{List, [], _∷_, _++_}
 use Rattle.value.proofs.Tests.{goes, stops}
-use lib.ListN.{getD}
-use Rattle.image.specs.Memory.{mainAt}
-use Rattle.image.specs.Passes.{lowest, over, tailOf}
-use Rattle.image.specs.Walk.{startsOn, fits, lowestUnfit}
-use Rattle.image.specs.declared.Pass.{Pass}
+use Rattle.image.specs.Passes.{lowest, over}
 
 module _ (f : List ℕ → ℕ → List ℕ) where
   -- t₁ is t changed for the first of s
@@ -38,9 +34,3 @@ module _ (ok : ℕ → Bool) (s rest : List ℕ) (a : ℕ) (e : s ≡ a ∷ rest
 pub lowest-done : (ok : ℕ → Bool) (s : List ℕ) → s ≡ [] → 0 ≡ lowest ok s
 unfolding lowest
 lowest-done ok s e = rw e
-
--- all deployments but main, which is the first
-pub unfit-first : (p m t : List ℕ) (pass : Pass) (u a : ℕ) → startsOn p m u mainAt ≡ mainAt ∷ startsOn p m u a
-    → lowest (λ a. fits pass (getD t a 0)) (startsOn p m u a) ≡ lowestUnfit p m pass t u
-unfolding lowestUnfit tailOf
-unfit-first p m t pass u a e = rw e

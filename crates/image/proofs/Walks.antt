@@ -1,22 +1,23 @@
 -- A D command by its two bytes, a deployment's children, and the ladder of soundness as the code climbs it.
 -- Assumes nothing.
-use Prim.Native.Nat.{ℕ, _-_, _<_}
+use Prim.Native.Nat.{ℕ, _-_}
 use mathlib.Core.Path.{_≡_, refl, sym, ap, _∙_}
 use mathlib.Core.Bool.{Bool, true, false}
 use mathlib.Core.List.{List}
 use native.Mathlib.Omega.{arith}
-use lib.ListN.{length}
+use lib.ListN.{length, replicate}
 use Rattle.value.specs.Test.{_and_, _<?_, _≤?_, _=?_, guard}
-use Rattle.value.proofs.Tests.{goes, stops, eq!, eq×, lt?, le?, both?}
+use Rattle.value.proofs.Tests.{goes, stops, eq!, eq×, le?, both?}
 use Rattle.program.specs.Bytes.{reactors, declared, mainOf}
 use Rattle.program.specs.Command.{Made, madeBy, cmdOf}
 use Rattle.program.specs.Location.{commandLoc}
 use Rattle.image.specs.Answer.{verdict}
 use Rattle.image.specs.Memory.{mainAt, mostTurns, used, turns, reactor, next, content, zeroAt, startsBelow}
-use Rattle.image.specs.Passes.{Judged, unsound, over, name, membersFrom, namedBy, childrenFrom, childrenOf, nameTable, depthTable, freshSound, grownSound, byTurns, soundOf, tilesFrom}
-use Rattle.image.specs.Walk.{madeOf, SlotOf, Tiling, step, stepAll, named, deepened, lowestUnfit, framedOf, freshOf, namedOf, shallowOf, grownOf}
+use Rattle.image.specs.Passes.{Judged, unsound, tableBytes, lowest, over, withEntry, blankTable, visit, tableAfter, fits, membersFrom, namedBy, childrenFrom, childrenOf, lowestUnfit, freshSound, grownSound, byTurns, soundOf, tilesFrom}
+use Rattle.image.specs.Walk.{madeOf, SlotOf, Tiling, step, framedOf, freshOf, grownOf}
 use Rattle.image.specs.declared.DSlot.{DSlot}
 use Rattle.image.specs.declared.Pass.{Pass}
+use Rattle.image.specs.declared.Pass.the-variants.{Starts, Names, Depths}
 use Rattle.image.proofs.Ands.{and-assoc, guard-and}
 use Rattle.image.proofs.Made.{made-mono, made-point, made-other}
 
@@ -38,10 +39,28 @@ pub by-slot : {A : Type 0} (F : ℕ → Made → A) (p m : List ℕ) (o j : ℕ)
     → F (s .location) (madeOf (s .code) (s .x)) ≡ F (commandLoc p (reactor m o) j) (madeBy (cmdOf p (reactor m o) j))
 by-slot F p m o j s e = rw (e .located, e .makes)
 
-pub children-first : (p m : List ℕ) (pass : Pass) (t : List ℕ) (o n : ℕ) → n ≡ declared p (reactor m o)
-    → over (step pass o) t (childrenFrom p m (n - 0) 0 o) ≡ stepAll p m pass t o
-unfolding stepAll childrenOf
-children-first p m pass t o n e = let d : n - 0 ≡ declared p (reactor m o) = omega arith in rw d
+-- ---- a pass
+
+module _ (p m : List ℕ) (pass : Pass) (t t₁ : List ℕ) where
+  module _ (o : ℕ) where
+    pub visit-names : pass ≡ Names → t₁ ≡ over (step pass o) t (childrenOf p m o) → t₁ ≡ visit p m pass t o
+    unfolding visit
+    visit-names e h = rw e (rw e at h)
+
+    pub visit-depths : pass ≡ Depths → t₁ ≡ over (step pass o) t (childrenOf p m o) → t₁ ≡ visit p m pass t o
+    unfolding visit
+    visit-depths e h = rw e (rw e at h)
+
+  -- t is the table before the visits, t₁ after them
+  pub pass-run : (s : List ℕ) {r : ℕ} → t ≡ withEntry (replicate tableBytes 0) mainAt 1 → t₁ ≡ over (visit p m pass) t s
+      → r ≡ lowest (fits p m pass t₁) s → r ≡ lowestUnfit p m pass s
+  unfolding lowestUnfit tableAfter blankTable
+  pass-run s a b h = h ∙ ap (λ (t : List ℕ). lowest (fits p m pass t) s) (b ∙ ap (λ (t : List ℕ). over (visit p m pass) t s) a)
+
+pub children-first : (p m : List ℕ) (f : List ℕ → ℕ → List ℕ) (t : List ℕ) (o n : ℕ) → n ≡ declared p (reactor m o)
+    → over f t (childrenFrom p m (n - 0) 0 o) ≡ over f t (childrenOf p m o)
+unfolding childrenOf
+children-first p m f t o n e = let d : n - 0 ≡ declared p (reactor m o) = omega arith in rw d
 
 module _ (p m : List ℕ) where
   framed-as : guard (framedOf p m) (unsound 0) (λ _. byTurns p m (turns m =? 0)) ≡ soundOf p m
@@ -66,8 +85,10 @@ module _ (p m : List ℕ) where
   fresh-as = refl
 
   grown-as : verdict (grownOf p m (used m)) ≡ byTurns p m false
-  unfolding verdict grownOf namedOf shallowOf lowestUnfit stepAll named deepened name nameTable depthTable byTurns grownSound startsBelow
-  grown-as = guard-and _ _ _ _ ∙ guard-and _ _ _ _
+  unfolding verdict grownOf byTurns grownSound startsBelow
+  grown-as =
+      guard-and _ _ _ _
+      ∙ ap (λ (j : Judged). guard (lowestUnfit p m Starts (startsBelow p m (used m)) =? 0) (unsound 0) (λ _. j)) (guard-and _ _ _ _)
 
   module _ (framed : framedOf p m ≡ true) where
     pub fresh-verdict : turns m ≡ 0 → verdict (freshOf p m) ≡ soundOf p m
@@ -76,10 +97,6 @@ module _ (p m : List ℕ) where
 
     pub grown-verdict : (turns m ≡ 0 → ⊥) → verdict (grownOf p m (used m)) ≡ soundOf p m
     grown-verdict d = grown-as ∙ ap (byTurns p m) (sym (eq× d)) ∙ goes _ _ framed refl ∙ framed-as
-
-    pub framed-main : mainAt < used m
-    unfolding framedOf
-    framed-main = lt? (both? (both? (both? (both? framed .1) .1) .0) .0)
 
     pub framed-tiling : Tiling p m (used m) mainAt
     unfolding framedOf

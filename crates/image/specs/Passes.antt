@@ -1,7 +1,7 @@
--- Soundness by forward passes over the deployments, with one table of bytes, a byte for each word of memory:
--- 0 no deployment begins here; 1 one does that nothing names; 2 named once; 3 named more often. A second such table holds depths.
--- Each pass reads each deployment's words, and each chain's, once. The ladder of soundOf is the order in which faults are found.
-use Prim.Native.Nat.{ℕ, zero, suc, _+_, _-_, _≤_}
+-- Soundness by three passes over the deployments. A pass changes a table of bytes for each of them, then asks each whether it is fit:
+-- where deployments begin, how often each is named, how deep each is. Each pass reads each deployment's words, and each chain's, once.
+-- The ladder of soundOf is the order in which faults are found.
+use Prim.Native.Nat.{ℕ, zero, suc, _+_, _-_, _/_, _%_, _≤_}
 use mathlib.Core.Path.{_≡_}
 use mathlib.Core.Logic.{_↔_}
 use mathlib.Core.Bool.{Bool, true, false}
@@ -14,6 +14,8 @@ use Rattle.program.specs.Command.{Made, deployment, point, nothing, madeBy, cmd
 use Rattle.program.specs.Location.{commandLoc, sizeOf}
 use Rattle.image.specs.Sound.{Sound}
 use Rattle.image.specs.Memory.{mostWords, mostTurns, mostDepth, mainAt, used, turns, reactor, wired, next, zeroAt, mark, content, sizeAt, startsBelow, slotsD, slotsR}
+use Rattle.image.specs.declared.Pass.{Pass}
+use Rattle.image.specs.declared.Pass.the-variants.{Starts, Names, Depths}
 
 -- sound, or the place of the fault
 pub data Judged : Type 0 where
@@ -30,16 +32,39 @@ unfoldable pub over : (List ℕ → ℕ → List ℕ) → List ℕ → List ℕ 
 over f t [] = t
 over f t (a ∷ rest) = over f (f t a) rest
 
--- the table with each deployment's start marked
-unfoldable pub startTable : List ℕ → List ℕ
-startTable starts = over (λ t a. set t a 1) (replicate mostWords 0) starts
+-- a byte for each three of 16,384 words
+abbrev pub tableBytes : ℕ
+tableBytes = 5462
+
+-- the byte for the deployment at c: "A deployment is three words .. and two per location", so that no two begin in the same three
+unfoldable pub entry : List ℕ → ℕ → ℕ
+entry t c = getD t (c / 3) 0
+
+unfoldable pub withEntry : List ℕ → ℕ → ℕ → List ℕ
+withEntry t c v = set t (c / 3) v
+
+-- each pass begins with zeros but for main, which counts as named once, and whose depth is 1
+unfoldable pub blankTable : List ℕ
+blankTable = withEntry (replicate tableBytes 0) mainAt 1
+
+-- a start's byte tells in which of its three words it is
+abbrev pub startByte : ℕ → ℕ
+startByte c = 1 + c % 3
 
 unfoldable pub isStart : List ℕ → ℕ → Bool
-isStart t c = 0 <? getD t c 0
+isStart t c = entry t c =? startByte c
+
+-- one more name for c; more than once is as twice
+unfoldable pub name : List ℕ → ℕ → List ℕ
+name t c = withEntry t c (pick (entry t c <? 2) (entry t c + 1) 2)
 
 -- one more than depth d; past the limit every depth is as the first past it, so that a byte holds each
 unfoldable pub below : ℕ → ℕ
 below d = pick (d ≤? mostDepth) (d + 1) d
+
+-- c is one deeper than its owner o
+unfoldable pub deepen : ℕ → List ℕ → ℕ → List ℕ
+deepen o t c = withEntry t c (below (entry t o))
 
 module _ (p : List ℕ) (m : List ℕ) where
   -- the deployments from a on tile the words up to u exactly
@@ -101,39 +126,41 @@ module _ (p : List ℕ) (m : List ℕ) where
   unfoldable pub childrenOf : ℕ → List ℕ
   childrenOf o = childrenFrom (declared p (reactor m o)) 0 o
 
-  -- one more name for c; more than twice is as twice
-  unfoldable pub name : List ℕ → ℕ → List ℕ
-  name t c = set t c (pick (getD t c 0 <? 3) (getD t c 0 + 1) 3)
+  -- what a pass does for the deployment at o. Owners come before their children.
+  unfoldable pub visit : Pass → List ℕ → ℕ → List ℕ
+  visit Starts t o = withEntry t o (startByte o)
+  visit Names t o = over name t (childrenOf o)
+  visit Depths t o = over (deepen o) t (childrenOf o)
 
-  unfoldable pub nameTable : List ℕ → List ℕ → List ℕ
-  nameTable t starts = over (λ t o. over name t (childrenOf o)) t starts
+  -- the table after a pass
+  unfoldable pub tableAfter : Pass → List ℕ → List ℕ
+  tableAfter pass starts = over (visit pass) blankTable starts
 
-  -- "Main has depth 1, a child one more than its owner." Owners come before their children.
-  unfoldable pub depthTable : List ℕ → List ℕ
-  depthTable starts = over (λ t o. over (λ t c. set t c (below (getD t o 0))) t (childrenOf o)) (set (replicate mostWords 0) mainAt 1) starts
+  -- what has to hold then of the deployment at a: its own words; "named exactly once"; "depth is at most 64"
+  unfoldable pub fits : Pass → List ℕ → ℕ → Bool
+  fits Starts t a = ownSound t a
+  fits Names t a = entry t a =? 1
+  fits Depths t a = entry t a ≤? mostDepth
+
+  -- the lowest deployment that a pass finds unfit, 0 if none
+  unfoldable pub lowestUnfit : Pass → List ℕ → ℕ
+  lowestUnfit pass starts = let t = tableAfter pass starts in lowest (fits pass t) starts
 
   -- "With turns 0, main stands alone, unwired, its slots zero."
   unfoldable pub freshSound : Judged
   freshSound =
       guard ((used m =? mainAt + sizeOf p (mainOf p)) and (wired m mainAt =? 0) and zeroAt m (mainAt + 3) (sizeOf p (mainOf p) - 3)) (unsound 0) (λ _. sound)
 
-  -- "Otherwise ..": each deployment by itself; then the naming; then the depths. `others` are all but main.
-  unfoldable pub grownSound : List ℕ → List ℕ → Judged
-  grownSound starts others =
-      let t = startTable starts in
-      guard (lowest (ownSound t) starts =? 0) (unsound 0) (λ _.
-      let names = nameTable t starts in
-      guard (lowest (λ a. getD names a 0 =? 2) others =? 0) (unsound 0) (λ _.
-      let depths = depthTable starts in
-      guard (lowest (λ a. getD depths a 0 ≤? mostDepth) others =? 0) (unsound 0) (λ _. sound)))
-
-  unfoldable pub tailOf : List ℕ → List ℕ
-  tailOf [] = []
-  tailOf (a ∷ rest) = rest
+  -- "Otherwise .."
+  unfoldable pub grownSound : List ℕ → Judged
+  grownSound starts =
+      guard (lowestUnfit Starts starts =? 0) (unsound 0) (λ _.
+      guard (lowestUnfit Names starts =? 0) (unsound 0) (λ _.
+      guard (lowestUnfit Depths starts =? 0) (unsound 0) (λ _. sound)))
 
   unfoldable pub byTurns : Bool → Judged
   byTurns true = freshSound
-  byTurns false = let starts = startsBelow p m (used m) in grownSound starts (tailOf starts)
+  byTurns false = grownSound (startsBelow p m (used m))
 
   unfoldable pub soundOf : Judged
   soundOf =

@@ -3,16 +3,16 @@ use Prim.Native.Nat.{ℕ, _+_, _-_, _≤_, _<_}
 use mathlib.Core.Path.{_≡_}
 use mathlib.Core.Bool.{Bool, true}
 use mathlib.Core.List.{List, _∷_}
-use lib.ListN.{length, getD, set, replicate}
+use lib.ListN.{length, getD}
 use Rattle.value.specs.Test.{pick, _and_, _<?_, _≤?_, _=?_}
 use Rattle.program.specs.Bytes.{reactors, mainOf, commandsAt}
 use Rattle.program.specs.Command.{Made, deployment, point, nothing, madeBy, cmdOf}
 use Rattle.program.specs.Location.{commandLoc, sizeOf}
-use Rattle.image.specs.Memory.{mostDepth, mostTurns, mostWords, mainAt, used, turns, reactor, wired, next, zeroAt, place, startsFrom}
-use Rattle.image.specs.Passes.{below, tilesFrom, tailOf, slotSound, namedBy, startTable, ownSound, childrenOf, over, lowest}
+use Rattle.image.specs.Memory.{mostTurns, mainAt, used, turns, reactor, wired, next, zeroAt, place, startsFrom}
+use Rattle.image.specs.Passes.{name, deepen, tilesFrom, slotSound, namedBy, lowestUnfit}
 use Rattle.image.specs.declared.DSlot.{DSlot}
 use Rattle.image.specs.declared.Pass.{Pass}
-use Rattle.image.specs.declared.Pass.the-variants.{Names, Depths}
+use Rattle.image.specs.declared.Pass.the-variants.{Starts, Names, Depths}
 
 -- where u after it fits a word; else nothing is placed
 unfoldable pub placed : List ℕ → List ℕ → ℕ → ℕ → List ℕ
@@ -44,26 +44,11 @@ module _ (p m : List ℕ) where
     pub legal : reactor m a < reactors p
     pub here : startsOn u a ≡ a ∷ startsOn u b
 
--- one more name for c; more than twice is as twice
-unfoldable pub named : List ℕ → ℕ → List ℕ
-named t c = set t c (pick (getD t c 0 <? 3) (getD t c 0 + 1) 3)
-
-unfoldable pub deepened : ℕ → List ℕ → ℕ → List ℕ
-deepened o t c = set t c (below (getD t o 0))
-
--- what each of the two passes does to its table for the child c of o
+-- what a pass does for the child c of o; the first does nothing
 abbrev pub step : Pass → ℕ → List ℕ → ℕ → List ℕ
-step Names o = named
-step Depths o = deepened o
-
--- for all children of o
-unfoldable pub stepAll : List ℕ → List ℕ → Pass → List ℕ → ℕ → List ℕ
-stepAll p m pass t o = over (step pass o) t (childrenOf p m o)
-
--- what it has to leave for each deployment but main
-abbrev pub fits : Pass → ℕ → Bool
-fits Names n = n =? 2
-fits Depths n = n ≤? mostDepth
+step Starts o = λ t c. t
+step Names o = name
+step Depths o = deepen o
 
 module _ (p m : List ℕ) where
   -- whether the slot of D command j of o is right
@@ -79,9 +64,6 @@ module _ (p m : List ℕ) where
     pub located : s .location ≡ commandLoc p (reactor m o) j
     pub makes : madeOf (s .code) (s .x) ≡ madeBy (cmdOf p (reactor m o) j)
 
-  unfoldable pub lowestUnfit : Pass → List ℕ → ℕ → ℕ
-  lowestUnfit pass t u = lowest (λ a. fits pass (getD t a 0)) (tailOf p m (startsOn p m u mainAt))
-
   -- what word 0, word 1, the tiling and the words from u say, and main's next
   unfoldable pub framedOf : Bool
   framedOf =
@@ -91,14 +73,7 @@ module _ (p m : List ℕ) where
   unfoldable pub freshOf : Bool
   freshOf = (used m =? mainAt + sizeOf p (mainOf p)) and (wired m mainAt =? 0) and zeroAt m (mainAt + 3) (sizeOf p (mainOf p) - 3)
 
-  -- each deployment's own words, then the naming, from a table t
-  unfoldable pub namedOf : List ℕ → ℕ → Bool
-  namedOf t u =
-      (lowest (ownSound p m t) (startsOn p m u mainAt) =? 0) and (lowestUnfit Names (over (stepAll p m Names) t (startsOn p m u mainAt)) u =? 0)
-
-  -- the depths
-  unfoldable pub shallowOf : ℕ → Bool
-  shallowOf u = lowestUnfit Depths (over (stepAll p m Depths) (set (replicate mostWords 0) mainAt 1) (startsOn p m u mainAt)) u =? 0
-
   unfoldable pub grownOf : ℕ → Bool
-  grownOf u = namedOf (startTable (startsOn p m u mainAt)) u and shallowOf u
+  grownOf u =
+      let starts = startsOn p m u mainAt in
+      (lowestUnfit p m Starts starts =? 0) and (lowestUnfit p m Names starts =? 0) and (lowestUnfit p m Depths starts =? 0)

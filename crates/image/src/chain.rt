@@ -1,10 +1,10 @@
 // The chain of a branch point.
-use crate::table::entry;
 use crate::table::is_start;
-use crate::table::put_entry;
+use crate::table::put_byte;
 use crate::words::next;
 use crate::words::reactor;
 use crate::words::used;
+use program::byte;
 use program::reactors;
 use program::wide_shape_of;
 ghost use mathlib.Core.Path.{_≡_};
@@ -26,7 +26,7 @@ fn linked(table: &[u8], o: u32, last: u32, c: u32) -> bool
 fn joins(program: &[u8], seen: &[u8], s: u8, r: u32) -> bool
     ensures { λ t. ⌜ t ≡ ((B.shapeOf (now (program .entry)) r =? s) and (getD (now (seen .entry)) r 0 =? 0)) ⌝ }
 {
-    (wide_shape_of(program, r) == s) & (entry(seen, r) == 0)
+    (wide_shape_of(program, r) == s) & (byte(seen, r as usize) == 0)
 }
 
 // Whether the chain from `head` is one of strictly falling indices, all above the owner o, of shape
@@ -56,7 +56,7 @@ pub(crate) fn chain_sound(
         if !joins(program, &seen, s, r) {
             return false;
         }
-        put_entry(&mut seen, r, 1);
+        put_byte(&mut seen, r as usize, 1);
         last = c;
         c = next(memory, c);
         left = left - 1;

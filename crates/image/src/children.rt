@@ -1,4 +1,4 @@
-// The passes over the children of each deployment: the deployments that its D slots name.
+// The children of a deployment: the deployments that its D slots name. What a pass does for each.
 use crate::DSlot;
 use crate::Pass;
 use crate::commands::position;
@@ -6,8 +6,6 @@ use crate::commands::slot_of;
 use crate::deployment::content;
 use crate::table::entry;
 use crate::table::put_entry;
-use crate::tiling::following;
-use crate::words::MAIN_AT;
 use crate::words::MOST_DEPTH;
 use crate::words::next;
 use crate::words::reactor;
@@ -16,21 +14,20 @@ use program::reactors;
 use program::wide_declared;
 ghost use mathlib.Core.Path.{_≡_};
 ghost use Prim.Native.Nat.{_<_};
-ghost use lib.ListN.{getD, set};
 ghost use Rattle.program.specs.Bytes as B;
 ghost use Rattle.image.specs.Memory as M;
 ghost use Rattle.image.specs.Passes as P;
 ghost use Rattle.image.specs.Walk as W;
 
-// One more name for c; more than twice is as twice.
+// One more name for c; more than once is as twice.
 fn name(table: &mut [u8], c: u32)
-    ensures { λ _. ⌜ now (table .exit) ≡ W.named (now (table .entry)) c ⌝ }
+    ensures { λ _. ⌜ now (table .exit) ≡ P.name (now (table .entry)) c ⌝ }
 {
     let n = entry(table, c);
-    if n < 3 {
+    if n < 2 {
         put_entry(table, c, n + 1);
     } else {
-        put_entry(table, c, 3);
+        put_entry(table, c, 2);
     }
 }
 
@@ -43,17 +40,18 @@ fn below(d: u8) -> u8
 
 // Puts c one below its owner o.
 fn deepen(table: &mut [u8], o: u32, c: u32)
-    ensures { λ _. ⌜ now (table .exit) ≡ W.deepened o (now (table .entry)) c ⌝ }
+    ensures { λ _. ⌜ now (table .exit) ≡ P.deepen o (now (table .entry)) c ⌝ }
 {
     let d = below(entry(table, o));
     put_entry(table, c, d)
 }
 
-// What a pass does for the child c of o.
+// What a pass does for the child c of o; the first does nothing.
 fn step(pass: Pass, table: &mut [u8], o: u32, c: u32)
     ensures { λ _. ⌜ now (table .exit) ≡ W.step pass o (now (table .entry)) c ⌝ }
 {
     match pass {
+        Pass::Starts => {}
         Pass::Names => name(table, c),
         Pass::Depths => deepen(table, o, c),
     }
@@ -90,10 +88,19 @@ fn step_slot(pass: Pass, program: &[u8], memory: &[u32], table: &mut [u8], o: u3
 }
 
 // Does it for each child of o.
-fn step_children(pass: Pass, program: &[u8], at: u32, memory: &[u32], table: &mut [u8], o: u32)
-    requires { ⌜ at ≡ B.commandsAt (now program) (M.reactor (now memory) o) ⌝ }
-    ensures { λ _. ⌜ now (table .exit) ≡ W.stepAll (now (program .entry)) (now (memory .entry)) pass (now (table .entry)) o ⌝ }
+pub(crate) fn step_children(
+    pass: Pass,
+    program: &[u8],
+    places: &[u32],
+    memory: &[u32],
+    table: &mut [u8],
+    o: u32,
+)
+    requires { ⌜ W.Positions (now program) (now places) ⌝ }
+    requires { ⌜ M.reactor (now memory) o < B.reactors (now program) ⌝ }
+    ensures { λ _. ⌜ now (table .exit) ≡ P.over (W.step pass o) (now (table .entry)) (P.childrenOf (now (program .entry)) (now (memory .entry)) o) ⌝ }
 {
+    let at = position(program, places, memory, o);
     let r = reactor(memory, o);
     let n = wide_declared(program, r);
     let mut j: u8 = 0;
@@ -102,53 +109,4 @@ fn step_children(pass: Pass, program: &[u8], at: u32, memory: &[u32], table: &mu
         step_slot(pass, program, memory, table, o, s);
         j = j + 1;
     }
-}
-
-// Does it for each child of each deployment.
-pub(crate) fn step_all(
-    pass: Pass,
-    program: &[u8],
-    places: &[u32],
-    memory: &[u32],
-    table: &mut [u8],
-    u: u32,
-)
-    requires { ⌜ W.Positions (now program) (now places) ⌝ }
-    requires { ⌜ W.Tiling (now program) (now memory) u M.mainAt ⌝ }
-    ensures { λ _. ⌜ now (table .exit) ≡ P.over (W.stepAll (now (program .entry)) (now (memory .entry)) pass) (now (table .entry)) (W.startsOn (now (program .entry)) (now (memory .entry)) u M.mainAt) ⌝ }
-{
-    let mut a = MAIN_AT;
-    while a < u {
-        let o = a;
-        a = following(program, memory, u, a);
-        let at = position(program, places, memory, o);
-        step_children(pass, program, at, memory, table, o);
-    }
-}
-
-// Whether a pass may leave n for a deployment.
-fn fitting(pass: Pass, n: u8) -> bool
-    ensures { λ r. ⌜ r ≡ W.fits pass n ⌝ }
-{
-    match pass {
-        Pass::Names => n == 2,
-        Pass::Depths => n <= MOST_DEPTH,
-    }
-}
-
-// The lowest deployment but main that a pass has left unfit; 0 if none.
-pub(crate) fn lowest_unfit(pass: Pass, program: &[u8], memory: &[u32], table: &[u8], u: u32) -> u32
-    requires { ⌜ W.Tiling (now program) (now memory) u M.mainAt ⌝ }
-    requires { ⌜ M.mainAt < u ⌝ }
-    ensures { λ r. ⌜ r ≡ W.lowestUnfit (now (program .entry)) (now (memory .entry)) pass (now (table .entry)) u ⌝ }
-{
-    let mut a = following(program, memory, u, MAIN_AT);
-    while a < u {
-        let o = a;
-        a = following(program, memory, u, a);
-        if !fitting(pass, entry(table, o)) {
-            return o;
-        }
-    }
-    0
 }

@@ -10,6 +10,7 @@ mod children;
 mod commands;
 mod deployment;
 mod own;
+mod passes;
 mod soundness;
 mod table;
 mod tiling;
@@ -53,8 +54,10 @@ pub enum Judged {
     Unsound(usize),
 }
 
-// The two passes over the children of each deployment: how often each is named, and how deep it is.
+// The three passes of soundness over the deployments: where each begins, how often each is named, how
+// deep each is.
 pub enum Pass {
+    Starts,
     Names,
     Depths,
 }

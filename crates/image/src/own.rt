@@ -6,8 +6,6 @@ use crate::commands::slot_of;
 use crate::deployment::content;
 use crate::deployment::mark;
 use crate::table::is_start;
-use crate::tiling::following;
-use crate::words::MAIN_AT;
 use crate::words::next;
 use crate::words::reactor;
 use crate::words::wired;
@@ -100,8 +98,15 @@ fn first_wrong(program: &[u8], at: u32, memory: &[u32], table: &[u8], o: u32) ->
 }
 
 // Whether the deployment at a is wired, its slots right.
-fn own_sound(program: &[u8], at: u32, memory: &[u32], table: &[u8], a: u32) -> bool
-    requires { ⌜ at ≡ B.commandsAt (now program) (M.reactor (now memory) a) ⌝ }
+pub(crate) fn own_sound(
+    program: &[u8],
+    places: &[u32],
+    memory: &[u32],
+    table: &[u8],
+    a: u32,
+) -> bool
+    requires { ⌜ W.Positions (now program) (now places) ⌝ }
+    requires { ⌜ M.reactor (now memory) a < B.reactors (now program) ⌝ }
     ensures { λ r. ⌜ r ≡ P.ownSound (now (program .entry)) (now (memory .entry)) (now (table .entry)) a ⌝ }
 {
     if wired(memory, a) != 1 {
@@ -110,30 +115,7 @@ fn own_sound(program: &[u8], at: u32, memory: &[u32], table: &[u8], a: u32) -> b
     if !clear_at(program, memory, a) {
         return false;
     }
+    let at = position(program, places, memory, a);
     let r = reactor(memory, a);
     first_wrong(program, at, memory, table, a) == wide_declared(program, r)
-}
-
-// The lowest deployment whose own words are wrong; 0 if none.
-pub(crate) fn lowest_unsound(
-    program: &[u8],
-    places: &[u32],
-    memory: &[u32],
-    table: &[u8],
-    u: u32,
-) -> u32
-    requires { ⌜ W.Positions (now program) (now places) ⌝ }
-    requires { ⌜ W.Tiling (now program) (now memory) u M.mainAt ⌝ }
-    ensures { λ r. ⌜ r ≡ P.lowest (P.ownSound (now (program .entry)) (now (memory .entry)) (now (table .entry))) (W.startsOn (now (program .entry)) (now (memory .entry)) u M.mainAt) ⌝ }
-{
-    let mut a = MAIN_AT;
-    while a < u {
-        let o = a;
-        a = following(program, memory, u, a);
-        let at = position(program, places, memory, o);
-        if !own_sound(program, at, memory, table, o) {
-            return o;
-        }
-    }
-    0
 }

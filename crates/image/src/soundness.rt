@@ -1,29 +1,20 @@
-// Soundness of an image: document 01, "An image is sound for a program if ..". Forward passes over
-// the deployments, with one table of bytes.
+// Soundness of an image: document 01, "An image is sound for a program if ..".
 use crate::Judged;
 use crate::Pass;
-use crate::children::lowest_unfit;
-use crate::children::step_all;
 use crate::commands::fill_positions;
-use crate::own::lowest_unsound;
-use crate::table::put_entry;
-use crate::tiling::mark_starts;
+use crate::passes::run_pass;
 use crate::tiling::tiles;
 use crate::words::MAIN_AT;
 use crate::words::MOST_TURNS;
-use crate::words::MOST_WORDS;
 use crate::words::next;
 use crate::words::reactor;
 use crate::words::turns;
 use crate::words::used;
 use crate::words::wired;
-use crate::zero::wipe_bytes;
 use crate::zero::zero_at;
 use program::main_of;
 use program::wide_size_of;
 ghost use mathlib.Core.Path.{_≡_};
-ghost use Prim.Native.Nat.{_<_};
-ghost use lib.ListN.{length, replicate};
 ghost use Rattle.value.specs.Test.{_and_, _<?_, _=?_};
 ghost use Rattle.program.specs.Bytes as B;
 ghost use Rattle.image.specs.Answer as N;
@@ -72,49 +63,20 @@ fn fresh_sound(program: &[u8], memory: &[u32]) -> bool
         & zero_at(memory, MAIN_AT as usize + 3, (size - 3) as usize)
 }
 
-// Whether each deployment's own words are right, and each but main is named exactly once. The table
-// has the starts marked.
-fn named_sound(program: &[u8], places: &[u32], memory: &[u32], table: &mut [u8], u: u32) -> bool
-    requires { ⌜ W.Positions (now program) (now places) ⌝ }
-    requires { ⌜ W.Tiling (now program) (now memory) u M.mainAt ⌝ }
-    requires { ⌜ M.mainAt < u ⌝ }
-    ensures { λ r. ⌜ r ≡ W.namedOf (now (program .entry)) (now (memory .entry)) (now (table .entry)) u ⌝ }
-{
-    if lowest_unsound(program, places, memory, table, u) != 0 {
-        return false;
-    }
-    step_all(Pass::Names, program, places, memory, table, u);
-    lowest_unfit(Pass::Names, program, memory, table, u) == 0
-}
-
-// Whether no deployment is deeper than 64. The table is used anew.
-fn shallow(program: &[u8], places: &[u32], memory: &[u32], table: &mut [u8], u: u32) -> bool
-    requires { ⌜ length (now table) ≡ M.mostWords ⌝ }
-    requires { ⌜ W.Positions (now program) (now places) ⌝ }
-    requires { ⌜ W.Tiling (now program) (now memory) u M.mainAt ⌝ }
-    requires { ⌜ M.mainAt < u ⌝ }
-    ensures { λ r. ⌜ r ≡ W.shallowOf (now (program .entry)) (now (memory .entry)) u ⌝ }
-{
-    wipe_bytes(table);
-    put_entry(table, MAIN_AT, 1);
-    step_all(Pass::Depths, program, places, memory, table, u);
-    lowest_unfit(Pass::Depths, program, memory, table, u) == 0
-}
-
-// With turns above 0: whether all deployments are wired, named once and right.
+// With turns above 0: whether all deployments are wired, right, named once and no deeper than 64.
 fn grown_sound(program: &[u8], memory: &[u32], u: u32) -> bool
     requires { ⌜ W.Tiling (now program) (now memory) u M.mainAt ⌝ }
-    requires { ⌜ M.mainAt < u ⌝ }
     ensures { λ r. ⌜ r ≡ W.grownOf (now (program .entry)) (now (memory .entry)) u ⌝ }
 {
     let mut places = [0u32; 256];
     fill_positions(program, &mut places);
-    let mut table = [0u8; MOST_WORDS];
-    mark_starts(program, memory, &mut table, u);
-    if !named_sound(program, &places, memory, &mut table, u) {
+    if run_pass(Pass::Starts, program, &places, memory, u) != 0 {
         return false;
     }
-    shallow(program, &places, memory, &mut table, u)
+    if run_pass(Pass::Names, program, &places, memory, u) != 0 {
+        return false;
+    }
+    run_pass(Pass::Depths, program, &places, memory, u) == 0
 }
 
 // The verdict; every fault's place is 0.

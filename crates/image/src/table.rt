@@ -1,31 +1,54 @@
-// Tables of bytes, a byte for each word of memory. Of starts and names: 0 no deployment begins here,
-// 1 one does that nothing names, 2 named once, 3 named more often. Of depths: the depth, 65 and more
-// as 65.
+// Tables of bytes, a byte for each three words of memory. A deployment takes three words or more, so
+// that no two begin in the same three.
 use program::byte;
 ghost use mathlib.Core.Path.{_≡_};
-ghost use lib.ListN.{getD, set};
+ghost use lib.ListN.{set};
 ghost use Rattle.image.specs.Passes as P;
-ghost use Rattle.image.specs.Walk as W;
 
-// The entry at `i`, and 0 past the end.
-pub(crate) fn entry(table: &[u8], i: u32) -> u8
-    ensures { λ r. ⌜ r ≡ getD (now (table .entry)) i 0 ⌝ }
-{
-    byte(table, i as usize)
-}
+// 16,384 words, rounded up.
+pub(crate) const TABLE_BYTES: usize = 5462;
 
 // Stores v at `i`, and nothing past the end.
-pub(crate) fn put_entry(table: &mut [u8], i: u32, v: u8)
-    ensures { λ _. ⌜ now (table .exit) ≡ set (now (table .entry)) i v ⌝ }
+pub(crate) fn put_byte(bytes: &mut [u8], i: usize, v: u8)
+    ensures { λ _. ⌜ now (bytes .exit) ≡ set (now (bytes .entry)) i v ⌝ }
 {
-    if (i as usize) < table.len() {
-        table[i as usize] = v;
+    if i < bytes.len() {
+        bytes[i] = v;
     }
+}
+
+// The entry of the deployment at c, and 0 past the end.
+pub(crate) fn entry(table: &[u8], c: u32) -> u8
+    ensures { λ r. ⌜ r ≡ P.entry (now (table .entry)) c ⌝ }
+{
+    byte(table, (c / 3) as usize)
+}
+
+// Makes it v; does nothing past the end.
+pub(crate) fn put_entry(table: &mut [u8], c: u32, v: u8)
+    ensures { λ _. ⌜ now (table .exit) ≡ P.withEntry (now (table .entry)) c v ⌝ }
+{
+    put_byte(table, (c / 3) as usize, v)
+}
+
+// What marks a start: in which of its three words it is.
+fn start_byte(c: u32) -> u8
+    ensures { λ r. ⌜ r ≡ P.startByte c ⌝ }
+{
+    1 + (c % 3) as u8
+}
+
+// Marks that a deployment begins at o.
+pub(crate) fn mark_start(table: &mut [u8], o: u32)
+    ensures { λ _. ⌜ now (table .exit) ≡ P.withEntry (now (table .entry)) o (P.startByte o) ⌝ }
+{
+    let b = start_byte(o);
+    put_entry(table, o, b)
 }
 
 // Whether a deployment begins at c.
 pub(crate) fn is_start(table: &[u8], c: u32) -> bool
     ensures { λ r. ⌜ r ≡ P.isStart (now (table .entry)) c ⌝ }
 {
-    0 < entry(table, c)
+    entry(table, c) == start_byte(c)
 }

@@ -1,12 +1,11 @@
 // The deployments one after the other: they tile the words from 2 to u.
 use crate::deployment::size_at;
-use crate::table::put_entry;
 use crate::words::MAIN_AT;
 use crate::words::reactor;
 use program::reactors;
 ghost use mathlib.Core.Path.{_≡_};
 ghost use Prim.Native.Nat.{_≤_, _<_};
-ghost use lib.ListN.{length, set};
+ghost use lib.ListN.{length};
 ghost use Rattle.image.specs.Memory as M;
 ghost use Rattle.image.specs.Passes as P;
 ghost use Rattle.image.specs.Walk as W;
@@ -38,17 +37,4 @@ pub(crate) fn following(program: &[u8], memory: &[u32], u: u32, a: u32) -> u32
     ensures { λ b. ⌜ W.Follows (now (program .entry)) (now (memory .entry)) u a b ⌝ }
 {
     a + size_at(program, memory, a)
-}
-
-// Marks where each deployment begins.
-pub(crate) fn mark_starts(program: &[u8], memory: &[u32], table: &mut [u8], u: u32)
-    requires { ⌜ W.Tiling (now program) (now memory) u M.mainAt ⌝ }
-    ensures { λ _. ⌜ now (table .exit) ≡ P.over (λ t a. set t a 1) (now (table .entry)) (W.startsOn (now (program .entry)) (now (memory .entry)) u M.mainAt) ⌝ }
-{
-    let mut a = MAIN_AT;
-    while a < u {
-        let o = a;
-        a = following(program, memory, u, a);
-        put_entry(table, o, 1);
-    }
 }

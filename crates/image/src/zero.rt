@@ -41,14 +41,3 @@ pub fn wipe(words: &mut [u32])
         i += 1;
     }
 }
-
-// Zeroes all bytes.
-pub(crate) fn wipe_bytes(bytes: &mut [u8])
-    ensures { λ _. ⌜ now (bytes .exit) ≡ replicate (length (now (bytes .entry))) 0 ⌝ }
-{
-    let mut i = 0;
-    while i < bytes.len() {
-        bytes[i] = 0;
-        i += 1;
-    }
-}

@@ -11,18 +11,19 @@ use Rattle.value.proofs.Tests.{lt!, lt×, lt?, eq!, eq?, both!, both?, goes, st
 use Rattle.program.specs.Bytes.{reactors, mostReactors, shapeOf}
 use Rattle.image.specs.Memory.{used, reactor, next}
 use Rattle.image.specs.Sound.{Deployed, OnChain, head, tail, Chain, empty, link}
-use Rattle.image.specs.Passes.{startTable, chainFrom, membersFrom}
+use Rattle.image.specs.Passes.{chainFrom, membersFrom}
+use Rattle.image.specs.declared.Pass.the-variants.{Starts}
 use Rattle.image.proofs.Chains.{members-end, members-next}
 use Rattle.image.proofs.Memory.Tiles.{in-to}
 use Rattle.image.proofs.Memory.Distinct.{Members, end, one, few-members}
 use Rattle.image.proofs.Exact.Lists.{_∈_, same, total, is, is-same, is-other, count, count-none}
 use Rattle.image.proofs.Exact.Tables.{zeros-at}
-use Rattle.image.proofs.Exact.Tiling.{Laid, starts, start-test, deployed-reactor}
+use Rattle.image.proofs.Exact.Tiling.{Laid, tableOf, start-test, deployed-reactor}
 
 module _ (p m : List ℕ) where
   -- the test accepts the chain from c, after an index `last` and the reactors of `seen`: o is the owner, s the shape, f the steps
   abbrev pub Accepts : ℕ → ℕ → ℕ → ℕ → List ℕ → ℕ → Type 0
-  Accepts o s f last seen c = chainFrom p m f (startTable (starts p m)) o s last seen c ≡ true
+  Accepts o s f last seen c = chainFrom p m f (tableOf p m Starts) o s last seen c ≡ true
 
   -- what the test asks of a link, and of what follows it
   pub record Linked (o s f last : ℕ) (seen : List ℕ) (c : ℕ) : Type 0 where

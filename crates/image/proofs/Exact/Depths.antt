@@ -1,24 +1,24 @@
 -- Depths: the table of depths against `Depth`. Owners stand below their children and the pass goes upward, so that an owner's entry is final
 -- when its children's are made.
-use Prim.Native.Nat.{ℕ, zero, suc, _+_, _≤_, _<_}
+use Prim.Native.Nat.{ℕ, zero, suc, _+_, _/_, _≤_, _<_}
 use mathlib.Core.Path.{_≡_, refl, sym, _∙_, ap, subst}
 use mathlib.Core.Bool.{true}
 use mathlib.Core.Logic.{_↔_, _≢_}
 use mathlib.Core.List.{List, List·Memᴰ·head as first, List·Memᴰ·tail as later}
 use native.Mathlib.Omega.{arith}
-use lib.ListN.{length, getD, set, replicate, length-set, length-replicate}
-use lib.Seq.{getD-set-same, getD-set-other}
+use lib.ListN.{length}
 use Rattle.value.specs.Test.{pick, _≤?_}
 use Rattle.value.proofs.Tests.{cases, le!, le?, yes, no}
-use Rattle.image.specs.Memory.{mostWords, mostDepth, mainAt}
+use Rattle.image.specs.Memory.{mostDepth, mainAt}
 use Rattle.image.specs.Sound.{Deployed, Owner, NamedOnce, Depth, top, child}
-use Rattle.image.specs.Passes.{over, below, childrenOf, depthTable}
+use Rattle.image.specs.Passes.{over, entry, blankTable, below, deepen, childrenOf, visit, tableAfter, fits}
+use Rattle.image.specs.declared.Pass.the-variants.{Depths}
 use Rattle.image.proofs.Exact.Lists.{_∈_, same, Rising, rises, rising-from}
-use Rattle.image.proofs.Exact.Tables.{over-keeps, writes, writes-length, writes-keep, writes-set}
-use Rattle.image.proofs.Exact.Tiling.{Laid, starts, start-in, start-rising, deployed-small}
+use Rattle.image.proofs.Exact.Tables.{over-keeps, entry-other, blank-main, writes, writes-length, writes-keep, writes-set}
+use Rattle.image.proofs.Exact.Tiling.{Laid, starts, tableOf, start-in, start-rising, main-deployed, deployed-one, deployed-entry}
 use Rattle.image.proofs.Memory.Tiles.{in-ge}
 use Rattle.image.proofs.Exact.SlotTests.{SlotsRight}
-use Rattle.image.proofs.Exact.Names.{owner-above, owner-child, child-owner}
+use Rattle.image.proofs.Exact.Names.{owner-above, owner-child, child-owner, child-above}
 
 -- ---- one deeper
 
@@ -34,14 +34,14 @@ below-most v h = cases (v ≤? mostDepth) (λ e. le? e) (λ e. let q : v ≡ pic
 
 -- what is written for each child of o
 abbrev deeper : ℕ → List ℕ → ℕ → ℕ
-deeper o t c = below (getD t o 0)
+deeper o t c = below (entry t o)
 
 -- the entry of a child is one deeper than its owner's, which is kept
-deeper-set : (o d : ℕ) (l t : List ℕ) → (o ∈ l → ⊥) → d < length t → d ∈ l →
-    getD (over (writes (deeper o)) t l) d 0 ≡ below (getD t o 0)
+deeper-set : (o d : ℕ) (l t : List ℕ) → ((a : ℕ) → a ∈ l → o / 3 ≢ a / 3) → d / 3 < length t → d ∈ l →
+    entry (over (writes (deeper o)) t l) d ≡ below (entry t o)
 deeper-set o d l t h =
-    writes-set (deeper o) (λ (s : List ℕ). getD s o 0 ≡ getD t o 0) (below (getD t o 0)) d l t
-    (λ s a i e. getD-set-other s a o _ 0 (λ q. h (subst (λ (x : ℕ). x ∈ l) (sym q) i)) ∙ e) (λ s a i e. ap below e) refl
+    writes-set (deeper o) (λ (s : List ℕ). entry s o ≡ entry t o) (below (entry t o)) d l t
+    (λ s a i e. entry-other s a _ o (h a i) ∙ e) (λ s a i q e. ap below e) refl
 
 -- ---- all owners
 
@@ -50,100 +50,87 @@ module _ (p m : List ℕ) (laid : Laid p m) (right : (o : ℕ) → Deployed p m 
   abbrev level : List ℕ → ℕ → List ℕ
   level t o = over (writes (deeper o)) t (childrenOf p m o)
 
-  child-above : {o d : ℕ} → Deployed p m o → d ∈ childrenOf p m o → o < d
-  child-above h i = owner-above p m laid right (child-owner p m laid right h i .1) .1
+  -- what is no child of o begins in other words than all of them
+  children-apart : {d o : ℕ} → Deployed p m d → Deployed p m o → (d ∈ childrenOf p m o → ⊥) → (a : ℕ) → a ∈ childrenOf p m o → d / 3 ≢ a / 3
+  children-apart {d} {o} h g n a i e =
+      n (subst (λ (x : ℕ). x ∈ childrenOf p m o) (sym (deployed-one p m laid h (child-above p m laid right g i .0) e)) i)
 
-  levels-keep : (d : ℕ) (l t : List ℕ) → ((o : ℕ) → o ∈ l → d ∈ childrenOf p m o → ⊥) → getD (over level t l) d 0 ≡ getD t d 0
-  levels-keep d l t h =
-      over-keeps level (λ (s : List ℕ). getD s d 0 ≡ getD t d 0) l t (λ s o i e. writes-keep (deeper o) d (childrenOf p m o) s (h o i) ∙ e) refl
+  levels-keep : {d : ℕ} → Deployed p m d → (l t : List ℕ) → ((o : ℕ) → o ∈ l → Deployed p m o) → ((o : ℕ) → o ∈ l → d ∈ childrenOf p m o → ⊥) →
+      entry (over level t l) d ≡ entry t d
+  levels-keep {d} k l t dep h =
+      over-keeps level (λ (s : List ℕ). entry s d ≡ entry t d) l t
+      (λ s o i e. writes-keep (deeper o) d (childrenOf p m o) s (children-apart k (dep o i) (h o i)) ∙ e) refl
 
   -- the last word on a child that has one owner: one deeper than the last word on that
-  levels-set : (d o : ℕ) {b : ℕ} {l : List ℕ} (t : List ℕ) → Rising b l → ((a : ℕ) → a ∈ l → Deployed p m a) →
-      ((a : ℕ) → a ∈ l → d ∈ childrenOf p m a → a ≡ o) → d < length t → d ∈ childrenOf p m o → o ∈ l →
-      getD (over level t l) d 0 ≡ below (getD (over level t l) o 0)
+  levels-set : {d : ℕ} → Deployed p m d → (o : ℕ) {b : ℕ} {l : List ℕ} (t : List ℕ) → Rising b l → ((a : ℕ) → a ∈ l → Deployed p m a) →
+      ((a : ℕ) → a ∈ l → d ∈ childrenOf p m a → a ≡ o) → d / 3 < length t → d ∈ childrenOf p m o → o ∈ l →
+      entry (over level t l) d ≡ below (entry (over level t l) o)
   unfolding over
-  levels-set d o t (rises {b = a} {l = l} h r) dep only g i (first e) =
-      let own : a ∈ childrenOf p m a → ⊥ = (λ k. omega (arith, child-above (dep a (first refl)) k)) in
-      levels-keep d l (level t a) (λ b j k. omega (arith, rising-from r j, only b (later j) k))
+  levels-set {d} y o t (rises {b = a} {l = l} h r) dep only g i (first e) =
+      let z = dep a (first refl) in
+      let own = children-apart z z (λ k. omega (arith, child-above p m laid right z k .1)) in
+      levels-keep y l (level t a) (λ b j. dep b (later j)) (λ b j k. omega (arith, rising-from r j, only b (later j) k))
       ∙ deeper-set a d (childrenOf p m a) t own g (subst (λ (x : ℕ). d ∈ childrenOf p m x) e i)
       ∙ ap below
       (sym (writes-keep (deeper a) a (childrenOf p m a) t own)
-      ∙ sym (levels-keep a l (level t a) (λ b j k. omega (arith, rising-from r j, child-above (dep b (later j)) k)))
-      ∙ ap (λ (x : ℕ). getD (over level (level t a) l) x 0) (sym e))
-  levels-set d o t (rises {b = a} {l = l} h r) dep only g i (later k) =
-      levels-set d o (level t a) r (λ x j. dep x (later j)) (λ x j. only x (later j)) (rw (writes-length (deeper a) (childrenOf p m a) t) g) i k
+      ∙ sym (levels-keep z l (level t a) (λ b j. dep b (later j)) (λ b j k. omega (arith, rising-from r j, child-above p m laid right (dep b (later j)) k .1)))
+      ∙ ap (entry (over level (level t a) l)) (sym e))
+  levels-set y o t (rises {b = a} {l = l} h r) dep only g i (later k) =
+      levels-set y o (level t a) r (λ x j. dep x (later j)) (λ x j. only x (later j)) (rw (writes-length (deeper a) (childrenOf p m a) t) g) i k
 
   -- ---- the table
 
-  -- the first table: main is at depth 1
-  begun : ℕ → List ℕ
-  begun n = set (replicate n 0) mainAt 1
+  deep : ℕ → ℕ
+  deep d = entry (over level blankTable (starts p m)) d
 
-  begun-length : (n : ℕ) → length (begun n) ≡ n
-  unfolding begun
-  begun-length n = length-set (replicate n 0) mainAt 1 ∙ length-replicate {A = ℕ} n 0
+  deep-table : (d : ℕ) → entry (tableOf p m Depths) d ≡ deep d
+  unfolding deep tableAfter visit deepen
+  deep-table d = refl
 
-  begun-main : (n : ℕ) → mainAt < n → getD (begun n) mainAt 0 ≡ 1
-  unfolding begun
-  begun-main n h = getD-set-same (replicate n 0) mainAt 1 0 (rw length-replicate h)
+  started : (a : ℕ) → a ∈ starts p m → Deployed p m a
+  started a i = start-in p m laid a .0 i
 
-  entry : ℕ → ℕ
-  entry d = getD (over level (begun mostWords) (starts p m)) d 0
-
-  entry-table : (d : ℕ) → getD (depthTable p m (starts p m)) d 0 ≡ entry d
-  unfolding entry depthTable begun
-  entry-table d = refl
-
-  entry-main : entry mainAt ≡ 1
-  unfolding entry
-  entry-main =
-      levels-keep mainAt (starts p m) (begun mostWords) (λ o i k. let s = start-in p m laid o .0 i in omega (arith, in-ge p s, child-above s k))
-      ∙ begun-main mostWords (omega arith)
+  deep-main : deep mainAt ≡ 1
+  unfolding deep
+  deep-main =
+      levels-keep (main-deployed p m laid) (starts p m) blankTable started
+      (λ o i k. omega (arith, in-ge p (started o i), child-above p m laid right (started o i) k .1))
+      ∙ blank-main
 
   module _ (named : (d : ℕ) → Deployed p m d → d ≢ mainAt → NamedOnce p m d) where
-    entry-child : {o j d : ℕ} → Owner p m o j d → entry d ≡ below (entry o)
-    unfolding entry
-    entry-child {o} {j} {d} w =
+    deep-child : {o j d : ℕ} → Owner p m o j d → deep d ≡ below (deep o)
+    unfolding deep
+    deep-child {o} {j} {d} w =
         let k = owner-above p m laid right w in
         let once = named d (k .0) (omega (arith, k .1, in-ge p (w .deployed))) in
-        levels-set d o (begun mostWords) (start-rising p m laid) (λ a i. start-in p m laid a .0 i)
-        (λ a i c.
-        let s = start-in p m laid a .0 i in
-        let n = child-owner p m laid right s c in
-        once .only a (n .0) (n .1) .0 ∙ sym (once .only o j w .0))
-        (omega (arith, begun-length mostWords, deployed-small p m laid (k .0)))
-        (owner-child p m laid right w)
-        (start-in p m laid o .1 (w .deployed))
+        levels-set (k .0) o blankTable (start-rising p m laid) started
+        (λ a i c. let n = child-owner p m laid right (started a i) c in once .only a (n .0) (n .1) .0 ∙ sym (once .only o j w .0))
+        (deployed-entry p m laid (k .0)) (owner-child p m laid right w) (start-in p m laid o .1 (w .deployed))
 
     -- by the index: an owner's is lower
-    depth? : (n d : ℕ) → d < n → Deployed p m d → entry d ≤ mostDepth → Depth p m d (entry d)
+    depth? : (n d : ℕ) → d < n → Deployed p m d → deep d ≤ mostDepth → Depth p m d (deep d)
     depth? zero d l h g = absurd (omega arith)
     depth? (suc n) d l h g =
         same d mainAt
-        (λ e. subst (λ (x : ℕ). Depth p m x (entry x)) (sym e) (subst (Depth p m mainAt) (sym entry-main) top))
+        (λ e. subst (λ (x : ℕ). Depth p m x (deep x)) (sym e) (subst (Depth p m mainAt) (sym deep-main) top))
         (λ e.
         let once = named d h e in
         let w = once .named in
         let k = owner-above p m laid right w in
-        let q = entry-child w in
-        let small = below-most (entry (once .owner)) (omega arith) in
+        let q = deep-child w in
+        let small = below-most (deep (once .owner)) (omega arith) in
         subst (Depth p m d) (sym (q ∙ below-more small))
         (child (once .command) w (depth? n (once .owner) (omega (arith, k .1)) (w .deployed) small)))
 
-    depth! : {d k : ℕ} → Depth p m d k → k ≤ mostDepth → entry d ≡ k
-    depth! top l = entry-main
+    depth! : {d k : ℕ} → Depth p m d k → k ≤ mostDepth → deep d ≡ k
+    depth! top l = deep-main
     depth! (child {o = o} {k = k} j w r) l =
-        let e : entry o ≡ k = depth! r (omega arith) in
-        entry-child w ∙ ap below e ∙ below-more (omega arith)
+        let e : deep o ≡ k = depth! r (omega arith) in
+        deep-child w ∙ ap below e ∙ below-more (omega arith)
 
-    pub depth-test : ((d : ℕ) → Deployed p m d → d ≢ mainAt → (getD (depthTable p m (starts p m)) d 0 ≤? mostDepth) ≡ true) ↔
-        ((d : ℕ) → Deployed p m d → (k : ℕ) × Depth p m d k × (k ≤ mostDepth))
-    depth-test = (
-      λ h d i.
-          same d mainAt
-          (λ e. (1, subst (λ (x : ℕ). Depth p m x 1) (sym e) top, omega arith))
-          (λ e.
-          let l : entry d ≤ mostDepth = omega (arith, entry-table d, le? (h d i e)) in
-          (entry d, depth? (suc d) d (omega arith) i l, l)),
-      λ h d i n. let r = h d i in le! (omega (arith, entry-table d, depth! (r .1) (r .2))),
+    pub depth-test : {d : ℕ} → Deployed p m d → (fits p m Depths (tableOf p m Depths) d ≡ true) ↔ ((k : ℕ) × Depth p m d k × (k ≤ mostDepth))
+    unfolding fits
+    depth-test {d} i = (
+      λ h. let l : deep d ≤ mostDepth = omega (arith, deep-table d, le? h) in (deep d, depth? (suc d) d (omega arith) i l, l),
+      λ r. le! (omega (arith, deep-table d, depth! (r .1) (r .2))),
     )

@@ -1,5 +1,5 @@
 -- Lists of indices: membership, rising lists, sums over a list, how often a number occurs, lists joined. Nothing here speaks of memory.
-use Prim.Native.Nat.{ℕ, zero, suc, _+_, _≤_, _<_}
+use Prim.Native.Nat.{ℕ, zero, suc, _+_, _/_, _≤_, _<_}
 use mathlib.Core.Path.{_≡_, refl, sym, subst}
 use mathlib.Core.Logic.{_↔_, ⊎-elim, _≢_}
 use mathlib.Core.List.{List, [], _∷_, _++_, List·Memᴰ, List·Memᴰ·head as first, List·Memᴰ·tail as later, List·Memᴰ·cases-cons as in-cons, List·Memᴰ·not-nil as in-nil, List·Memᴰ·append-cases as in-append, Memᴰ·append-left as in-left, Memᴰ·append-right as in-right}
@@ -22,6 +22,13 @@ each P b l = (
   λ h. (h b (first refl), λ a i. h a (later i)),
   λ h a i. ⊎-elim (λ e. subst P (sym e) (h .0)) (λ k. h .1 a k) (in-cons i),
 )
+
+-- by cases on whether a number of the list is of the same three as d
+pub near : {C : Type 0} (d : ℕ) (l : List ℕ) → ((a : ℕ) → a ∈ l → d / 3 ≡ a / 3 → C) → (((a : ℕ) → a ∈ l → d / 3 ≢ a / 3) → C) → C
+near d [] f g = g (λ a i. absurd (in-nil i))
+near d (b ∷ l) f g =
+    same (d / 3) (b / 3) (f b (first refl))
+    (λ n. near d l (λ a i. f a (later i)) (λ h. g (each (λ (a : ℕ). d / 3 ≢ a / 3) b l .1 (n, h))))
 
 -- ---- rising lists
 
@@ -143,10 +150,6 @@ pub count-in : (d : ℕ) (l : List ℕ) → count d l ≢ 0 → d ∈ l
 unfolding total
 count-in d [] h = absurd (h refl)
 count-in d (a ∷ l) h = same d a (λ e. first e) (λ e. later (count-in d l (λ z. h (omega (arith, is-other {d = d} {a = a} (λ q. e (sym q)))))))
-
--- by cases on whether a number is in a list
-pub within : {C : Type 0} (d : ℕ) (l : List ℕ) → (d ∈ l → C) → ((d ∈ l → ⊥) → C) → C
-within d l f g = same (count d l) 0 (λ z. g (count-none d l .0 z)) (λ z. f (count-in d l z))
 
 pub count-most : (d : ℕ) (l : List ℕ) → count d l ≤ length l
 unfolding total

@@ -1,23 +1,24 @@
 -- Names: the lists of children against `Owner`, and the table that counts names against `NamedOnce`.
-use Prim.Native.Nat.{ℕ, zero, suc, _+_, _≤_, _<_, min}
+use Prim.Native.Nat.{ℕ, zero, suc, _+_, _/_, _≤_, _<_, min}
 use mathlib.Core.Path.{_≡_, refl, sym, _∙_, ap, subst}
 use mathlib.Core.Bool.{true}
 use mathlib.Core.Logic.{_↔_, _≢_}
-use mathlib.Core.List.{List, [], _∷_, _++_, List·Memᴰ·head as first, List·Memᴰ·not-nil as in-nil, List·Memᴰ·eq-of-singleton as in-one}
+use mathlib.Core.List.{List, [], _∷_, _++_, List·Memᴰ·head as first, List·Memᴰ·tail as later, List·Memᴰ·not-nil as in-nil, List·Memᴰ·eq-of-singleton as in-one}
 use native.Mathlib.Omega.{arith}
-use lib.ListN.{length, getD, length-set}
-use lib.Seq.{getD-set-other}
-use Rattle.value.specs.Test.{pick, _<?_, _=?_}
+use lib.ListN.{length}
+use Rattle.value.specs.Test.{pick, _<?_}
 use Rattle.value.proofs.Tests.{cases, lt?, lt×?, eq!, eq?, yes, no}
 use Rattle.program.specs.Bytes.{reactors, declared}
 use Rattle.program.specs.Command.{allocMono, makePoly, nothing, madeBy, cmdOf}
 use Rattle.program.specs.Location.{commandLoc}
-use Rattle.image.specs.Memory.{reactor, content}
-use Rattle.image.specs.Sound.{Deployed, Names, by-mono, by-point, Owner, NamedOnce}
-use Rattle.image.specs.Passes.{over, startTable, membersFrom, namedBy, childrenFrom, childrenOf, name, nameTable}
+use Rattle.image.specs.Memory.{mainAt, reactor, content}
+use Rattle.image.specs.Sound.{Deployed, Names as NamedBy, by-mono, by-point, Owner, NamedOnce}
+use Rattle.image.specs.Passes.{over, entry, blankTable, name, membersFrom, namedBy, childrenFrom, childrenOf, visit, tableAfter, fits}
+use Rattle.image.specs.declared.Pass.the-variants.{Names}
 use Rattle.image.proofs.Exact.Lists.{_∈_, same, from, from-in, from-rising, total, OneOf, total-one, is, is-same, is-other, count, count-none, count-in, count-most, flat, flat-in, count-flat}
-use Rattle.image.proofs.Exact.Tables.{over-flat, writes-here}
-use Rattle.image.proofs.Exact.Tiling.{Laid, starts, start-in, start-rising, start-entry, start-length, deployed-small}
+use Rattle.image.proofs.Exact.Tables.{over-flat, entry-near, entry-here, entry-other, entry-length, blank-main, blank-other}
+use Rattle.image.proofs.Exact.Tiling.{Laid, starts, tableOf, start-in, start-rising, main-deployed, deployed-one, deployed-entry}
+use Rattle.image.proofs.Memory.Tiles.{in-ge}
 use Rattle.image.proofs.Exact.Chains.{members, members-once}
 use Rattle.image.proofs.Memory.Slots.{names-above}
 use Rattle.image.proofs.Exact.SlotTests.{Makes, a-deployment, a-point, neither, makes, made-mono, made-point, SlotsRight}
@@ -67,15 +68,15 @@ module _ (p m : List ℕ) where
   -- ---- the lists of children
 
   module _ (laid : Laid p m) {o : ℕ} (right : SlotsRight p m o) {j : ℕ} (l : j < declared p (reactor m o)) where
-    owned-above : {d : ℕ} → Names p m o j d → (Deployed p m d × (o < d))
+    owned-above : {d : ℕ} → NamedBy p m o j d → (Deployed p m d × (o < d))
     owned-above k = names-above p (λ x e. right .monos j x l e) (λ x e. right .points j x l e) k
 
-    names-owned : {d : ℕ} → Names p m o j d → d ∈ owned o j
+    names-owned : {d : ℕ} → NamedBy p m o j d → d ∈ owned o j
     names-owned {d} (by-mono x e q) = subst (λ (k : List ℕ). d ∈ k) (sym (owned-mono o j e)) (first (sym q))
     names-owned {d} (by-point x e i) =
         subst (λ (k : List ℕ). d ∈ k) (sym (owned-point o j e)) (members p m laid o x d (right .points j x l e .chain) .1 i)
 
-    owned-names : (d : ℕ) → Makes (cmdOf p (reactor m o) j) → d ∈ owned o j → Names p m o j d
+    owned-names : (d : ℕ) → Makes (cmdOf p (reactor m o) j) → d ∈ owned o j → NamedBy p m o j d
     owned-names d (a-deployment x e) i = by-mono x e (sym (in-one (subst (λ (k : List ℕ). d ∈ k) (owned-mono o j e) i)))
     owned-names d (a-point x e) i =
         by-point x e (members p m laid o x d (right .points j x l e .chain) .0 (subst (λ (k : List ℕ). d ∈ k) (owned-point o j e) i))
@@ -107,6 +108,9 @@ module _ (p m : List ℕ) where
     child-owner {o} {d} h i =
         let k = flat-in d (owned o) (commands o) .0 (subst (λ (l : List ℕ). d ∈ l) (children-list o) i) in
         (k .0, owned-owner h (command-in o (k .0) .0 (k .1)) (k .2))
+
+    pub child-above : {o d : ℕ} → Deployed p m o → d ∈ childrenOf p m o → (Deployed p m d × (o < d))
+    child-above h i = owner-above (child-owner h i .1)
 
     -- ---- named once
 
@@ -149,47 +153,78 @@ module _ (p m : List ℕ) where
               count-none d (childrenOf p m a) .1 (λ e. let k = child-owner (start-in p m laid a .0 i) e in n (h .only a (k .0) (k .1) .0));
         })
 
-  -- ---- the table
+-- ---- the table
 
-  name-length : (t : List ℕ) (c : ℕ) → length (name p m t c) ≡ length t
-  unfolding name
-  name-length t c = length-set t c _
+-- one more, up to 2
+more : ℕ → ℕ
+more v = pick (v <? 2) (v + 1) 2
 
-  -- one more, up to 3
-  more : ℕ → ℕ
-  more v = pick (v <? 3) (v + 1) 3
+more-entry : (v : ℕ) → v ≤ 2 → more v ≡ min 2 (v + 1)
+unfolding more
+more-entry v h =
+    cases (v <? 2)
+    (λ e. let l : v < 2 = lt? e in sym (yes 2 e (omega arith)))
+    (λ e. let l : 2 ≤ v = lt×? e in sym (no (v + 1) e (omega arith)))
 
-  more-entry : (v : ℕ) → v ≤ 3 → more v ≡ min 3 (v + 1)
-  unfolding more
-  more-entry v h =
-      cases (v <? 3)
-      (λ e. let l : v < 3 = lt? e in sym (yes 3 e (omega arith)))
-      (λ e. let l : 3 ≤ v = lt×? e in sym (no (v + 1) e (omega arith)))
-
-  name-entry : (d a : ℕ) (t : List ℕ) → d < length t → getD t d 0 ≤ 3 → getD (name p m t a) d 0 ≡ min 3 (getD t d 0 + is d a)
+module _ (d : ℕ) where
+  name-entry : (a : ℕ) (t : List ℕ) → (d / 3 ≡ a / 3 → d ≡ a) → d / 3 < length t → entry t d ≤ 2 → entry (name t a) d ≡ min 2 (entry t d + is d a)
   unfolding name more
-  name-entry d a t h g =
-      same d a
+  name-entry a t one h g =
+      same (d / 3) (a / 3)
       (λ e.
-      let before : getD t d 0 ≡ getD t a 0 = ap (λ (x : ℕ). getD t x 0) e in
-      omega (arith, writes-here (λ s x. more (getD s x 0)) t e h, more-entry (getD t a 0) (omega arith), is-same {d = d} {a = a} (sym e)))
-      (λ e. omega (arith, getD-set-other t a d (more (getD t a 0)) 0 e, is-other {d = d} {a = a} (λ q. e (sym q))))
+      let before = entry-near t d a e in
+      omega (arith, entry-here t a (more (entry t a)) d e h, more-entry (entry t a) (omega arith), is-same {d = d} {a = a} (sym (one e))))
+      (λ n. omega (arith, entry-other t a (more (entry t a)) d n, is-other {d = d} {a = a} (λ q. n (ap (λ (x : ℕ). x / 3) (sym q)))))
 
-  -- an entry grows by the number of times that it is named, up to 3
-  names-entry : (d : ℕ) (l t : List ℕ) → d < length t → getD t d 0 ≤ 3 → getD (over (name p m) t l) d 0 ≡ min 3 (getD t d 0 + count d l)
+  name-length : (a : ℕ) (t : List ℕ) → length (name t a) ≡ length t
+  unfolding name
+  name-length a t = entry-length t a _
+
+  -- an entry grows by the number of times that it is named, up to 2, where no other of its three words is
+  names-entry : (l t : List ℕ) → ((a : ℕ) → a ∈ l → d / 3 ≡ a / 3 → d ≡ a) → d / 3 < length t → entry t d ≤ 2 →
+      entry (over name t l) d ≡ min 2 (entry t d + count d l)
   unfolding over total
-  names-entry d [] t h g = omega arith
-  names-entry d (a ∷ l) t h g =
-      let k = name-entry d a t h g in
-      omega (arith, names-entry d l (name p m t a) (rw name-length h) (omega arith))
+  names-entry [] t one h g = omega arith
+  names-entry (a ∷ l) t one h g =
+      let k = name-entry a t (one a (first refl)) h g in
+      omega (arith, names-entry l (name t a) (λ b i. one b (later i)) (rw name-length h) (omega arith))
 
-  pub named-test : Laid p m → ((o : ℕ) → Deployed p m o → SlotsRight p m o) → {d : ℕ} → Deployed p m d →
-      ((getD (nameTable p m (startTable (starts p m)) (starts p m)) d 0 =? 2) ≡ true) ↔ NamedOnce p m d
-  unfolding nameTable
-  named-test laid right {d} i =
-      let t = startTable (starts p m) in
-      let first = start-entry p m laid i in
-      let joined = ap (λ (s : List ℕ). getD s d 0) (over-flat (name p m) (childrenOf p m) (starts p m) t) in
-      let entry = names-entry d (flat (childrenOf p m) (starts p m)) t (omega (arith, start-length p m laid, deployed-small p m laid i)) (omega arith) in
-      let sum = count-flat d (childrenOf p m) (starts p m) in
-      (λ e. once? laid right d (omega (arith, eq? e)), λ h. eq! (omega (arith, once! laid right d h)))
+module _ (p m : List ℕ) (laid : Laid p m) (right : (o : ℕ) → Deployed p m o → SlotsRight p m o) where
+  -- all that is named
+  abbrev named : List ℕ
+  named = flat (childrenOf p m) (starts p m)
+
+  named-above : {d : ℕ} → d ∈ named → (Deployed p m d × (mainAt < d))
+  named-above {d} i =
+      let k = flat-in d (childrenOf p m) (starts p m) .0 i in
+      let o = start-in p m laid (k .0) .0 (k .1) in
+      let a = child-above p m laid right o (k .2) in
+      (a .0, omega (arith, in-ge p o, a .1))
+
+  named-entry : {d : ℕ} → Deployed p m d → entry blankTable d ≤ 2 → entry (tableOf p m Names) d ≡ min 2 (entry blankTable d + count d named)
+  unfolding tableAfter visit
+  named-entry {d} i g =
+      ap (λ (t : List ℕ). entry t d) (over-flat name (childrenOf p m) (starts p m) blankTable)
+      ∙ names-entry d named blankTable (λ a j. deployed-one p m laid i (named-above j .0)) (deployed-entry p m laid i) g
+
+  -- main begins as named once, and nothing names it
+  main-named : entry (tableOf p m Names) mainAt ≡ 1
+  main-named =
+      let none : count mainAt named ≡ 0 = count-none mainAt named .1 (λ i. omega (arith, named-above i .1)) in
+      omega (arith, blank-main, named-entry (main-deployed p m laid) (omega (arith, blank-main)))
+
+  other-named : {d : ℕ} → Deployed p m d → d ≢ mainAt → entry (tableOf p m Names) d ≡ min 2 (total (times p m d) (starts p m))
+  other-named {d} i n =
+      let blank = blank-other d (λ e. n (deployed-one p m laid i (main-deployed p m laid) e)) in
+      omega (arith, named-entry i (omega arith), count-flat d (childrenOf p m) (starts p m))
+
+  pub named-test : {d : ℕ} → Deployed p m d → (fits p m Names (tableOf p m Names) d ≡ true) ↔ (d ≢ mainAt → NamedOnce p m d)
+  unfolding fits
+  named-test {d} i = (
+    λ e n. once? p m laid right d (omega (arith, eq? e, other-named i n)),
+    λ h.
+        eq!
+        (same d mainAt
+        (λ e. ap (entry (tableOf p m Names)) e ∙ main-named)
+        (λ n. omega (arith, other-named i n, once! p m laid right d (h n)))),
+  )

@@ -13,8 +13,9 @@ use Rattle.program.specs.Command.{Cmd, allocMono, makePoly, constant, global, s
 use Rattle.program.specs.Location.{commandLoc, locations}
 use Rattle.image.specs.Memory.{used, reactor, wired, content, valueAt}
 use Rattle.image.specs.Sound.{Deployed, InD, MonoSlot, PointSlot}
-use Rattle.image.specs.Passes.{startTable, slotSound, ownSound}
-use Rattle.image.proofs.Exact.Tiling.{Laid, starts, start-test}
+use Rattle.image.specs.Passes.{slotSound, ownSound, fits}
+use Rattle.image.specs.declared.Pass.the-variants.{Starts}
+use Rattle.image.proofs.Exact.Tiling.{Laid, tableOf, start-test}
 use Rattle.image.proofs.Memory.Tiles.{in-to}
 use Rattle.image.proofs.Exact.Zeros.{clear}
 use Rattle.image.proofs.Exact.Chains.{chain}
@@ -85,7 +86,7 @@ module _ (p m : List ℕ) where
       by r j l c q (neither e) = subst (SlotRight o (commandLoc p (reactor m o) j)) (sym e) tt
 
   module _ (laid : Laid p m) where
-    slot-test : (o l : ℕ) (k : Made) → 0 < used m → (slotSound p m (startTable (starts p m)) o l k ≡ true) ↔ SlotRight o l k
+    slot-test : (o l : ℕ) (k : Made) → 0 < used m → (slotSound p m (tableOf p m Starts) o l k ≡ true) ↔ SlotRight o l k
     unfolding slotSound
     slot-test o l (deployment x) h = (
       λ e.
@@ -105,12 +106,12 @@ module _ (p m : List ℕ) where
         )
     slot-test o l nothing h = (λ e. tt, λ r. refl)
 
-    pub own-test : {o : ℕ} → Deployed p m o → (ownSound p m (startTable (starts p m)) o ≡ true) ↔ Own o
-    unfolding ownSound
+    pub own-test : {o : ℕ} → Deployed p m o → (fits p m Starts (tableOf p m Starts) o ≡ true) ↔ Own o
+    unfolding fits ownSound
     own-test {o} i =
         let r = reactor m o in
         let some : 0 < used m = omega (arith, in-to p i) in
-        let w = sweeps? (λ j. slotSound p m (startTable (starts p m)) o (commandLoc p r j) (madeBy (cmdOf p r j))) 0 (declared p r) (declared p r) (omega arith) in (
+        let w = sweeps? (λ j. slotSound p m (tableOf p m Starts) o (commandLoc p r j) (madeBy (cmdOf p r j))) 0 (declared p r) (declared p r) (omega arith) in (
           λ e.
               let a = both? e in
               let b = both? (a .1) in

@@ -1,15 +1,16 @@
 -- The folds of the passes: the lowest place at which a test fails, and tables changed for each of a list, entry by entry.
-use Prim.Native.Nat.{ℕ, zero, suc, _<_}
-use mathlib.Core.Path.{_≡_, refl, sym, _∙_, subst}
+use Prim.Native.Nat.{ℕ, zero, suc, _/_, _<_}
+use mathlib.Core.Path.{_≡_, refl, _∙_, ap}
 use mathlib.Core.Bool.{Bool, true}
-use mathlib.Core.Logic.{_↔_}
+use mathlib.Core.Logic.{_↔_, _≢_}
 use mathlib.Core.List.{List, [], _∷_, _++_, List·Memᴰ·head as first, List·Memᴰ·tail as later, List·Memᴰ·not-nil as in-nil}
 use native.Mathlib.Omega.{arith}
-use lib.ListN.{length, getD, set, replicate, length-set}
+use lib.ListN.{length, getD, set, replicate, length-set, length-replicate}
 use lib.Seq.{getD-set-same, getD-set-other}
 use Rattle.value.specs.Test.{_=?_}
 use Rattle.value.proofs.Tests.{eq!, eq?, guards}
-use Rattle.image.specs.Passes.{lowest, over}
+use Rattle.image.specs.Memory.{mainAt}
+use Rattle.image.specs.Passes.{tableBytes, lowest, over, entry, withEntry, blankTable}
 use Rattle.image.proofs.Lists.{over-append}
 use Rattle.image.proofs.Exact.Lists.{_∈_, same, each, flat}
 
@@ -47,36 +48,64 @@ module _ (f : List ℕ → ℕ → List ℕ) where
   over-flat g [] t = refl
   over-flat g (a ∷ l) t = over-flat g l (over f t (g a)) ∙ over-append f t (g a) (flat g l)
 
+-- ---- entries
+
+-- in the same three words
+pub entry-near : (t : List ℕ) (d a : ℕ) → d / 3 ≡ a / 3 → entry t d ≡ entry t a
+unfolding entry
+entry-near t d a e = ap (λ (i : ℕ). getD t i 0) e
+
+module _ (t : List ℕ) (a v : ℕ) where
+  pub entry-here : (d : ℕ) → d / 3 ≡ a / 3 → d / 3 < length t → entry (withEntry t a v) d ≡ v
+  unfolding entry withEntry
+  entry-here d e h = ap (λ (i : ℕ). getD (set t (a / 3) v) i 0) e ∙ getD-set-same t (a / 3) v 0 (omega arith)
+
+  pub entry-other : (d : ℕ) → d / 3 ≢ a / 3 → entry (withEntry t a v) d ≡ entry t d
+  unfolding entry withEntry
+  entry-other d n = getD-set-other t (a / 3) (d / 3) v 0 n
+
+  pub entry-length : length (withEntry t a v) ≡ length t
+  unfolding withEntry
+  entry-length = length-set t (a / 3) v
+
+pub blank-length : length blankTable ≡ tableBytes
+unfolding blankTable
+blank-length = entry-length (replicate tableBytes 0) mainAt 1 ∙ length-replicate {A = ℕ} tableBytes 0
+
+pub blank-main : entry blankTable mainAt ≡ 1
+unfolding blankTable
+blank-main = entry-here (replicate tableBytes 0) mainAt 1 mainAt refl (rw length-replicate (omega arith))
+
+pub blank-other : (d : ℕ) → d / 3 ≢ mainAt / 3 → entry blankTable d ≡ 0
+unfolding blankTable entry
+blank-other d n = entry-other (replicate tableBytes 0) mainAt 1 d n ∙ zeros-at tableBytes (d / 3)
+
 -- ---- one entry written for each of a list
 
 module _ (v : List ℕ → ℕ → ℕ) where
-  -- entry a written, by what the table is
+  -- the entry of a written, by what the table is
   abbrev pub writes : List ℕ → ℕ → List ℕ
-  writes t a = set t a (v t a)
+  writes t a = withEntry t a (v t a)
 
   pub writes-length : (l t : List ℕ) → length (over writes t l) ≡ length t
-  writes-length l t = over-length writes l t (λ s a. length-set s a (v s a))
+  writes-length l t = over-length writes l t (λ s a. entry-length s a (v s a))
 
-  pub writes-here : {d a : ℕ} (t : List ℕ) → d ≡ a → d < length t → getD (writes t a) d 0 ≡ v t a
-  writes-here {d} t e h = subst (λ (x : ℕ). getD (writes t x) d 0 ≡ v t x) e (getD-set-same t d (v t d) 0 h)
+  -- an entry of other words than the list's is kept
+  pub writes-keep : (d : ℕ) (l t : List ℕ) → ((a : ℕ) → a ∈ l → d / 3 ≢ a / 3) → entry (over writes t l) d ≡ entry t d
+  writes-keep d l t h = over-keeps writes (λ (s : List ℕ). entry s d ≡ entry t d) l t (λ s a i e. entry-other s a (v s a) d (h a i) ∙ e) refl
 
-  -- an entry that is not of the list is kept
-  pub writes-keep : (d : ℕ) (l t : List ℕ) → (d ∈ l → ⊥) → getD (over writes t l) d 0 ≡ getD t d 0
-  writes-keep d l t h =
-      over-keeps writes (λ (s : List ℕ). getD s d 0 ≡ getD t d 0) l t
-      (λ s a i e. getD-set-other s a d (v s a) 0 (λ q. h (subst (λ (x : ℕ). x ∈ l) (sym q) i)) ∙ e) refl
-
-  -- an entry of the list comes to x, if that is what is written while P holds, which is kept
+  -- an entry of the list comes to x, if that is what is written there while P holds, which is kept
   pub writes-set : (P : List ℕ → Type 0) (x d : ℕ) (l t : List ℕ) → ((s : List ℕ) (a : ℕ) → a ∈ l → P s → P (writes s a)) →
-      ((s : List ℕ) (a : ℕ) → a ∈ l → P s → v s a ≡ x) → P t → d < length t → d ∈ l → getD (over writes t l) d 0 ≡ x
+      ((s : List ℕ) (a : ℕ) → a ∈ l → d / 3 ≡ a / 3 → P s → v s a ≡ x) → P t → d / 3 < length t → d ∈ l → entry (over writes t l) d ≡ x
   unfolding over
   writes-set P x d (a ∷ l) t keeps gives k h (first e) =
-      over-keeps writes (λ (s : List ℕ). P s × (d < length s) × (getD s d 0 ≡ x)) l (writes t a)
+      let q : d / 3 ≡ a / 3 = ap (λ (n : ℕ). n / 3) e in
+      over-keeps writes (λ (s : List ℕ). P s × (d / 3 < length s) × (entry s d ≡ x)) l (writes t a)
       (λ s b i r. (
         keeps s b (later i) (r .0),
-        rw length-set (r .1),
-        same d b (λ q. writes-here s q (r .1) ∙ gives s b (later i) (r .0)) (λ q. getD-set-other s b d (v s b) 0 q ∙ r .2),
+        rw entry-length (r .1),
+        same (d / 3) (b / 3) (λ q. entry-here s b (v s b) d q (r .1) ∙ gives s b (later i) q (r .0)) (λ n. entry-other s b (v s b) d n ∙ r .2),
       ))
-      (keeps t a (first refl) k, rw length-set h, writes-here t e h ∙ gives t a (first refl) k) .2
+      (keeps t a (first refl) k, rw entry-length h, entry-here t a (v t a) d q h ∙ gives t a (first refl) q k) .2
   writes-set P x d (a ∷ l) t keeps gives k h (later i) =
-      writes-set P x d l (writes t a) (λ s b j. keeps s b (later j)) (λ s b j. gives s b (later j)) (keeps t a (first refl) k) (rw length-set h) i
+      writes-set P x d l (writes t a) (λ s b j. keeps s b (later j)) (λ s b j. gives s b (later j)) (keeps t a (first refl) k) (rw entry-length h) i

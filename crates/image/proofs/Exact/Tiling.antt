@@ -1,21 +1,23 @@
 -- Tiling: the test for it, the list of starts, and the table of starts, against `Tiles` and `Deployed`.
-use Prim.Native.Nat.{ℕ, zero, suc, _+_, _≤_, _<_}
-use mathlib.Core.Path.{_≡_, refl, sym, _∙_, subst}
+use Prim.Native.Nat.{ℕ, zero, suc, _+_, _/_, _≤_, _<_}
+use mathlib.Core.Path.{_≡_, refl, sym, _∙_, ap, subst}
 use mathlib.Core.Bool.{Bool, true, false, false≢true}
-use mathlib.Core.Logic.{_↔_, ⊎-elim}
+use mathlib.Core.Logic.{_↔_, ⊎-elim, _≢_}
 use mathlib.Core.List.{List, [], List·Memᴰ·head as first, List·Memᴰ·tail as later, List·Memᴰ·cases-cons as in-cons, List·Memᴰ·not-nil as in-nil}
 use native.Mathlib.Omega.{arith}
-use lib.ListN.{length, getD, replicate, length-replicate}
+use lib.ListN.{length}
 use Rattle.value.specs.Test.{_<?_}
 use Rattle.value.proofs.Tests.{cases, lt!, lt×, lt?, eq!, eq?, goes, stops, guards}
 use Rattle.program.specs.Bytes.{reactors, mostReactors}
 use Rattle.image.specs.Memory.{mostWords, mainAt, used, reactor, sizeAt, startsFrom, startsBelow}
 use Rattle.image.specs.Sound.{Tiles, done, more, In, here, there, Deployed}
-use Rattle.image.specs.Passes.{tilesFrom, startTable, isStart}
+use Rattle.image.specs.Passes.{entry, blankTable, startByte, isStart, tilesFrom, visit, tableAfter}
+use Rattle.image.specs.declared.Pass.{Pass}
+use Rattle.image.specs.declared.Pass.the-variants.{Starts}
 use Rattle.image.proofs.Tiles.{grows}
-use Rattle.image.proofs.Memory.Tiles.{in-ge, in-to, in-reactor}
-use Rattle.image.proofs.Exact.Lists.{_∈_, Rising, ends, rises, rising-low, within}
-use Rattle.image.proofs.Exact.Tables.{zeros-at, writes-length, writes-keep, writes-set}
+use Rattle.image.proofs.Memory.Tiles.{in-ge, in-to, in-reactor, three-unique}
+use Rattle.image.proofs.Exact.Lists.{_∈_, near, Rising, ends, rises, rising-low}
+use Rattle.image.proofs.Exact.Tables.{entry-near, blank-length, blank-other, writes-keep, writes-set}
 
 module _ (p m : List ℕ) where
   -- each deployment takes words, so that as many steps as there are words left are enough
@@ -71,10 +73,14 @@ pub record Laid (p m : List ℕ) : Type 0 where
   pub few : reactors p ≤ mostReactors
   pub small : length m ≤ mostWords
   pub fits : used m ≤ length m
+  pub some : mainAt < used m
   pub tiles : Tiles p m (used m) mainAt
 
 abbrev pub starts : List ℕ → List ℕ → List ℕ
 starts p m = startsBelow p m (used m)
+
+abbrev pub tableOf : List ℕ → List ℕ → Pass → List ℕ
+tableOf p m pass = tableAfter p m pass (starts p m)
 
 module _ (p m : List ℕ) (laid : Laid p m) where
   pub start-in : (d : ℕ) → (d ∈ starts p m) ↔ Deployed p m d
@@ -85,27 +91,36 @@ module _ (p m : List ℕ) (laid : Laid p m) where
   unfolding startsBelow
   start-rising = starts-rising p m (length m) (used m) mainAt
 
-  pub deployed-small : {d : ℕ} → Deployed p m d → d < mostWords
-  deployed-small i = omega (arith, in-to p i, laid .fits, laid .small)
+  pub main-deployed : Deployed p m mainAt
+  main-deployed = here (laid .some)
+
+  pub deployed-one : {d e : ℕ} → Deployed p m d → Deployed p m e → d / 3 ≡ e / 3 → d ≡ e
+  deployed-one {d} {e} i j q = three-unique p d e i j q
+
+  pub deployed-entry : {d : ℕ} → Deployed p m d → d / 3 < length blankTable
+  deployed-entry i = omega (arith, blank-length, in-to p i, laid .fits, laid .small)
 
   pub deployed-reactor : {d : ℕ} → Deployed p m d → reactor m d < reactors p
   deployed-reactor i = in-reactor p (laid .tiles) i
 
-  pub start-entry : {d : ℕ} → Deployed p m d → getD (startTable (starts p m)) d 0 ≡ 1
-  unfolding startTable
+  start-entry : {d : ℕ} → Deployed p m d → entry (tableOf p m Starts) d ≡ startByte d
+  unfolding tableAfter visit
   start-entry {d} i =
-      writes-set (λ s a. 1) (λ (s : List ℕ). Unit {0}) 1 d (starts p m) (replicate mostWords 0) (λ s a j u. tt) (λ s a j u. refl) tt
-      (rw length-replicate (deployed-small i)) (start-in d .1 i)
+      writes-set (λ s a. startByte a) (λ (s : List ℕ). Unit {0}) (startByte d) d (starts p m) blankTable (λ s a j u. tt)
+      (λ s a j e u. ap (λ (c : ℕ). startByte c) (sym (deployed-one i (start-in a .0 j) e))) tt (deployed-entry i) (start-in d .1 i)
 
-  pub start-length : length (startTable (starts p m)) ≡ mostWords
-  unfolding startTable
-  start-length = writes-length (λ s a. 1) (starts p m) (replicate mostWords 0) ∙ length-replicate {A = ℕ} mostWords 0
+  start-none : (d : ℕ) → ((a : ℕ) → a ∈ starts p m → d / 3 ≢ a / 3) → entry (tableOf p m Starts) d ≡ 0
+  unfolding tableAfter visit
+  start-none d n = writes-keep (λ s a. startByte a) d (starts p m) blankTable n ∙ blank-other d (n mainAt (start-in mainAt .1 main-deployed))
 
-  pub start-test : (d : ℕ) → (isStart (startTable (starts p m)) d ≡ true) ↔ Deployed p m d
-  unfolding isStart startTable
+  pub start-test : (d : ℕ) → (isStart (tableOf p m Starts) d ≡ true) ↔ Deployed p m d
+  unfolding isStart
   start-test d = (
     λ e.
-        within d (starts p m) (start-in d .0)
-        (λ n. absurd (omega (arith, lt? e, writes-keep (λ s a. 1) d (starts p m) (replicate mostWords 0) n, zeros-at mostWords d))),
-    λ i. lt! (omega (arith, start-entry i)),
+        near d (starts p m)
+        (λ a j q.
+        let h = start-in a .0 j in
+        subst (Deployed p m) (omega (arith, eq? e, start-entry h, entry-near (tableOf p m Starts) d a q)) h)
+        (λ n. absurd (omega (arith, eq? e, start-none d n))),
+    λ i. eq! (start-entry i),
   )

@@ -1,6 +1,6 @@
 -- Deployments tile the used words: each lies within them, no word belongs to two (`own-unique`), and the tiling depends on the words at the
 -- deployments' starts alone. `grow`, `in-new`, `in-old`: what a new deployment at the end makes of it.
-use Prim.Native.Nat.{ℕ, _+_, _*_, _≤_, _<_}
+use Prim.Native.Nat.{ℕ, _+_, _*_, _/_, _≤_, _<_}
 use mathlib.Core.Path.{_≡_, refl}
 use mathlib.Core.List.{List}
 use mathlib.Core.Logic.{_⊎_, inl, inr, _≢_}
@@ -70,6 +70,13 @@ module _ (p : List ℕ) where
         by (inl l) z = let q = apart a b i j l in omega arith
         by (inr l) (inl k) = let q = apart b a j i k in omega arith
         by (inr l) (inr k) = omega arith
+
+    -- three words or more are a deployment's, so that no two begin in the same three
+    pub three-unique : {u o : ℕ} (a b : ℕ) → In p m u o a → In p m u o b → a / 3 ≡ b / 3 → a ≡ b
+    three-unique a b i j e =
+        let s = size-at m a in
+        let z = size-at m b in
+        own-unique a b (a / 3 * 3 + 2) i j (omega arith) (omega arith) (omega arith) (omega arith)
 
   -- ---- other words, the same reactor at each start
   module _ {m m′ : List ℕ} {u : ℕ} where

@@ -51,7 +51,7 @@ loop-again c = (
       (c .before .before .before .before .before .before .before .before .if2 .left)) _
       (c .before .before .before .before .before .before .before .reactor .ensures) _ _
       (passed (c .before .before .before .before .before .joins .ensures) (c .before .before .before .before .if3 .left))
-      (c .before .before .put-entry .ensures) (c .next .ensures)
+      (c .before .before .put-byte .ensures) (c .next .ensures)
       ∙ c .before .before .before .before .before .before .before .before .before .before .before .before .loop .inv .2,
 )
 
@@ -64,5 +64,6 @@ chain-sound-spec =
     (tie.spec
     Inv-loop μ-loop (λ c κs. search needs) (λ c κs. search needs) (λ c. search needs)
     (λ c. search needs) loop-holds returns (λ c κs. search needs) returns-2 (λ c κs. search needs)
-    (λ c. search needs) (λ c κs. search needs) returns-3 (λ c. search needs) (λ c κs. search needs)
-    (λ c κs. search needs) (λ c. search needs) (λ c. search needs) loop-again returns-4)
+    (λ c. search needs) (λ c κs. search needs) returns-3 (λ c. search needs) (λ c. search needs)
+    (λ c κs. search needs) (λ c κs. search needs) (λ c. search needs) (λ c. search needs) loop-again
+    returns-4)

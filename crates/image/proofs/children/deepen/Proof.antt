@@ -1,10 +1,10 @@
-use Rattle.image.specs.Walk.{deepened}
+use Rattle.image.specs.Passes.{deepen}
 use borrow.Author.Needs.{needs}
 use Rattle.image.proofs.children.deepen.Statement.{statement}
 use Rattle.image.proofs.children.deepen.Tie as tie
 
 returns : tie.Need-returns
-unfolding deepened
+unfolding deepen
 returns c = cc
 
 pub deepen-spec : {M : Type 1} → statement M

@@ -1,8 +1,8 @@
 use Prim.Native.Nat.{_-_}
 use Rattle.image.proofs.Chains.{children-done, children-next}
 use Rattle.image.proofs.Walks.{by-slot, children-first}
-use Rattle.image.specs.Passes.{childrenFrom, namedBy, over}
-use Rattle.image.specs.Walk.{namedAt, step, stepAll}
+use Rattle.image.specs.Passes.{childrenFrom, childrenOf, namedBy, over}
+use Rattle.image.specs.Walk.{namedAt, step}
 use Rattle.program.specs.Bytes.{declared}
 use Rattle.value.proofs.Below.{at}
 use borrow.Author.Needs.{needs}
@@ -13,23 +13,23 @@ use Rattle.image.proofs.children.step_children.Statement.{statement}
 use Rattle.image.proofs.children.step_children.Tie as tie
 
 abbrev Inv-loop : tie.InvT-loop
-Inv-loop pass program at memory table₀ o r n j₀ table j =
+Inv-loop pass program places memory table₀ o at r n j₀ table j =
     (length table ≡ length table₀)
-    × (over (step pass o) table (childrenFrom program memory (n - j) j o) ≡ stepAll program memory pass table₀ o)
+    × (over (step pass o) table (childrenFrom program memory (n - j) j o) ≡ over (step pass o) table₀ (childrenOf program memory o))
 
 abbrev μ-loop : tie.MeasureT-loop
-μ-loop pass program at memory table₀ o r n j₀ table j = n - j
+μ-loop pass program places memory table₀ o at r n j₀ table j = n - j
 
 loop-holds : tie.Need-loop-holds Inv-loop μ-loop
 loop-holds c = (refl, children-first _ _ _ _ _ _ (c .wide-declared .ensures ∙ ap (declared _) (c .before .reactor .ensures)))
 
 slot-of-requires : tie.Need-slot-of-requires Inv-loop μ-loop
-slot-of-requires c κs = c .before .before .before .before .before .before .before .pre
+slot-of-requires c κs = c .before .before .before .before .position .ensures
 
 loop-again : tie.Need-loop-again Inv-loop μ-loop
 unfolding namedAt
 loop-again c =
-    let start = c .before .before .before .before .before .before .before .before .before .before .before .before in (
+    let start = c .before .before .before .before .before .before .before .before .before .before .before .before .before .before in (
       cc,
       children-next _ _ _ _ _ _ _ _ (c .before .before .before .before .before .loop-test .taken)
           (c .before .before .step-slot .ensures
@@ -49,5 +49,5 @@ pub step-children-spec : {M : Type 1} → statement M
 step-children-spec =
     tie.close
     (tie.spec
-    Inv-loop μ-loop (λ c κs. search needs) (λ c κs. search needs) loop-holds slot-of-requires
+    Inv-loop μ-loop (λ c κs. search needs) (λ c κs. search needs) (λ c κs. search needs) loop-holds slot-of-requires
     (λ c κs. search needs) (λ c. search needs) (λ c. search needs) loop-again same-length returns)

@@ -17,14 +17,12 @@ returns-2 : tie.Need-returns-2
 unfolding ownSound
 returns-2 c = and-goes (eq! (omega arith)) (and-stops _ (refused (c .before .clear-at .ensures) (c .if2 .taken)))
 
-first-wrong-requires : tie.Need-first-wrong-requires
-first-wrong-requires c κs = c .before .before .before .before .before .before .before .before .pre
-
 returns-3 : tie.Need-returns-3
 unfolding ownSound commandSound
 returns-3 c =
     and-goes (eq! (omega arith))
-    (and-goes (passed (c .before .before .before .before .clear-at .ensures) (c .before .before .before .if2 .left))
+    (and-goes
+    (passed (c .before .before .before .before .before .clear-at .ensures) (c .before .before .before .before .if2 .left))
     (same-eq (c .before .first-wrong .ensures)
     (c .wide-declared .ensures ∙ ap (declared _) (c .before .before .reactor .ensures))))
 
@@ -33,4 +31,4 @@ own-sound-spec =
     tie.close
     (tie.spec
     (λ c κs. search needs) returns (λ c κs. search needs) returns-2 (λ c κs. search needs)
-    first-wrong-requires (λ c κs. search needs) returns-3)
+    (λ c κs. search needs) (λ c κs. search needs) (λ c κs. search needs) returns-3)

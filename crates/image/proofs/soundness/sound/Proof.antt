@@ -1,4 +1,4 @@
-use Rattle.image.proofs.Walks.{framed-main, framed-tiling, fresh-verdict, grown-verdict, unframed}
+use Rattle.image.proofs.Walks.{framed-tiling, fresh-verdict, grown-verdict, unframed}
 use Rattle.image.specs.Answer.{verdict}
 use Rattle.image.specs.Walk.{grownOf}
 use Rattle.value.proofs.Tests.{passed, refused}
@@ -21,8 +21,8 @@ returns-2 c =
 
 grown-sound-requires : tie.Need-grown-sound-requires
 grown-sound-requires c κs =
-    let f = passed (c .before .before .before .before .framed .ensures) (c .before .before .before .if1 .left) in
-    (rw (c .used .ensures) (framed-tiling _ _ f), rw (c .used .ensures) (framed-main _ _ f))
+    rw (c .used .ensures)
+    (framed-tiling _ _ (passed (c .before .before .before .before .framed .ensures) (c .before .before .before .if1 .left)))
 
 returns-3 : tie.Need-returns-3
 returns-3 c =

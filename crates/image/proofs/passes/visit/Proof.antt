@@ -1,0 +1,23 @@
+use Rattle.image.proofs.Walks.{visit-depths, visit-names}
+use Rattle.image.specs.Passes.{visit}
+use borrow.Author.Needs.{needs}
+use Rattle.image.proofs.passes.visit.Statement.{statement}
+use Rattle.image.proofs.passes.visit.Tie as tie
+
+returns : tie.Need-returns
+unfolding visit
+returns c = rw (c .before .before .before .before .enum-told .given .1) (c .before .before .mark-start .ensures)
+
+returns-2 : tie.Need-returns-2
+returns-2 c = visit-names _ _ _ _ _ _ (c .before .before .before .before .enum-told2 .given .1) (c .before .before .step-children .ensures)
+
+returns-3 : tie.Need-returns-3
+returns-3 c = visit-depths _ _ _ _ _ _ (c .before .before .before .before .enum-told3 .given .1) (c .before .before .step-children2 .ensures)
+
+pub visit-spec : {M : Type 1} → statement M
+visit-spec =
+    tie.close
+    (tie.spec
+    (λ c. search needs) (λ c κs. search needs) (λ c. search needs) (λ c κs. search needs)
+    (λ c. search needs) (λ c κs. search needs) (λ c. search needs) returns (λ c. search needs)
+    returns-2 (λ c. search needs) returns-3)
