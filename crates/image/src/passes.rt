@@ -50,10 +50,11 @@ fn fits(pass: Pass, program: &[u8], places: &[u32], memory: &[u32], table: &[u8]
     requires { ⌜ M.reactor (now memory) a < B.reactors (now program) ⌝ }
     ensures { λ r. ⌜ r ≡ P.fits (now (program .entry)) (now (memory .entry)) pass (now (table .entry)) a ⌝ }
 {
+    let n = entry(table, a);
     match pass {
         Pass::Starts => own_sound(program, places, memory, table, a),
-        Pass::Names => entry(table, a) == 1,
-        Pass::Depths => entry(table, a) <= MOST_DEPTH,
+        Pass::Names => n == 1,
+        Pass::Depths => n <= MOST_DEPTH,
     }
 }
 

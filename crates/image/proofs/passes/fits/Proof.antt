@@ -11,15 +11,15 @@ returns c = rw (c .before .enum-told .given .1) (c .own-sound .ensures)
 
 returns-2 : tie.Need-returns-2
 unfolding fits
-returns-2 c = rw (c .before .enum-told2 .given .1) (same-eq (c .entry .ensures) refl)
+returns-2 c = rw (c .enum-told2 .given .1) (same-eq (c .before .before .entry .ensures) refl)
 
 returns-3 : tie.Need-returns-3
 unfolding fits
-returns-3 c = rw (c .before .enum-told3 .given .1) (same-le (c .entry2 .ensures) refl)
+returns-3 c = rw (c .enum-told3 .given .1) (same-le (c .before .before .entry .ensures) refl)
 
 pub fits-spec : {M : Type 1} → statement M
 fits-spec =
     tie.close
     (tie.spec
-    (λ c. search needs) (λ c κs. search needs) (λ c. search needs) (λ c κs. search needs)
-    (λ c. search needs) (λ c κs. search needs) returns returns-2 returns-3)
+    (λ c κs. search needs) (λ c. search needs) (λ c κs. search needs) (λ c. search needs)
+    (λ c. search needs) returns returns-2 returns-3)
