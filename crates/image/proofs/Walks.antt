@@ -1,4 +1,4 @@
--- A D command by its two bytes, a deployment's children, and the ladder of soundness as the code climbs it.
+-- A D command by its two bytes, a deployment's children, a pass, and the ladder of soundness as the code climbs it.
 -- Assumes nothing.
 use Prim.Native.Nat.{ℕ, _-_}
 use mathlib.Core.Path.{_≡_, refl, sym, ap, _∙_}
@@ -14,10 +14,10 @@ use Rattle.program.specs.Location.{commandLoc}
 use Rattle.image.specs.Answer.{verdict}
 use Rattle.image.specs.Memory.{mainAt, mostTurns, used, turns, reactor, next, content, zeroAt, startsBelow}
 use Rattle.image.specs.Passes.{Judged, unsound, tableBytes, lowest, over, withEntry, blankTable, visit, tableAfter, fits, membersFrom, namedBy, childrenFrom, childrenOf, lowestUnfit, freshSound, grownSound, byTurns, soundOf, tilesFrom}
-use Rattle.image.specs.Walk.{madeOf, SlotOf, Tiling, step, framedOf, freshOf, grownOf}
+use Rattle.image.specs.Walk.{madeOf, SlotOf, Tiling, framedOf, freshOf, grownOf}
 use Rattle.image.specs.declared.DSlot.{DSlot}
 use Rattle.image.specs.declared.Pass.{Pass}
-use Rattle.image.specs.declared.Pass.the-variants.{Starts, Names, Depths}
+use Rattle.image.specs.declared.Pass.the-variants.{Starts}
 use Rattle.image.proofs.Ands.{and-assoc, guard-and}
 use Rattle.image.proofs.Made.{made-mono, made-point, made-other}
 
@@ -39,28 +39,16 @@ pub by-slot : {A : Type 0} (F : ℕ → Made → A) (p m : List ℕ) (o j : ℕ)
     → F (s .location) (madeOf (s .code) (s .x)) ≡ F (commandLoc p (reactor m o) j) (madeBy (cmdOf p (reactor m o) j))
 by-slot F p m o j s e = rw (e .located, e .makes)
 
--- ---- a pass
-
-module _ (p m : List ℕ) (pass : Pass) (t t₁ : List ℕ) where
-  module _ (o : ℕ) where
-    pub visit-names : pass ≡ Names → t₁ ≡ over (step pass o) t (childrenOf p m o) → t₁ ≡ visit p m pass t o
-    unfolding visit
-    visit-names e h = rw e (rw e at h)
-
-    pub visit-depths : pass ≡ Depths → t₁ ≡ over (step pass o) t (childrenOf p m o) → t₁ ≡ visit p m pass t o
-    unfolding visit
-    visit-depths e h = rw e (rw e at h)
-
-  -- t is the table before the visits, t₁ after them
-  pub pass-run : (s : List ℕ) {r : ℕ} → t ≡ withEntry (replicate tableBytes 0) mainAt 1 → t₁ ≡ over (visit p m pass) t s
-      → r ≡ lowest (fits p m pass t₁) s → r ≡ lowestUnfit p m pass s
-  unfolding lowestUnfit tableAfter blankTable
-  pass-run s a b h = h ∙ ap (λ (t : List ℕ). lowest (fits p m pass t) s) (b ∙ ap (λ (t : List ℕ). over (visit p m pass) t s) a)
-
 pub children-first : (p m : List ℕ) (f : List ℕ → ℕ → List ℕ) (t : List ℕ) (o n : ℕ) → n ≡ declared p (reactor m o)
     → over f t (childrenFrom p m (n - 0) 0 o) ≡ over f t (childrenOf p m o)
 unfolding childrenOf
 children-first p m f t o n e = let d : n - 0 ≡ declared p (reactor m o) = omega arith in rw d
+
+-- a pass: t is its table before the visits, t₁ after them
+pub pass-run : (p m : List ℕ) (pass : Pass) (t t₁ s : List ℕ) {r : ℕ} → t ≡ withEntry (replicate tableBytes 0) mainAt 1 → t₁ ≡ over (visit p m pass) t s
+    → r ≡ lowest (fits p m pass t₁) s → r ≡ lowestUnfit p m pass s
+unfolding lowestUnfit tableAfter blankTable
+pass-run p m pass t t₁ s a b h = h ∙ ap (λ (t : List ℕ). lowest (fits p m pass t) s) (b ∙ ap (λ (t : List ℕ). over (visit p m pass) t s) a)
 
 module _ (p m : List ℕ) where
   framed-as : guard (framedOf p m) (unsound 0) (λ _. byTurns p m (turns m =? 0)) ≡ soundOf p m

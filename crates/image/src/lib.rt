@@ -54,8 +54,7 @@ pub enum Judged {
     Unsound(usize),
 }
 
-// The three passes of soundness over the deployments: where each begins, how often each is named, how
-// deep each is.
+// The three passes of soundness: where deployments begin, how often each is named, how deep each is.
 pub enum Pass {
     Starts,
     Names,

@@ -20,7 +20,6 @@ ghost use Prim.Native.Nat.{_<_};
 ghost use Rattle.value.specs.Test.{sweep};
 ghost use Rattle.program.specs.Bytes as B;
 ghost use Rattle.program.specs.Command as C;
-ghost use Rattle.program.specs.Location as L;
 ghost use Rattle.image.specs.Memory as M;
 ghost use Rattle.image.specs.Passes as P;
 ghost use Rattle.image.specs.Walk as W;

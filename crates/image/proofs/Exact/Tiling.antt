@@ -1,7 +1,7 @@
 -- Tiling: the test for it, the list of starts, and the table of starts, against `Tiles` and `Deployed`.
 use Prim.Native.Nat.{ℕ, zero, suc, _+_, _/_, _≤_, _<_}
 use mathlib.Core.Path.{_≡_, refl, sym, _∙_, ap, subst}
-use mathlib.Core.Bool.{Bool, true, false, false≢true}
+use mathlib.Core.Bool.{Bool, true, false≢true}
 use mathlib.Core.Logic.{_↔_, ⊎-elim, _≢_}
 use mathlib.Core.List.{List, [], List·Memᴰ·head as first, List·Memᴰ·tail as later, List·Memᴰ·cases-cons as in-cons, List·Memᴰ·not-nil as in-nil}
 use native.Mathlib.Omega.{arith}

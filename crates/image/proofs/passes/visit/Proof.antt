@@ -1,4 +1,3 @@
-use Rattle.image.proofs.Walks.{visit-depths, visit-names}
 use Rattle.image.specs.Passes.{visit}
 use borrow.Author.Needs.{needs}
 use Rattle.image.proofs.passes.visit.Statement.{statement}
@@ -9,10 +8,18 @@ unfolding visit
 returns c = rw (c .before .before .before .before .enum-told .given .1) (c .before .before .mark-start .ensures)
 
 returns-2 : tie.Need-returns-2
-returns-2 c = visit-names _ _ _ _ _ _ (c .before .before .before .before .enum-told2 .given .1) (c .before .before .step-children .ensures)
+unfolding visit
+returns-2 c =
+    let e = c .before .before .before .before .enum-told2 .given .1 in
+    let h = c .before .before .step-children .ensures in
+    rw e (rw e at h)
 
 returns-3 : tie.Need-returns-3
-returns-3 c = visit-depths _ _ _ _ _ _ (c .before .before .before .before .enum-told3 .given .1) (c .before .before .step-children2 .ensures)
+unfolding visit
+returns-3 c =
+    let e = c .before .before .before .before .enum-told3 .given .1 in
+    let h = c .before .before .step-children2 .ensures in
+    rw e (rw e at h)
 
 pub visit-spec : {M : Type 1} → statement M
 visit-spec =
