@@ -1,5 +1,5 @@
 -- Lists of indices: membership, rising lists, sums over a list, how often a number occurs, lists joined. Nothing here speaks of memory.
-use Prim.Native.Nat.{ℕ, zero, suc, _+_, _/_, _≤_, _<_}
+use Prim.Native.Nat.{ℕ, zero, suc, _+_, _≤_, _<_}
 use mathlib.Core.Path.{_≡_, refl, sym, subst}
 use mathlib.Core.Logic.{_↔_, ⊎-elim, _≢_}
 use mathlib.Core.List.{List, [], _∷_, _++_, List·Memᴰ, List·Memᴰ·head as first, List·Memᴰ·tail as later, List·Memᴰ·cases-cons as in-cons, List·Memᴰ·not-nil as in-nil, List·Memᴰ·append-cases as in-append, Memᴰ·append-left as in-left, Memᴰ·append-right as in-right}
@@ -22,13 +22,6 @@ each P b l = (
   λ h. (h b (first refl), λ a i. h a (later i)),
   λ h a i. ⊎-elim (λ e. subst P (sym e) (h .0)) (λ k. h .1 a k) (in-cons i),
 )
-
--- by cases on whether a number of the list is of the same three as d
-pub near : {C : Type 0} (d : ℕ) (l : List ℕ) → ((a : ℕ) → a ∈ l → d / 3 ≡ a / 3 → C) → (((a : ℕ) → a ∈ l → d / 3 ≢ a / 3) → C) → C
-near d [] f g = g (λ a i. absurd (in-nil i))
-near d (b ∷ l) f g =
-    same (d / 3) (b / 3) (f b (first refl))
-    (λ n. near d l (λ a i. f a (later i)) (λ h. g (each (λ (a : ℕ). d / 3 ≢ a / 3) b l .1 (n, h))))
 
 -- ---- rising lists
 

@@ -68,6 +68,15 @@ module _ (t : List ℕ) (a v : ℕ) where
   unfolding withEntry
   entry-length = length-set t (a / 3) v
 
+-- by cases on whether one of a list is of the same three words as d
+pub near : {C : Type 0} (d : ℕ) (l : List ℕ) → ((a : ℕ) → a ∈ l → d / 3 ≡ a / 3 → C) → (((a : ℕ) → a ∈ l → d / 3 ≢ a / 3) → C) → C
+near d [] f g = g (λ a i. absurd (in-nil i))
+near d (b ∷ l) f g =
+    same (d / 3) (b / 3) (f b (first refl))
+    (λ n. near d l (λ a i. f a (later i)) (λ h. g (each (λ (a : ℕ). d / 3 ≢ a / 3) b l .1 (n, h))))
+
+-- ---- the table before the visits
+
 pub blank-length : length blankTable ≡ tableBytes
 unfolding blankTable
 blank-length = entry-length (replicate tableBytes 0) mainAt 1 ∙ length-replicate {A = ℕ} tableBytes 0

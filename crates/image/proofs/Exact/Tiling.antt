@@ -16,8 +16,8 @@ use Rattle.image.specs.declared.Pass.{Pass}
 use Rattle.image.specs.declared.Pass.the-variants.{Starts}
 use Rattle.image.proofs.Tiles.{grows}
 use Rattle.image.proofs.Memory.Tiles.{in-ge, in-to, in-reactor, three-unique}
-use Rattle.image.proofs.Exact.Lists.{_∈_, near, Rising, ends, rises, rising-low}
-use Rattle.image.proofs.Exact.Tables.{entry-near, blank-length, blank-other, writes-keep, writes-set}
+use Rattle.image.proofs.Exact.Lists.{_∈_, Rising, ends, rises, rising-low}
+use Rattle.image.proofs.Exact.Tables.{entry-near, near, blank-length, blank-other, writes-keep, writes-set}
 
 module _ (p m : List ℕ) where
   -- each deployment takes words, so that as many steps as there are words left are enough
