@@ -16,6 +16,9 @@ use Rattle.remus.specs.Clear.{clearedWords, clearOne}
 use Rattle.remus.specs.Undo.{slotBack, slotsBack, oneBack}
 use Rattle.remus.proofs.Clearing.{Loose, early, late, slots-order, loose-inside, cleared-length, one-length, one-same}
 use Rattle.remus.proofs.Undo.Back.{word-unset}
+use Rattle.machine.specs.declared.Each.{Each}
+use Rattle.machine.specs.declared.Each.the-variants.{Clear, Back}
+use Rattle.machine.specs.Act.{swept}
 use Rattle.machine.proofs.Stretch.{put-zeros, put-last, put-part}
 
 module _ (p : List ℕ) (r : ℕ) where
@@ -74,7 +77,7 @@ module _ (p m : List ℕ) (a : ℕ) where
         let n : length l ≡ e - a = ap length q ∙ new-size ∙ sym (ap (sizeOf p) f) ∙ sym k in
         put-part m l a e (omega arith) n ∙ ap (patch m a) q
 
-    pub local-clear : Local p m a (clearOne p m a)
+    local-clear : Local p m a (clearOne p m a)
     unfolding reactor sizeAt
     local-clear =
         record {
@@ -124,7 +127,13 @@ module _ (p : List ℕ) (u o : ℕ) where
   unfolding sizeAt
   slots-inside m h = let f = local-slots (declared p (reactor m o)) 0 m (omega arith) in rw (f .same, f .long) h
 
-  pub local-back : (m : List ℕ) → o + sizeAt p m o ≤ length m → Local p m o (oneBack p u m o)
+  local-back : (m : List ℕ) → o + sizeAt p m o ≤ length m → Local p m o (oneBack p u m o)
   unfolding oneBack
   local-back m h =
       local-then p m o _ _ (local-slots (declared p (reactor m o)) 0 m (omega arith)) (local-clear p _ o (slots-inside m h))
+
+  -- what a pass does to it
+  pub local-swept : (s : Each) (m : List ℕ) → o + sizeAt p m o ≤ length m → Local p m o (swept s p u m o)
+  unfolding swept
+  local-swept Clear m h = local-clear p m o h
+  local-swept Back m h = local-back m h

@@ -8,11 +8,15 @@ use Rattle.program.specs.Command.{Cmd}
 use Rattle.image.specs.Memory.{mostWords, mainAt, used, turns}
 use Rattle.remus.specs.Exec.{Eff, move, call, fail, exec}
 use Rattle.remus.specs.Run.{Ran, ran, stopped}
+use Rattle.remus.specs.Clear.{clearOne}
+use Rattle.remus.specs.Undo.{oneBack}
 use Rattle.machine.specs.declared.Ended.{Ended}
 use Rattle.machine.specs.declared.Ended.the-variants.{Whole, Stopped}
 use Rattle.machine.specs.declared.Outcome.{Outcome}
 use Rattle.machine.specs.declared.Outcome.the-variants.{Move, Call, Fail}
 use Rattle.machine.specs.declared.Position.{Position}
+use Rattle.machine.specs.declared.Each.{Each}
+use Rattle.machine.specs.declared.Each.the-variants.{Clear, Back}
 
 -- a command's outcome, and the words then
 pub data Acted : Type 0 where
@@ -47,3 +51,8 @@ pub record Workable (m : List ℕ) : Type 0 where
 pub record Located (p : List ℕ) (q : Position) : Type 0 where
   pub is : q .at ≡ commandsAt p (q .reactor)
   pub small : q .at < 20000000000000
+
+-- what a pass over the deployments below u does to each
+unfoldable pub swept : Each → List ℕ → ℕ → List ℕ → ℕ → List ℕ
+swept Clear p u = clearOne p
+swept Back p u = oneBack p u

@@ -2,15 +2,18 @@
 //
 // A command is decoded once (exec) and carried out by a function of its own (command, allocate); a
 // deployment's commands follow one another (run). A completed run leaves its sinks and cleared words
-// (clear), a refused one is undone in place (undo). Memory is never copied. The work of a turn is
-// linear in the program's bytes and the used words.
+// (finish), a refused one is undone in place (undo); both go over the deployments (sweep). Memory is
+// never copied. The work of a turn is linear in the program's bytes and the used words.
 mod allocate;
 mod asked;
+mod back;
 mod calls;
 mod clear;
 mod command;
 mod exec;
+mod finish;
 mod run;
+mod sweep;
 mod undo;
 
 pub use calls::turn;
@@ -51,4 +54,10 @@ pub struct Position {
 pub enum Brought {
     Fine,
     Refused(Refusal),
+}
+
+// What a pass does to each deployment: clears it, or brings it back as it was before the turn.
+pub enum Each {
+    Clear,
+    Back,
 }

@@ -1,8 +1,8 @@
 use Rattle.machine.proofs.Clears.{slots-inside}
 use Rattle.remus.specs.Undo.{oneBack}
 use borrow.Author.Needs.{needs}
-use Rattle.machine.proofs.undo.one_back.Statement.{statement}
-use Rattle.machine.proofs.undo.one_back.Tie as tie
+use Rattle.machine.proofs.back.one_back.Statement.{statement}
+use Rattle.machine.proofs.back.one_back.Tie as tie
 
 clear-one-requires : tie.Need-clear-one-requires
 clear-one-requires c κs =

@@ -1,6 +1,6 @@
 use borrow.Author.Needs.{needs}
-use Rattle.machine.proofs.undo.point_back.Statement.{statement}
-use Rattle.machine.proofs.undo.point_back.Tie as tie
+use Rattle.machine.proofs.back.point_back.Statement.{statement}
+use Rattle.machine.proofs.back.point_back.Tie as tie
 
 returns : tie.Need-returns
 returns c =

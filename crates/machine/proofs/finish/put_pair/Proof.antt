@@ -1,6 +1,6 @@
 use borrow.Author.Needs.{needs}
-use Rattle.machine.proofs.clear.put_pair.Statement.{statement}
-use Rattle.machine.proofs.clear.put_pair.Tie as tie
+use Rattle.machine.proofs.finish.put_pair.Statement.{statement}
+use Rattle.machine.proofs.finish.put_pair.Tie as tie
 
 returns : tie.Need-returns
 returns c = rw (← c .before .before .before .before .before .before .put .ensures) (c .before .before .put2 .ensures)

@@ -5,8 +5,8 @@ use Rattle.remus.specs.Undo.{below}
 use borrow.Author.Needs.{needs}
 use mathlib.Core.Path.{_∙_, _≡_}
 use native.Mathlib.Omega.{arith}
-use Rattle.machine.proofs.undo.first_below.Statement.{statement}
-use Rattle.machine.proofs.undo.first_below.Tie as tie
+use Rattle.machine.proofs.back.first_below.Statement.{statement}
+use Rattle.machine.proofs.back.first_below.Tie as tie
 
 abbrev Inv-loop : tie.InvT-loop
 Inv-loop program memory u head c₀ left₀ c left = below left memory u c ≡ below (reactors program + 1) memory u head

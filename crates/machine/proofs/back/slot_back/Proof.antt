@@ -1,7 +1,7 @@
 use Rattle.machine.proofs.Passing.{slot-other, slot-point}
 use borrow.Author.Needs.{needs}
-use Rattle.machine.proofs.undo.slot_back.Statement.{statement}
-use Rattle.machine.proofs.undo.slot_back.Tie as tie
+use Rattle.machine.proofs.back.slot_back.Statement.{statement}
+use Rattle.machine.proofs.back.slot_back.Tie as tie
 
 returns : tie.Need-returns
 returns c =

@@ -7,8 +7,8 @@ use borrow.Author.Needs.{needs}
 use lib.ListN.{length}
 use mathlib.Core.Path.{_∙_, _≡_, ap, refl}
 use native.Mathlib.Omega.{arith}
-use Rattle.machine.proofs.undo.slots_back.Statement.{statement}
-use Rattle.machine.proofs.undo.slots_back.Tie as tie
+use Rattle.machine.proofs.back.slots_back.Statement.{statement}
+use Rattle.machine.proofs.back.slots_back.Tie as tie
 
 abbrev Inv-loop : tie.InvT-loop
 Inv-loop program memory₀ u o r known n j₀ memory j =

@@ -8,8 +8,8 @@ use borrow.Author.Needs.{needs}
 use lib.ListN.{length, length-set}
 use mathlib.Core.Path.{_∙_, _≡_, ap, refl}
 use native.Mathlib.Omega.{arith}
-use Rattle.machine.proofs.clear.write_sinks.Statement.{statement}
-use Rattle.machine.proofs.clear.write_sinks.Tie as tie
+use Rattle.machine.proofs.finish.write_sinks.Statement.{statement}
+use Rattle.machine.proofs.finish.write_sinks.Tie as tie
 
 abbrev Inv-loop : tie.InvT-loop
 Inv-loop program memory space₀ main n x₀ space x =

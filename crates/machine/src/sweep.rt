@@ -1,0 +1,37 @@
+// A pass over the deployments below u, each changed in its own words.
+use crate::Each;
+use crate::MAIN_AT;
+use crate::back::one_back;
+use crate::clear::clear_one;
+use image::size_at;
+ghost use mathlib.Core.Path.{_≡_};
+ghost use Prim.Native.Nat.{_+_, _≤_};
+ghost use lib.ListN.{length};
+ghost use Rattle.image.specs.Memory as M;
+ghost use Rattle.image.specs.Passes as P;
+ghost use Rattle.image.specs.Walk.{Tiling};
+ghost use Rattle.machine.specs.Act.{swept};
+
+// The deployment at o.
+fn sweep_one(program: &[u8], memory: &mut [u32], s: Each, u: u32, o: u32)
+    requires { ⌜ o + M.sizeAt (now program) (now memory) o ≤ length (now memory) ⌝ }
+    ensures { λ _. ⌜ now (memory .exit) ≡ swept s (now (program .entry)) u (now (memory .entry)) o ⌝ }
+{
+    match s {
+        Each::Clear => clear_one(program, memory, o),
+        Each::Back => one_back(program, memory, u, o),
+    }
+}
+
+// All of them.
+pub(crate) fn sweep(program: &[u8], memory: &mut [u32], s: Each, u: u32)
+    requires { ⌜ Tiling (now program) (now memory) u M.mainAt ⌝ }
+    ensures { λ _. ⌜ now (memory .exit) ≡ P.over (swept s (now (program .entry)) u) (now (memory .entry)) (M.startsBelow (now (program .entry)) (now (memory .entry)) u) ⌝ }
+{
+    let mut a = MAIN_AT;
+    while a < u {
+        let o = a;
+        a = o + size_at(program, memory, o);
+        sweep_one(program, memory, s, u, o);
+    }
+}
