@@ -1,4 +1,5 @@
 use borrow.Author.Needs.{needs}
+use mathlib.Core.Path.{refl}
 use Rattle.machine.proofs.calls.complete.Statement.{statement}
 use Rattle.machine.proofs.calls.complete.Tie as tie
 
@@ -6,7 +7,7 @@ returns : tie.Need-returns
 returns c =
     let at-write-sinks = c .before .before .before .before .before .before .write-sinks in
     let at-used = c .before .before .before .before .before .before .before .before .before .used in
-    rw (← at-used .ensures, ← at-write-sinks .ensures, ← c .before .before .finish .ensures)
+    rw (← at-used .ensures, ← at-write-sinks .ensures, ← c .before .before .finish .ensures) refl
 
 pub complete-spec : {M : Type 1} → statement M
 complete-spec =
