@@ -18,7 +18,7 @@ loop-holds : tie.Need-loop-holds Inv-loop μ-loop
 loop-holds c = rw (c .reactors .ensures)
 
 returns : tie.Need-returns Inv-loop μ-loop
-returns c = below-here _ _ _ _ (c .before .loop-test .taken) (c .if1 .taken) ∙ c .before .before .loop .inv
+returns c = below-here _ _ _ _ (c .before .loop-test .taken) (omega arith) ∙ c .before .before .loop .inv
 
 loop-again : tie.Need-loop-again Inv-loop μ-loop
 loop-again c =
