@@ -7,10 +7,11 @@ use mathlib.Core.Bool.{Bool, true, false}
 use mathlib.Core.Logic.{_⊎_, inl, inr, ⊎-elim}
 use mathlib.Core.List.{List}
 use native.Mathlib.Omega.{arith}
-use lib.ListN.{getD, set, length, replicate, length-replicate, getD-replicate, List·getD-eq-default}
+use lib.ListN.{getD, set, length, replicate, List·getD-eq-default}
 use lib.Seq.{getD-set-same, getD-set-other, set-out}
 use Rattle.value.specs.Test.{need, pick, _=?_}
 use Rattle.value.proofs.Tests.{cases, below, eq?, eq×?, lt?, le?, both?, not-true}
+use Rattle.value.proofs.Zeros.{zeros-at}
 use Rattle.program.specs.Bytes.{shapes}
 use Rattle.program.specs.Command.{Cmd, decode, allocMono, makePoly, constant, global, supply, react, consume, sink, allocPoly, primitive, none}
 use Rattle.program.specs.declared.Command.{Command}
@@ -26,12 +27,6 @@ stored xs i v =
     ⊎-elim (λ (h : i < length xs). inl (getD-set-same xs i v 0 h))
     (λ (h : length xs ≤ i). inr (rw (set-out xs i v h) (List·getD-eq-default xs 0 h)))
     (below i (length xs))
-
-zeros : (n i : ℕ) → _≡_ {A = ℕ} (getD (replicate n 0) i 0) 0
-zeros n i =
-    ⊎-elim (λ (h : i < n). getD-replicate n i 0 0 h)
-    (λ (h : n ≤ i). List·getD-eq-default (replicate n 0) 0 (omega (arith, length-replicate {A = ℕ} n 0)))
-    (below i n)
 
 -- ---- a state stays shaped
 
@@ -83,7 +78,7 @@ module _ (p : List ℕ) (some : 0 < shapes p) where
 
   blank-shaped : Shaped p (record { standing = replicate 174 0; kind = replicate 174 0; next = 0 })
   unfolding standingAt kindAt
-  blank-shaped l g = absurd (omega (arith, zeros 174 l))
+  blank-shaped l g = absurd (omega (arith, zeros-at 174 l))
 
   pub begin-shaped : (r : ℕ) → Shaped p (beginOf p r)
   unfolding beginOf

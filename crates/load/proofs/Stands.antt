@@ -1,14 +1,20 @@
--- States that stand alike, and the state after a command.
+-- States that stand alike, the state after a command, and its tables past their end.
 -- Assumes nothing.
-use Prim.Native.Nat.{ℕ, _+_}
+use Prim.Native.Nat.{ℕ, _+_, _≤_}
 use mathlib.Core.Path.{_≡_, refl, sym, _∙_, ap}
 use mathlib.Core.List.{List}
+use native.Mathlib.Omega.{arith}
 use native.Mathlib.Numerals.{add-one}
+use lib.ListN.{length, getD, List·getD-eq-default}
 use Rattle.program.specs.Bytes.{sourceKind, shapeOf}
 use Rattle.program.specs.Command.{Cmd, allocMono, makePoly, constant, global, supply, react, consume, sink, allocPoly, primitive, none}
 use Rattle.program.specs.Location.{sinkLoc}
 use Rattle.load.specs.Scan.{aValue, unsetSink, stand, standingAfter, advance, afterOf, withSources, withSinks}
 use Rattle.load.specs.declared.Scan.{Scan}
+
+-- a table read past its end
+pub past-table : (xs : List ℕ) (l : ℕ) → length xs ≡ 174 → 174 ≤ l → 0 ≡ getD xs l 0
+past-table xs l n h = sym (List·getD-eq-default xs 0 (omega arith))
 
 pub stands : {u : Scan} (s : Scan) {l m t v k j : ℕ} → u ≡ stand s l t k → l ≡ m → t ≡ v → k ≡ j → u ≡ stand s m v j
 stands s e f g h = simp (← f, ← g, ← h) e

@@ -1,5 +1,5 @@
 -- Legal operands give a legal result of the table's kind: `primitive-of-kind`, and every content is a word: `primitive-word`.
--- Both are one argument, row by row, over a family of values; `every-row` carries it to any number. Assumes nothing.
+-- Both are one argument, row by row, over a family of values: `primitive-is`. Assumes nothing.
 use Prim.Native.Nat.{ℕ, zero, suc, _^_, _≤_, _<_}
 use native.Mathlib.Omega.{arith}
 use mathlib.Core.Path.{_≡_, refl, sym, subst}
@@ -115,8 +115,15 @@ module _
         ◂ alike
         ◂ end
 
-    kept : (x : ℕ) → Kept (rowOf x)
-    kept = every-row Kept each-kept (λ j k l a b c fit ia ib ic. is-blank (kindGiven ANumber k))
+    pub primitive-is :
+        (x j k l : ℕ) (a b c : Value) →
+        kindsFit (rowOf x .takes) j k l ≡ true →
+        Is j a →
+        (2 ≤ operands x → Is k b) →
+        (3 ≤ operands x → Is l c) →
+        Is (kindGiven (rowOf x .gives) k) (primitive x a b c)
+    unfolding operands primitive
+    primitive-is = every-row Kept each-kept (λ j k l a b c fit ia ib ic. is-blank (kindGiven ANumber k))
 
 -- ---- kinds: `reactor s c` says that c is a reactor of shape s
 
@@ -127,8 +134,8 @@ pub primitive-of-kind :
     (2 ≤ operands x → OfKind reactor k b) →
     (3 ≤ operands x → OfKind reactor l c) →
     OfKind reactor (kindGiven (rowOf x .gives) k) (primitive x a b c)
-unfolding operands primitive markOf
-primitive-of-kind reactor x = kept (OfKind reactor) (λ k. inl refl) (λ z e. inr (refl, tt)) a-truth x
+unfolding markOf
+primitive-of-kind reactor x = primitive-is (OfKind reactor) (λ k. inl refl) (λ z e. inr (refl, tt)) a-truth x
   where
     a-truth : (t : Bool) → OfKind reactor truthKind (truth t)
     a-truth true = inr (refl, omega arith)
@@ -159,7 +166,6 @@ fitting TruthThenTwo = (truthKind, refl)
 fitting TwoAlike = (numberKind, refl)
 
 pub primitive-word : (x : ℕ) (a b c : Value) → Word a → Word b → Word c → Word (primitive x a b c)
-unfolding primitive
 primitive-word x a b c ha hb hc =
     let f = fitting (rowOf x .takes) in
-    kept (λ k v. Word v) (λ k. omega arith) number-word truth-word x (f .0) (f .0) (f .0) a b c (f .1) ha (λ h. hb) (λ h. hc)
+    primitive-is (λ k v. Word v) (λ k. omega arith) number-word truth-word x (f .0) (f .0) (f .0) a b c (f .1) ha (λ h. hb) (λ h. hc)

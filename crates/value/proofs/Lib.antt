@@ -5,3 +5,4 @@ pub mod Integers
 pub mod Rows
 pub mod Legal
 pub mod Division
+pub mod Zeros

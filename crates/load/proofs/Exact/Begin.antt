@@ -5,15 +5,14 @@ use mathlib.Core.Logic.{_⊎_, inl, inr}
 use mathlib.Core.List.{List}
 use native.Mathlib.Omega.{arith}
 use native.Mathlib.Nat.{not-suc-le-zero}
-use lib.ListN.{getD, replicate, length-replicate, getD-replicate, List·getD-eq-default}
-use Rattle.value.specs.Test.{_<?_}
-use Rattle.value.proofs.Tests.{cases, lt?, lt×?}
+use lib.ListN.{replicate, length-replicate}
 use Rattle.program.specs.Bytes.{reactors, shapeOf, sourceKind}
 use Rattle.program.specs.Location.{sources, sinks, commandLoc, sinkLoc, locations}
 use Rattle.load.specs.Scan.{standingAt, kindAt, stand, withSources, withSinks, beginOf, aValue, unsetSink}
 use Rattle.load.specs.Rules.{Sets}
 use Rattle.load.specs.Accepted.{TablesRight}
 use Rattle.load.specs.declared.Scan.{Scan}
+use Rattle.value.proofs.Zeros.{zeros-at}
 use Rattle.value.proofs.Below.{last-or-below}
 use Rattle.load.proofs.Exact.Seen.{never-start}
 use Rattle.load.proofs.Exact.Class.{a-value, a-sink, nothing}
@@ -24,11 +23,6 @@ use Rattle.load.proofs.Exact.Stand.{Sized, Reads, stand-sized, stand-ne
 
 abbrev blank : Scan
 blank = record { standing = replicate 174 0; kind = replicate 174 0; next = 0 }
-
-zeros : (n l : ℕ) → getD {A = ℕ} (replicate n 0) l 0 ≡ 0
-zeros n l =
-    cases (l <? n) (λ y. getD-replicate n l 0 0 (lt? y))
-    (λ y. List·getD-eq-default (replicate n 0) 0 (subst (λ m. m ≤ l) (sym (length-replicate {A = ℕ} n 0)) (lt×? y)))
 
 module _ (p : List ℕ) (r : ℕ) where
   -- ---- the first n sources
@@ -63,7 +57,7 @@ module _ (p : List ℕ) (r : ℕ) where
 
   source-clear : (n l : ℕ) → n ≤ l → standingAt (sourced n) l ≡ 0
   unfolding sourced withSources
-  source-clear zero l h = unfold standingAt in zeros 174 l
+  source-clear zero l h = unfold standingAt in zeros-at 174 l
   source-clear (suc n) l h =
       reads-else (sourced n) n aValue (sourceKind p (shapeOf p r) n) l (omega arith) .0 ∙ source-clear n l (omega arith)
 

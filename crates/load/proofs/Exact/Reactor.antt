@@ -76,20 +76,17 @@ module _ (p : List ℕ) (r : ℕ) (t : TablesRight p) (low : r < reactors p) whe
 
   -- ---- the first n commands
 
-  begin : Holding p r 0 (beginOf p r)
-  begin = begin-holding p r t low
-
   -- where none of the first n commands is refused, each fits, and the tables hold what they should
   pub first-run : (n : ℕ) → n ≤ commandsIn p r → scanOf n p r (beginOf p r) .code ≡ 0 →
       ((i : ℕ) → i < n → Fits p r i (cmdOf p r i)) × Holding p r n (scanOf n p r (beginOf p r) .scan)
   first-run n few z =
-      let a = taken-run n 0 n (beginOf p r) begin (omega arith) few z in
+      let a = taken-run n 0 n (beginOf p r) (begin-holding p r t low) (omega arith) few z in
       ((λ i h. a .0 i (omega arith) h), a .1)
 
   -- and none is refused where each fits
   pub first-fits : (n : ℕ) → n ≤ commandsIn p r → ((i : ℕ) → i < n → Fits p r i (cmdOf p r i)) →
       scanOf n p r (beginOf p r) .code ≡ 0
-  first-fits n few f = fitting-run n 0 n (beginOf p r) begin (omega arith) few (λ i l h. f i h)
+  first-fits n few f = fitting-run n 0 n (beginOf p r) (begin-holding p r t low) (omega arith) few (λ i l h. f i h)
 
   steps-exact : ReactorAccepted p r ↔ Stepwise p r
   steps-exact = (

@@ -42,7 +42,7 @@ sequence-says p r k R = says-not says-lt
 sequence-says p r k neither = says-false
 
 -- a primitive's kinds, an operand's kind being known where it is taken
-kinds-say : (t : Takes) (j k l j′ k′ l′ : ℕ) → j ≡ j′ → ((countOf t < 2) ⊎ (k ≡ k′)) → ((countOf t < 3) ⊎ (l ≡ l′)) →
+pub kinds-say : (t : Takes) (j k l j′ k′ l′ : ℕ) → j ≡ j′ → ((countOf t < 2) ⊎ (k ≡ k′)) → ((countOf t < 3) ⊎ (l ≡ l′)) →
     Says (kindsFit t j k l) (KindsFit t j′ k′ l′)
 unfolding kindsFit countOf
 kinds-say TwoNumbers j k l j′ k′ l′ e f g =

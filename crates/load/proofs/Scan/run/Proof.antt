@@ -34,16 +34,27 @@ returns c =
 
 take-requires : tie.Need-take-requires Inv-loop μ-loop
 take-requires c κs =
-    let args = c .before .before .before .before .before .before .before .args in
-    let loop = c .before .before .before .before .before .loop in
-    (omega arith, λ q. free-source (now (args .program)) (args .r) (loop .s) (c .before .before .bytes-at .result) (c .before .before .before .before .before .before .before .pre .0) (loop .inv .2) q (sym (c .before .refuse .ensures) ∙ c .if1 .left))
+    let at-loop = c .before .before .before .before .before .loop in
+    let pre = c .before .before .before .before .before .before .before .pre in (
+      omega arith,
+      λ q. free-source _ _ _ _ (pre .0) (at-loop .inv .2) q (sym (c .before .refuse .ensures) ∙ c .if1 .left),
+    )
 
 loop-again : tie.Need-loop-again Inv-loop μ-loop
-loop-again c = (
-  c .before .before .before .before .before .before .loop .inv .0 ∙ scan-taken (now (c .before .before .before .before .before .before .before .before .args .program)) (c .before .before .before .before .before .before .before .before .args .r) (c .before .before .before .before .before .before .loop .s) (c .before .before .before .before .before .before .before .before .args .first) (c .before .before .before .before .before .before .before .before .pre .1 .1 .0) (c .before .before .before .before .before .before .loop .left) (c .before .before .before .bytes-at .result) (c .before .before .refuse .result) (omega arith) (c .before .before .before .bytes-at .ensures) (c .before .before .refuse .ensures) (c .before .if1 .left) (c .take .result) (c .take .ensures),
-  omega (arith, ap (λ (s : Scan). s .next) (c .take .ensures) ∙ after-next (now (c .before .before .before .before .before .before .before .before .args .program)) (c .before .before .before .before .before .before .before .before .args .r) (c .before .before .before .before .before .before .loop .s) (decode (c .before .before .before .bytes-at .result))),
-  rw (c .take .ensures) (after-shaped (now (c .before .before .before .before .before .before .before .before .args .program)) (c .before .before .before .before .before .before .before .before .args .r) (c .before .before .before .before .before .before .loop .s) (c .before .before .before .bytes-at .result) (c .before .before .before .before .before .before .before .before .pre .0) (c .before .before .before .before .before .before .loop .inv .2) _ (sym (c .before .before .refuse .ensures) ∙ c .before .if1 .left)),
-)
+loop-again c =
+    let args = c .before .before .before .before .before .before .before .before .args in
+    let pre = c .before .before .before .before .before .before .before .before .pre in
+    let loop = c .before .before .before .before .before .before .loop in
+    let bytes-at = c .before .before .before .bytes-at in
+    let refuse = c .before .before .refuse in (
+      loop .inv .0
+          ∙ scan-taken _ _ _ _ (pre .1 .1 .0) _ _ _ (omega arith) (bytes-at .ensures) (refuse .ensures) (c .before .if1 .left) _
+          (c .take .ensures),
+      omega
+          (arith, ap (λ (s : Scan). s .next) (c .take .ensures) ∙ after-next (now (args .program)) (args .r) (loop .s) (decode (bytes-at .result))),
+      rw (c .take .ensures)
+          (after-shaped _ _ _ _ (pre .0) (loop .inv .2) _ (sym (refuse .ensures) ∙ c .before .if1 .left)),
+    )
 
 returns-2 : tie.Need-returns-2 Inv-loop μ-loop
 returns-2 c = scan-done _ _ _ _ (omega arith) ∙ sym (c .before .loop .inv .0)

@@ -1,9 +1,7 @@
-use Prim.Native.Nat.{_≤_}
+use Rattle.load.proofs.Stands.{past-table}
 use Rattle.load.specs.Scan.{standingAt}
 use borrow.Author.Needs.{needs}
-use lib.ListN.{List·getD-eq-default, length}
-use mathlib.Core.Path.{_≡_, refl, sym}
-use native.Mathlib.Omega.{arith}
+use mathlib.Core.Path.{refl}
 use Rattle.load.proofs.Scan.standing_at.Statement.{statement}
 use Rattle.load.proofs.Scan.standing_at.Tie as tie
 
@@ -13,14 +11,7 @@ returns c = refl
 
 returns-2 : tie.Need-returns-2
 unfolding standingAt
-returns-2 c =
-    let l = c .before .args .t1 .standing in
-    let n : length l ≡ 174 = search needs in
-    let h : length l ≤ c .before .args .l = omega arith in
-    sym (List·getD-eq-default l 0 h)
+returns-2 c = past-table (c .before .args .t1 .standing) _ (search needs) (c .if1 .left)
 
 pub standing-at-spec : {M : Type 1} → statement M
-standing-at-spec =
-    tie.close
-    (tie.spec
-    (λ c. search needs) returns returns-2)
+standing-at-spec = tie.close (tie.spec (λ c. search needs) returns returns-2)

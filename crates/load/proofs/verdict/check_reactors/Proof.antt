@@ -25,42 +25,63 @@ abbrev μ-loop : tie.MeasureT-loop
 μ-loop program count first₀ r₀ first r = reactors program - r
 
 loop-holds : tie.Need-loop-holds Inv-loop μ-loop
-loop-holds c = (ap (λ (n : ℕ). reactorsOf (Accepted (sizeOf (now (c .before .before .before .args .program)) (mainOf (now (c .before .before .before .args .program))))) n (now (c .before .before .before .args .program)) 0) (omega arith), omega arith, c .tables-end .ensures ∙ sym (commands-first _), omega arith)
+loop-holds c =
+    let p = now (c .before .before .before .args .program) in (
+      ap (λ (n : ℕ). reactorsOf (Accepted (sizeOf p (mainOf p))) n p 0) (omega arith),
+      omega arith,
+      c .tables-end .ensures ∙ sym (commands-first _),
+      omega arith,
+    )
 
 run-requires : tie.Need-run-requires Inv-loop μ-loop
-run-requires c κs = (
-  c .before .before .before .before .before .before .before .pre,
-  (
-    rw (c .begin .ensures) (begin-shaped (now (c .before .before .before .before .before .before .before .args .program)) (c .before .before .before .before .before .before .before .pre .some-shape) (c .before .before .before .loop .r)),
-    (
-      c .before .before .before .loop .inv .2,
-      omega arith,
-      omega (arith, ap (λ (s : Scan). s .next) (c .begin .ensures) ∙ begin-next (now (c .before .before .before .before .before .before .before .args .program)) (c .before .before .before .before .before .before .before .pre .some-shape) (c .before .before .before .loop .r), c .before .before .before .before .before .before .before .pre .few-commands (c .before .before .before .loop .r) (omega arith)),
-    ),
-  ),
-)
+run-requires c κs =
+    let p = now (c .before .before .before .before .before .before .before .args .program) in
+    let pre = c .before .before .before .before .before .before .before .pre in
+    let loop = c .before .before .before .loop in
+    let begin = c .begin .ensures in (
+      pre,
+      (
+        rw begin (begin-shaped p (pre .some-shape) (loop .r)),
+        (
+          loop .inv .2,
+          omega arith,
+          omega (arith, ap (λ (s : Scan). s .next) begin ∙ begin-next p (pre .some-shape) (loop .r), pre .few-commands (loop .r) (omega arith)),
+        ),
+      ),
+    )
 
 returns : tie.Need-returns Inv-loop μ-loop
-returns c = ap Refused (c .at-command .ensures) ∙ reactor-refused (Accepted (sizeOf (now (c .before .before .before .before .before .before .before .before .before .before .before .before .args .program)) (mainOf (now (c .before .before .before .before .before .before .before .before .before .before .before .before .args .program))))) (now (c .before .before .before .before .before .before .before .before .before .before .before .before .args .program)) (c .before .before .before .before .before .before .before .before .loop .r) (reactors (now (c .before .before .before .before .before .before .before .before .before .before .before .before .args .program)) - (c .before .before .before .before .before .before .before .before .loop .r)) (c .before .before .before .before .before .before .commands-in .result) (c .before .before .before .before .before .begin .result) (c .before .before .before .before .run .result) (omega arith) (c .before .before .before .before .before .before .commands-in .ensures .0) (c .before .before .before .before .before .begin .ensures) (c .before .before .before .before .run .ensures) (c .before .before .if1 .taken) ∙ sym (c .before .before .before .before .before .before .before .before .loop .inv .0)
+returns c =
+    ap Refused (c .at-command .ensures)
+    ∙ reactor-refused _ _ _ _ _ _ _ (omega arith) (c .before .before .before .before .before .before .commands-in .ensures .0) (c .before .before .before .before .before .begin .ensures) (c .before .before .before .before .run .ensures)
+    (c .before .before .if1 .taken)
+    ∙ sym (c .before .before .before .before .before .before .before .before .loop .inv .0)
 
 returns-2 : tie.Need-returns-2 Inv-loop μ-loop
 returns-2 c =
     ap (λ (e : ℕ). Refused (Missing e)) (c .entry-at .ensures)
-    ∙ reactor-missing (Accepted (sizeOf (now (c .before .before .before .before .before .before .before .before .before .before .before .before .before .before .args .program)) (mainOf (now (c .before .before .before .before .before .before .before .before .before .before .before .before .before .before .args .program))))) (now (c .before .before .before .before .before .before .before .before .before .before .before .before .before .before .args .program)) (c .before .before .before .before .before .before .before .before .before .before .loop .r) (reactors (now (c .before .before .before .before .before .before .before .before .before .before .before .before .before .before .args .program)) - (c .before .before .before .before .before .before .before .before .before .before .loop .r)) (c .before .before .before .before .before .before .before .before .commands-in .result) (c .before .before .before .before .before .before .before .begin .result) (c .before .before .before .before .before .before .run .result) (omega arith) (c .before .before .before .before .before .before .before .before .commands-in .ensures .0) (c .before .before .before .before .before .before .before .begin .ensures) (c .before .before .before .before .before .before .run .ensures) (c .before .before .before .before .if1 .left) (refused (c .before .before .complete .ensures) (c .before .if2 .taken))
+    ∙ reactor-missing _ _ _ _ _ _ _ (omega arith) (c .before .before .before .before .before .before .before .before .commands-in .ensures .0) (c .before .before .before .before .before .before .before .begin .ensures) (c .before .before .before .before .before .before .run .ensures)
+    (c .before .before .before .before .if1 .left) (refused (c .before .before .complete .ensures) (c .before .if2 .taken))
     ∙ sym (c .before .before .before .before .before .before .before .before .before .before .loop .inv .0)
 
 loop-again : tie.Need-loop-again Inv-loop μ-loop
-loop-again c = (
-  c .before .before .before .before .before .before .before .before .before .loop .inv .0
-      ∙ reactor-taken (Accepted (sizeOf (now (c .before .before .before .before .before .before .before .before .before .before .before .before .before .args .program)) (mainOf (now (c .before .before .before .before .before .before .before .before .before .before .before .before .before .args .program))))) (now (c .before .before .before .before .before .before .before .before .before .before .before .before .before .args .program)) (c .before .before .before .before .before .before .before .before .before .loop .r) (reactors (now (c .before .before .before .before .before .before .before .before .before .before .before .before .before .args .program)) - (c .before .before .before .before .before .before .before .before .before .loop .r)) (c .before .before .before .before .before .before .before .commands-in .result) (c .before .before .before .before .before .before .begin .result) (c .before .before .before .before .before .run .result) (omega arith) (c .before .before .before .before .before .before .before .commands-in .ensures .0) (c .before .before .before .before .before .before .begin .ensures) (c .before .before .before .before .before .run .ensures) (c .before .before .before .if1 .left) (passed (c .before .complete .ensures) (c .if2 .left))
-      ∙ ap (λ (m : ℕ). reactorsOf (Accepted (sizeOf (now (c .before .before .before .before .before .before .before .before .before .before .before .before .before .args .program)) (mainOf (now (c .before .before .before .before .before .before .before .before .before .before .before .before .before .args .program))))) m (now (c .before .before .before .before .before .before .before .before .before .before .before .before .before .args .program)) ((c .before .before .before .before .before .before .before .before .before .loop .r) + 1)) (omega arith),
-  omega arith,
-  omega (arith, commands-next (now (c .before .before .before .before .before .before .before .before .before .before .before .before .before .args .program)) (c .before .before .before .before .before .before .before .before .before .loop .r)),
-  omega arith,
-)
+loop-again c =
+    let p = now (c .before .before .before .before .before .before .before .before .before .before .before .before .before .args .program) in
+    let loop = c .before .before .before .before .before .before .before .before .before .loop in (
+      loop .inv .0
+          ∙ reactor-taken _ _ _ _ _ _ _ (omega arith) (c .before .before .before .before .before .before .before .commands-in .ensures .0) (c .before .before .before .before .before .before .begin .ensures) (c .before .before .before .before .before .run .ensures)
+          (c .before .before .before .if1 .left) (passed (c .before .complete .ensures) (c .if2 .left))
+          ∙ ap (λ (m : ℕ). reactorsOf (Accepted (sizeOf p (mainOf p))) m p (loop .r + 1)) (omega arith),
+      omega arith,
+      omega (arith, commands-next p (loop .r)),
+      omega arith,
+    )
 
 returns-3 : tie.Need-returns-3 Inv-loop μ-loop
-returns-3 c = ap Accepted (c .size-of .ensures ∙ ap (sizeOf _) (c .before .main-of .ensures)) ∙ reactors-done (Accepted (sizeOf (now (c .before .before .before .before .before .before .before .args .program)) (mainOf (now (c .before .before .before .before .before .before .before .args .program))))) (now (c .before .before .before .before .before .before .before .args .program)) (c .before .before .before .loop .r) _ (omega arith) ∙ sym (c .before .before .before .loop .inv .0)
+returns-3 c =
+    ap Accepted (c .size-of .ensures ∙ ap (sizeOf _) (c .before .main-of .ensures))
+    ∙ reactors-done _ _ _ _ (omega arith)
+    ∙ sym (c .before .before .before .loop .inv .0)
 
 pub check-reactors-spec : {M : Type 1} → statement M
 check-reactors-spec =
