@@ -56,7 +56,7 @@ impl Scan {
     fn after_sink(self, program: &[u8], r: u8, c: Command) -> Scan
         ensures { λ s. ⌜ ((here : ℕ) → s ≡ S.standingAfter (now (program .entry)) r self here (C.sink (c .x) (c .a))) ⌝ }
     {
-        let l = sink_loc(program, r, c.x);
+        let l = sink_loc(program, r as u32, c.x);
         self.stand(l as usize, Scan::SET_SINK, 0)
     }
 
@@ -76,7 +76,7 @@ impl Scan {
         let code = c.code;
         match code {
             Command::ALLOC_MONO => {
-                let k = shape_of(program, c.x);
+                let k = shape_of(program, c.x as u32);
                 self.stand(here, Scan::WAITING, k)
             }
             Command::MAKE_POLY => self.stand(here, Scan::FREE_POINT, c.x),
@@ -100,7 +100,7 @@ impl Scan {
         requires { ⌜ (self .next < 255) × (c .code ≡ 5 → FreeSource self c) ⌝ }
         ensures { λ s. ⌜ s ≡ S.afterOf (now (program .entry)) r self (C.decode c) ⌝ }
     {
-        let here = command_loc(program, r, self.next);
+        let here = command_loc(program, r as u32, self.next);
         let mut t = self.standing_after(program, r, here as usize, c);
         t.next = self.next + 1;
         t

@@ -20,8 +20,8 @@ impl Scan {
     fn with_sources(self, program: &[u8], r: u8) -> Scan
         ensures { λ s. ⌜ s ≡ S.withSources (L.sources (now (program .entry)) r) (now (program .entry)) r self ⌝ }
     {
-        let n = sources(program, r);
-        let own = shape_of(program, r);
+        let n = sources(program, r as u32);
+        let own = shape_of(program, r as u32);
         let mut s = self;
         let mut x: u8 = 0;
         while x < n {
@@ -36,11 +36,11 @@ impl Scan {
     fn with_sinks(self, program: &[u8], r: u8) -> Scan
         ensures { λ s. ⌜ s ≡ S.withSinks (L.sinks (now (program .entry)) r) (now (program .entry)) r self ⌝ }
     {
-        let n = sinks(program, r);
+        let n = sinks(program, r as u32);
         let mut s = self;
         let mut x: u8 = 0;
         while x < n {
-            let l = sink_loc(program, r, x);
+            let l = sink_loc(program, r as u32, x);
             s = s.stand(l as usize, Scan::UNSET_SINK, 0);
             x = x + 1;
         }
@@ -72,7 +72,7 @@ impl Scan {
         let mut left = n;
         while 0 < left {
             let at = first + 8 * (s.next as u32);
-            let c = bytes_at(program, at);
+            let c = bytes_at(program, at as u64);
             let code = s.refuse(program, r, c);
             if code != 0 {
                 return Scanned {

@@ -75,7 +75,7 @@ impl Scan {
     pub(crate) fn in_sequence(self, program: &[u8], r: u8, c: Command) -> bool
         ensures { λ t. ⌜ t ≡ S.inSequence (C.sequenceOf (C.decode c)) (self .next <? B.declared (now (program .entry)) r) ⌝ }
     {
-        let in_d = self.next < declared(program, r);
+        let in_d = self.next < declared(program, r as u32);
         let code = c.code;
         match code {
             Command::ALLOC_MONO..=Command::MAKE_POLY => in_d,
@@ -121,8 +121,8 @@ impl Scan {
         ensures { λ t. ⌜ t ≡ S.agreed (now (program .entry)) r self (C.sink (c .x) (c .a)) ⌝ }
     {
         let k = self.kind_at(c.a as usize);
-        let s = shape_of(program, r);
-        (c.x < sinks(program, r)) & (k == sink_kind(program, s, c.x))
+        let s = shape_of(program, r as u32);
+        (c.x < sinks(program, r as u32)) & (k == sink_kind(program, s, c.x))
     }
 
     // 5 for Consume: the deployment has sink x.
@@ -180,7 +180,7 @@ impl Scan {
     fn sink_ordered(self, program: &[u8], r: u8, c: Command) -> bool
         ensures { λ t. ⌜ need t 6 0 ≡ S.disorder (now (program .entry)) r self (C.sink (c .x) (c .a)) ⌝ }
     {
-        let l = sink_loc(program, r, c.x);
+        let l = sink_loc(program, r as u32, c.x);
         self.standing_at(l as usize) == Scan::UNSET_SINK
     }
 

@@ -101,7 +101,7 @@ fn main_legal(program: &[u8], s: u8) -> bool
 fn entry_legal(program: &[u8], r: u8, k: u8) -> bool
     ensures { λ t. ⌜ t ≡ T.entryLegal (now (program .entry)) r k ⌝ }
 {
-    let x = byte(program, entry_at(program, r) as usize + k as usize);
+    let x = byte(program, entry_at(program, r as u32) + k as usize);
     if k == 0 {
         return (x < shapes(program)) & (!(r == main_of(program)) | main_legal(program, x));
     }
@@ -123,7 +123,7 @@ fn table_legal(program: &[u8], i: u16) -> bool
     if i < s {
         return byte(program, i as usize) < 2;
     }
-    let e = entry_at(program, 0);
+    let e = entry_at(program, 0) as u16;
     if i < e {
         let o = i - s;
         return shape_legal(program, (o / 16) as u8, (o % 16) as u8);

@@ -43,7 +43,7 @@ fn check_reactors(program: &[u8]) -> Checked
     let mut first = tables_end(program) as u32;
     let mut r: u8 = 0;
     while r < count {
-        let n = commands_in(program, r);
+        let n = commands_in(program, r as u32);
         let s = Scan::begin(program, r);
         let t = s.run(program, r, first, n);
         if t.code != 0 {
@@ -51,12 +51,12 @@ fn check_reactors(program: &[u8]) -> Checked
         }
         let end = t.scan;
         if !end.complete() {
-            return Checked::Refused(Refusal::Missing(entry_at(program, r) as usize));
+            return Checked::Refused(Refusal::Missing(entry_at(program, r as u32)));
         }
         first = first + 8 * (n as u32);
         r = r + 1;
     }
-    Checked::Accepted(size_of(program, main_of(program)) as usize)
+    Checked::Accepted(size_of(program, main_of(program) as u32) as usize)
 }
 
 // Whether a program may have n bytes: the header's at least, and "at most 65,535".

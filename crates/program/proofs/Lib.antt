@@ -1,4 +1,5 @@
 pub mod Same
 pub mod Places
+pub mod Past
 pub mod Contents
 pub mod Decode

@@ -16,6 +16,8 @@ use crate::Command;
 use crate::bytes::byte;
 use crate::entry::commands_at;
 ghost use mathlib.Core.Path.{_≡_};
+ghost use Prim.Native.Nat.{_≤_};
+ghost use lib.ListN.{length};
 ghost use Rattle.program.specs.Bytes as B;
 ghost use Rattle.program.specs.Command as C;
 
@@ -51,11 +53,23 @@ impl Command {
     }
 }
 
+// The place `at`, or the program's end if it lies past it: the bytes from there on are the same.
+fn place(program: &[u8], at: u64) -> usize
+    ensures same { λ i. ⌜ C.bytesAt (now (program .entry)) i ≡ C.bytesAt (now (program .entry)) at ⌝ }
+    ensures inside { λ i. ⌜ i ≤ length (now (program .entry)) ⌝ }
+{
+    if at < program.len() as u64 {
+        at as usize
+    } else {
+        program.len()
+    }
+}
+
 // The eight bytes from byte `at` on.
-pub fn bytes_at(program: &[u8], at: u32) -> Command
+pub fn bytes_at(program: &[u8], at: u64) -> Command
     ensures { λ c. ⌜ c ≡ C.bytesAt (now (program .entry)) at ⌝ }
 {
-    let i = at as usize;
+    let i = place(program, at);
     Command {
         code: byte(program, i),
         x: byte(program, i + 1),
@@ -69,14 +83,14 @@ pub fn bytes_at(program: &[u8], at: u32) -> Command
 }
 
 // The byte at which command i of reactor r stands.
-pub fn command_at(program: &[u8], r: u8, i: u8) -> u32
+fn command_at(program: &[u8], r: u32, i: u8) -> u64
     ensures { λ at. ⌜ at ≡ B.commandAt (now (program .entry)) r i ⌝ }
 {
-    commands_at(program, r) + 8 * (i as u32)
+    commands_at(program, r) + 8 * (i as u64)
 }
 
 // Command i of reactor r.
-pub fn bytes_of(program: &[u8], r: u8, i: u8) -> Command
+pub fn bytes_of(program: &[u8], r: u32, i: u8) -> Command
     ensures { λ c. ⌜ c ≡ C.bytesOf (now (program .entry)) r i ⌝ }
 {
     let at = command_at(program, r, i);

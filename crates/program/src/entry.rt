@@ -1,45 +1,53 @@
 // The entries of the reactors, 4 bytes each: shape, D commands, R commands, zero. The commands
 // follow, reactor by reactor, 8 bytes each. The last reactor is main.
+//
+// A reactor's number is any word: where no reactor has it, an entry is what the bytes there say, 0
+// past the end.
 use crate::bytes::byte;
 use crate::bytes::reactors;
 use crate::bytes::shapes;
 use crate::shape::shape_at;
 ghost use mathlib.Core.Path.{_≡_};
-ghost use Prim.Native.Nat.{_<_};
+ghost use Prim.Native.Nat.{_+_, _*_, _<_};
 ghost use Rattle.program.specs.Bytes as B;
 
 // The byte at which the entry of reactor r stands.
-pub fn entry_at(program: &[u8], r: u8) -> u16
-    ensures { λ e. ⌜ e ≡ B.entryAt (now (program .entry)) r ⌝ }
+pub fn entry_at(program: &[u8], r: u32) -> usize
+    ensures is { λ e. ⌜ e ≡ B.entryAt (now (program .entry)) r ⌝ }
+    ensures small { λ e. ⌜ e < 5000 + 4 * r ⌝ }
 {
     let n = shapes(program);
-    shape_at(program, n) + 4 * (r as u16)
+    shape_at(program, n) as usize + 4 * (r as usize)
 }
 
-pub fn shape_of(program: &[u8], r: u8) -> u8
+// Byte k of the entry.
+fn entry_byte(program: &[u8], r: u32, k: u8) -> u8
+    ensures { λ b. ⌜ b ≡ B.byte (now (program .entry)) (B.entryAt (now (program .entry)) r + k) ⌝ }
+{
+    byte(program, entry_at(program, r) + k as usize)
+}
+
+pub fn shape_of(program: &[u8], r: u32) -> u8
     ensures { λ s. ⌜ s ≡ B.shapeOf (now (program .entry)) r ⌝ }
 {
-    let e = entry_at(program, r);
-    byte(program, e as usize)
+    entry_byte(program, r, 0)
 }
 
 // How many D commands reactor r has.
-pub fn declared(program: &[u8], r: u8) -> u8
+pub fn declared(program: &[u8], r: u32) -> u8
     ensures { λ n. ⌜ n ≡ B.declared (now (program .entry)) r ⌝ }
 {
-    let e = entry_at(program, r);
-    byte(program, e as usize + 1)
+    entry_byte(program, r, 1)
 }
 
 // How many R commands.
-pub fn running(program: &[u8], r: u8) -> u8
+pub fn running(program: &[u8], r: u32) -> u8
     ensures { λ n. ⌜ n ≡ B.running (now (program .entry)) r ⌝ }
 {
-    let e = entry_at(program, r);
-    byte(program, e as usize + 2)
+    entry_byte(program, r, 2)
 }
 
-pub fn commands_in(program: &[u8], r: u8) -> u16
+pub fn commands_in(program: &[u8], r: u32) -> u16
     ensures is { λ n. ⌜ n ≡ B.commandsIn (now (program .entry)) r ⌝ }
     ensures few { λ n. ⌜ n < 511 ⌝ }
 {
@@ -62,27 +70,27 @@ pub fn tables_end(program: &[u8]) -> u16
     ensures { λ e. ⌜ e ≡ B.tablesEnd (now (program .entry)) ⌝ }
 {
     let n = reactors(program);
-    entry_at(program, n)
+    entry_at(program, n as u32) as u16
 }
 
-// The byte at which the commands of reactor r begin: the sum over the reactors before it.
-pub fn commands_at(program: &[u8], r: u8) -> u32
+// The byte at which the commands of reactor r begin: the sum over the entries before.
+pub fn commands_at(program: &[u8], r: u32) -> u64
     ensures is { λ at. ⌜ at ≡ B.commandsAt (now (program .entry)) r ⌝ }
-    ensures small { λ at. ⌜ at < 2000000 ⌝ }
+    ensures small { λ at. ⌜ at < 20000000000000 ⌝ }
 {
-    let mut at = tables_end(program) as u32;
-    let mut i: u8 = 0;
+    let mut at = tables_end(program) as u64;
+    let mut i: u32 = 0;
     while i < r {
-        at = at + 8 * (commands_in(program, i) as u32);
+        at = at + 8 * (commands_in(program, i) as u64);
         i = i + 1;
     }
     at
 }
 
 // The length that the counts call for.
-pub fn whole_length(program: &[u8]) -> u32
+pub fn whole_length(program: &[u8]) -> u64
     ensures { λ n. ⌜ n ≡ B.wholeLength (now (program .entry)) ⌝ }
 {
     let n = reactors(program);
-    commands_at(program, n)
+    commands_at(program, n as u32)
 }

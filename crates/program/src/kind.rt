@@ -20,7 +20,7 @@ pub fn content_legal(program: &[u8], kind: u8, content: u32) -> bool
     if reactors(program) as u32 <= content {
         return false;
     }
-    shape_of(program, content as u8) == kind - 2
+    shape_of(program, content) == kind - 2
 }
 
 // The mark of a kind's values that are not blank.

@@ -9,7 +9,6 @@ mod entry;
 mod kind;
 mod location;
 mod shape;
-mod wide;
 
 pub use bytes::byte;
 pub use bytes::global_kind;
@@ -18,7 +17,6 @@ pub use bytes::reactors;
 pub use bytes::shapes;
 pub use commands::bytes_at;
 pub use commands::bytes_of;
-pub use commands::command_at;
 pub use entry::commands_at;
 pub use entry::commands_in;
 pub use entry::declared;
@@ -43,14 +41,6 @@ pub use shape::sink_kind;
 pub use shape::sinks_in;
 pub use shape::source_kind;
 pub use shape::sources_in;
-pub use wide::wide_commands_at;
-pub use wide::wide_commands_in;
-pub use wide::wide_declared;
-pub use wide::wide_shape_of;
-pub use wide::wide_sink_loc;
-pub use wide::wide_size_of;
-pub use wide::wide_slot_at;
-pub use wide::wide_sources;
 
 // What a program's first bytes say: the format, and how many shapes, reactors and outside globals
 // there are.

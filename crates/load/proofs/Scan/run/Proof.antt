@@ -64,5 +64,5 @@ run-spec =
     tie.close
     (tie.spec
     Inv-loop μ-loop loop-holds (λ c. omega arith) (λ c. omega arith) (λ c. omega arith)
-    (λ c κs. search needs) (λ c κs. search needs) returns take-requires (λ c. omega arith)
+    (λ c. omega arith) (λ c κs. search needs) (λ c κs. search needs) returns take-requires (λ c. omega arith)
     (λ c. omega arith) loop-again returns-2)

@@ -15,7 +15,7 @@ after-supply-requires c κs = c .before .before .pre (omega arith)
 returns : tie.Need-returns
 unfolding standingAfter
 returns c =
-    let args = c .before .before .before .before .args in
+    let args = c .before .before .before .before .before .args in
     as-mono (standingAfter (now (args .program)) (args .r) (args .self) (args .here)) (args .c) (omega arith)
     (stands (args .self) (c .stand .ensures) refl refl (c .before .shape-of .ensures))
 
@@ -104,7 +104,7 @@ pub standing-after-spec : {M : Type 1} → statement M
 standing-after-spec =
     tie.close
     (tie.spec
-    (λ c κs. search needs) (λ c κs. search needs) (λ c κs. search needs) (λ c κs. search needs)
+    (λ c. search needs) (λ c κs. search needs) (λ c κs. search needs) (λ c κs. search needs) (λ c κs. search needs)
     (λ c κs. search needs) (λ c κs. search needs) after-supply-requires (λ c κs. search needs)
     (λ c κs. search needs) (λ c κs. search needs) (λ c κs. search needs) (λ c κs. search needs) returns
     returns-2 returns-3 returns-4 returns-5 returns-6 returns-7 returns-8 returns-9 returns-10

@@ -39,6 +39,6 @@ pub entry-legal-spec : {M : Type 1} → statement M
 entry-legal-spec =
     tie.close
     (tie.spec
-    (λ c κs. search needs) (λ c. search needs) (λ c. search needs) (λ c κs. search needs)
+    (λ c κs. search needs) (λ c. search needs) (λ c κs. search needs)
     (λ c κs. search needs) (λ c κs. search needs) (λ c κs. search needs) returns returns-2
     (λ c κs. search needs) returns-3 returns-4)

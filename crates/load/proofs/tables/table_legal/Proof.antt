@@ -35,12 +35,12 @@ returns-3 c =
     let args = c .before .before .before .before .before .before .args in
     no _ (lt× (omega arith))
     (no _ (lt× (omega arith))
-    (c .entry-legal .ensures ∙ ap (λ (e : ℕ). entryLegal (now (args .program)) ((args .i - e) / 4) ((args .i - e) % 4)) (c .before .before .entry-at .ensures)))
+    (c .entry-legal .ensures ∙ ap (λ (e : ℕ). entryLegal (now (args .program)) ((args .i - e) / 4) ((args .i - e) % 4)) (c .before .before .entry-at .ensures .0)))
 
 pub table-legal-spec : {M : Type 1} → statement M
 table-legal-spec =
     tie.close
     (tie.spec
-    (λ c κs. search needs) (λ c κs. search needs) returns (λ c κs. search needs) cast-shape-legal
+    (λ c κs. search needs) (λ c κs. search needs) returns (λ c κs. search needs) (λ c. omega arith) cast-shape-legal
     (λ c. omega arith) (λ c κs. search needs) returns-2 cast-entry-legal (λ c. omega arith)
     (λ c κs. search needs) returns-3)

@@ -69,4 +69,4 @@ check-spec =
     (tie.spec
     (λ c κs. search needs) returns (λ c κs. search needs) (λ c. search needs) returns-2
     (λ c κs. search needs) (λ c. search needs) returns-3 (λ c κs. search needs) (λ c. search needs)
-    returns-4 (λ c κs. search needs) (λ c. search needs) returns-5 check-reactors-requires returns-6)
+    returns-4 (λ c κs. search needs) returns-5 check-reactors-requires returns-6)

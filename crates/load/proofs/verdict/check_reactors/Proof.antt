@@ -59,7 +59,7 @@ returns c =
 
 returns-2 : tie.Need-returns-2 Inv-loop μ-loop
 returns-2 c =
-    ap (λ (e : ℕ). Refused (Missing e)) (c .entry-at .ensures)
+    ap (λ (e : ℕ). Refused (Missing e)) (c .entry-at .ensures .0)
     ∙ reactor-missing _ _ _ _ _ _ _ (omega arith) (c .before .before .before .before .before .before .before .before .commands-in .ensures .0) (c .before .before .before .before .before .before .before .begin .ensures) (c .before .before .before .before .before .before .run .ensures)
     (c .before .before .before .before .if1 .left) (refused (c .before .before .complete .ensures) (c .before .if2 .taken))
     ∙ sym (c .before .before .before .before .before .before .before .before .before .before .loop .inv .0)
@@ -79,7 +79,7 @@ loop-again c =
 
 returns-3 : tie.Need-returns-3 Inv-loop μ-loop
 returns-3 c =
-    ap Accepted (c .size-of .ensures ∙ ap (sizeOf _) (c .before .main-of .ensures))
+    ap Accepted (c .size-of .ensures .0 ∙ ap (sizeOf _) (c .before .main-of .ensures))
     ∙ reactors-done _ _ _ _ (omega arith)
     ∙ sym (c .before .before .before .loop .inv .0)
 
@@ -88,7 +88,7 @@ check-reactors-spec =
     tie.close
     (tie.spec
     Inv-loop μ-loop (λ c κs. search needs) (λ c κs. search needs) (λ c. omega arith) loop-holds
-    (λ c κs. search needs) (λ c κs. search needs) run-requires (λ c. omega arith) (λ c κs. search needs)
-    returns (λ c κs. search needs) (λ c κs. search needs) (λ c. omega arith) returns-2
+    (λ c. omega arith) (λ c κs. search needs) (λ c κs. search needs) run-requires (λ c. omega arith) (λ c κs. search needs)
+    returns (λ c κs. search needs) (λ c. omega arith) (λ c κs. search needs) returns-2
     (λ c. omega arith) (λ c. omega arith) (λ c. omega arith) (λ c. omega arith) (λ c. omega arith)
-    loop-again (λ c κs. search needs) (λ c κs. search needs) (λ c. omega arith) returns-3)
+    loop-again (λ c κs. search needs) (λ c. omega arith) (λ c κs. search needs) (λ c. omega arith) returns-3)

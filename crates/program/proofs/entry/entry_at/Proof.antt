@@ -8,10 +8,11 @@ use Rattle.program.proofs.entry.entry_at.Tie as tie
 
 returns : tie.Need-returns
 unfolding entryAt
-returns c = omega (arith, ap (shapeAt (now (c .before .before .before .args .program))) (c .before .shapes .ensures))
+returns c = (omega (arith, ap (shapeAt (now (c .before .before .before .args .program))) (c .before .shapes .ensures)), omega arith)
 
 pub entry-at-spec : {M : Type 1} → statement M
 entry-at-spec =
     tie.close
     (tie.spec
-    (λ c κs. search needs) (λ c κs. search needs) (λ c. search needs) (λ c. search needs) returns)
+    (λ c κs. search needs) (λ c κs. search needs) (λ c. search needs) (λ c. search needs)
+    (λ c. search needs) returns)

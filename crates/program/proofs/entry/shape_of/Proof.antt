@@ -7,10 +7,7 @@ use Rattle.program.proofs.entry.shape_of.Tie as tie
 
 returns : tie.Need-returns
 unfolding shapeOf
-returns c = c .byte .ensures ∙ ap (byte _) (omega arith)
+returns c = c .entry-byte .ensures ∙ ap (byte _) (omega arith)
 
 pub shape-of-spec : {M : Type 1} → statement M
-shape-of-spec =
-    tie.close
-    (tie.spec
-    (λ c κs. search needs) (λ c. search needs) (λ c κs. search needs) returns)
+shape-of-spec = tie.close (tie.spec (λ c κs. search needs) returns)

@@ -6,10 +6,10 @@ use Rattle.program.proofs.entry.tables_end.Tie as tie
 
 returns : tie.Need-returns
 unfolding tablesEnd
-returns c = c .entry-at .ensures ∙ ap (entryAt _) (c .before .reactors .ensures)
+returns c = c .entry-at .ensures .0 ∙ ap (entryAt _) (c .before .reactors .ensures)
 
 pub tables-end-spec : {M : Type 1} → statement M
 tables-end-spec =
     tie.close
     (tie.spec
-    (λ c κs. search needs) (λ c κs. search needs) returns)
+    (λ c κs. search needs) (λ c. search needs) (λ c κs. search needs) (λ c. search needs) returns)

@@ -12,4 +12,4 @@ pub whole-length-spec : {M : Type 1} → statement M
 whole-length-spec =
     tie.close
     (tie.spec
-    (λ c κs. search needs) (λ c κs. search needs) returns)
+    (λ c κs. search needs) (λ c. search needs) (λ c κs. search needs) returns)

@@ -23,5 +23,5 @@ pub content-legal-spec : {M : Type 1} → statement M
 content-legal-spec =
     tie.close
     (tie.spec
-    returns returns-2 (λ c κs. search needs) (λ c. search needs) returns-3 (λ c. search needs)
+    returns returns-2 (λ c κs. search needs) (λ c. search needs) returns-3
     (λ c κs. search needs) returns-4)

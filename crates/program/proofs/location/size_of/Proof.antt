@@ -6,7 +6,7 @@ use Rattle.program.proofs.location.size_of.Tie as tie
 
 returns : tie.Need-returns
 unfolding sizeOf
-returns c = c .slot-at .ensures ∙ ap (slotAt _ _) (c .before .locations .ensures)
+returns c = (c .slot-at .ensures .0 ∙ ap (slotAt _ _) (c .before .locations .ensures), c .slot-at .ensures .1)
 
 pub size-of-spec : {M : Type 1} → statement M
 size-of-spec =
