@@ -6,7 +6,7 @@ use crate::words::reactor;
 use crate::words::used;
 use program::byte;
 use program::reactors;
-use program::wide_shape_of;
+use program::shape_of;
 ghost use mathlib.Core.Path.{_≡_};
 ghost use Prim.Native.Nat.{_+_};
 ghost use lib.ListN.{getD, replicate};
@@ -26,7 +26,7 @@ fn linked(table: &[u8], o: u32, last: u32, c: u32) -> bool
 fn joins(program: &[u8], seen: &[u8], s: u8, r: u32) -> bool
     ensures { λ t. ⌜ t ≡ ((B.shapeOf (now (program .entry)) r =? s) and (getD (now (seen .entry)) r 0 =? 0)) ⌝ }
 {
-    (wide_shape_of(program, r) == s) & (byte(seen, r as usize) == 0)
+    (shape_of(program, r) == s) & (byte(seen, r as usize) == 0)
 }
 
 // Whether the chain from `head` is one of strictly falling indices, all above the owner o, of shape

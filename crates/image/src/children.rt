@@ -10,8 +10,8 @@ use crate::words::MOST_DEPTH;
 use crate::words::next;
 use crate::words::reactor;
 use program::Command;
+use program::declared;
 use program::reactors;
-use program::wide_declared;
 ghost use mathlib.Core.Path.{_≡_};
 ghost use Prim.Native.Nat.{_<_};
 ghost use Rattle.program.specs.Bytes as B;
@@ -102,7 +102,7 @@ pub(crate) fn step_children(
 {
     let at = position(program, places, memory, o);
     let r = reactor(memory, o);
-    let n = wide_declared(program, r);
+    let n = declared(program, r);
     let mut j: u8 = 0;
     while j < n {
         let s = slot_of(program, at, memory, o, j);

@@ -6,8 +6,8 @@ use crate::words::word;
 use program::byte;
 use program::commands_in;
 use program::reactors;
+use program::sources;
 use program::tables_end;
-use program::wide_sources;
 ghost use mathlib.Core.Path.{_≡_};
 ghost use Prim.Native.Nat.{_<_};
 ghost use lib.ListN.{length};
@@ -25,7 +25,7 @@ pub(crate) fn fill_positions(program: &[u8], places: &mut [u32])
     let mut r: u8 = 0;
     while r < n {
         put(places, r as usize, at);
-        at = at + 8 * (commands_in(program, r) as u32);
+        at = at + 8 * (commands_in(program, r as u32) as u32);
         r = r + 1;
     }
 }
@@ -48,7 +48,7 @@ pub(crate) fn slot_of(program: &[u8], at: u32, memory: &[u32], o: u32, j: u8) ->
     let r = reactor(memory, o);
     let i = at as usize + 8 * (j as usize);
     DSlot {
-        location: wide_sources(program, r) as u16 + j as u16,
+        location: sources(program, r) as u16 + j as u16,
         code: byte(program, i),
         x: byte(program, i + 1),
     }

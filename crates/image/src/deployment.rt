@@ -4,8 +4,8 @@ use crate::words::reactor;
 use crate::words::set_used;
 use crate::words::used;
 use crate::words::word;
-use program::wide_size_of;
-use program::wide_slot_at;
+use program::size_of;
+use program::slot_at;
 use value::Value;
 ghost use mathlib.Core.Path.{_≡_};
 ghost use Prim.Native.Nat.{_+_, _<_};
@@ -20,7 +20,7 @@ pub fn slot(program: &[u8], memory: &[u32], a: u32, l: u16) -> usize
     ensures small { λ i. ⌜ i < 8589934592 ⌝ }
 {
     let r = reactor(memory, a);
-    a as usize + wide_slot_at(program, r, l) as usize
+    a as usize + slot_at(program, r, l) as usize
 }
 
 // The mark of location l, in the deployment at a.
@@ -64,7 +64,7 @@ pub fn size_at(program: &[u8], memory: &[u32], a: u32) -> u32
     ensures small { λ n. ⌜ n < 131074 ⌝ }
 {
     let r = reactor(memory, a);
-    wide_size_of(program, r)
+    size_of(program, r)
 }
 
 // The three words of an unwired deployment at u, and u after it.
@@ -84,7 +84,7 @@ pub fn place(program: &[u8], memory: &mut [u32], r: u32, old: u32)
     ensures small { λ _. ⌜ L.sizeOf (now (program .entry)) r < 131074 ⌝ }
 {
     let u = used(memory);
-    let end = u as u64 + wide_size_of(program, r) as u64;
+    let end = u as u64 + size_of(program, r) as u64;
     if end <= 4294967295 {
         put_header(memory, u, r, old, end as u32);
     }

@@ -11,10 +11,10 @@ use crate::words::reactor;
 use crate::words::wired;
 use crate::zero::zero_at;
 use program::Command;
-use program::wide_declared;
-use program::wide_size_of;
-use program::wide_slot_at;
-use program::wide_sources;
+use program::declared;
+use program::size_of;
+use program::slot_at;
+use program::sources;
 ghost use mathlib.Core.Path.{_≡_};
 ghost use Prim.Native.Nat.{_<_};
 ghost use Rattle.value.specs.Test.{sweep};
@@ -35,10 +35,10 @@ fn clear_at(program: &[u8], memory: &[u32], a: u32) -> bool
     ensures { λ r. ⌜ r ≡ P.clearAt (now (program .entry)) (now (memory .entry)) a ⌝ }
 {
     let r = reactor(memory, a);
-    let sources = wide_sources(program, r) as u16;
-    let first = wide_slot_at(program, r, sources);
-    let end = wide_slot_at(program, r, sources + wide_declared(program, r) as u16);
-    let size = wide_size_of(program, r);
+    let sources = sources(program, r) as u16;
+    let first = slot_at(program, r, sources);
+    let end = slot_at(program, r, sources + declared(program, r) as u16);
+    let size = size_of(program, r);
     zero_at(memory, a as usize + 3, (first - 3) as usize)
         & zero_at(memory, a as usize + end as usize, (size - end) as usize)
 }
@@ -84,7 +84,7 @@ fn first_wrong(program: &[u8], at: u32, memory: &[u32], table: &[u8], o: u32) ->
     ensures { λ r. ⌜ r ≡ sweep (W.commandSound (now (program .entry)) (now (memory .entry)) (now (table .entry)) o) 0 (B.declared (now (program .entry)) (M.reactor (now (memory .entry)) o)) ⌝ }
 {
     let r = reactor(memory, o);
-    let n = wide_declared(program, r);
+    let n = declared(program, r);
     let mut j: u8 = 0;
     while j < n {
         let s = slot_of(program, at, memory, o, j);
@@ -116,5 +116,5 @@ pub(crate) fn own_sound(
     }
     let at = position(program, places, memory, a);
     let r = reactor(memory, a);
-    first_wrong(program, at, memory, table, a) == wide_declared(program, r)
+    first_wrong(program, at, memory, table, a) == declared(program, r)
 }

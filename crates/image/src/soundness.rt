@@ -13,7 +13,7 @@ use crate::words::used;
 use crate::words::wired;
 use crate::zero::zero_at;
 use program::main_of;
-use program::wide_size_of;
+use program::size_of;
 ghost use mathlib.Core.Path.{_≡_};
 ghost use Rattle.value.specs.Test.{_and_, _<?_, _=?_};
 ghost use Rattle.program.specs.Bytes as B;
@@ -57,7 +57,7 @@ fn fresh_sound(program: &[u8], memory: &[u32]) -> bool
     ensures { λ r. ⌜ r ≡ W.freshOf (now (program .entry)) (now (memory .entry)) ⌝ }
 {
     let main = main_of(program);
-    let size = wide_size_of(program, main as u32);
+    let size = size_of(program, main as u32);
     (used(memory) == MAIN_AT + size)
         & (wired(memory, MAIN_AT) == 0)
         & zero_at(memory, MAIN_AT as usize + 3, (size - 3) as usize)

@@ -15,7 +15,7 @@ use image::store;
 use image::used;
 use load::Refusal;
 use program::reactors;
-use program::wide_size_of;
+use program::size_of;
 use value::Value;
 ghost use mathlib.Core.Path.{_≡_};
 ghost use mathlib.Core.Bool.{true, false};
@@ -39,7 +39,7 @@ fn room(program: &[u8], memory: &[u32], r: u32) -> bool
     if memory.len() < u {
         return false;
     }
-    wide_size_of(program, r) as usize <= memory.len() - u
+    size_of(program, r) as usize <= memory.len() - u
 }
 
 // A new deployment of reactor r, for which there is room.

@@ -53,7 +53,7 @@ pub(crate) fn asked(program: &[u8], memory: &[u32], readings: &[u32], space: &[u
     if k != g {
         return Brought::Refused(Refusal::Reading(k as usize));
     }
-    let need = 2 * (sinks(program, main_of(program)) as usize);
+    let need = 2 * (sinks(program, main_of(program) as u32) as usize);
     if space.len() < need {
         return Brought::Refused(Refusal::SinkSpace(need));
     }

@@ -10,9 +10,9 @@ use image::next;
 use image::reactor;
 use image::store;
 use program::Command;
+use program::commands_at;
+use program::declared;
 use program::reactors;
-use program::wide_commands_at;
-use program::wide_declared;
 use value::Value;
 ghost use mathlib.Core.Path.{_≡_};
 ghost use Prim.Native.Nat.{_+_, _≤_};
@@ -78,9 +78,9 @@ fn slots_back(program: &[u8], memory: &mut [u32], u: u32, o: u32)
     let r = reactor(memory, o);
     let known = Position {
         reactor: r,
-        at: wide_commands_at(program, r),
+        at: commands_at(program, r),
     };
-    let n = wide_declared(program, r);
+    let n = declared(program, r);
     let mut j: u8 = 0;
     while j < n {
         let k = j;

@@ -1,10 +1,10 @@
 // One deployment cleared. 01: "every slot but D slots is zeroed".
 use image::reactor;
 use image::wipe;
-use program::wide_declared;
-use program::wide_size_of;
-use program::wide_slot_at;
-use program::wide_sources;
+use program::declared;
+use program::size_of;
+use program::slot_at;
+use program::sources;
 ghost use mathlib.Core.Path.{_≡_};
 ghost use Prim.Native.Nat.{_+_, _≤_};
 ghost use lib.ListN.{length};
@@ -18,17 +18,17 @@ const HEADER: usize = 3;
 fn slots_d(program: &[u8], r: u32) -> u32
     ensures { λ i. ⌜ i ≡ M.slotsD (now (program .entry)) r ⌝ }
 {
-    let sources = wide_sources(program, r) as u16;
-    wide_slot_at(program, r, sources)
+    let sources = sources(program, r) as u16;
+    slot_at(program, r, sources)
 }
 
 // Where they end.
 fn slots_r(program: &[u8], r: u32) -> u32
     ensures { λ i. ⌜ i ≡ M.slotsR (now (program .entry)) r ⌝ }
 {
-    let sources = wide_sources(program, r) as u16;
-    let declared = wide_declared(program, r) as u16;
-    wide_slot_at(program, r, sources + declared)
+    let sources = sources(program, r) as u16;
+    let declared = declared(program, r) as u16;
+    slot_at(program, r, sources + declared)
 }
 
 // Zeroes all slots but D slots of one deployment's words.
@@ -52,6 +52,6 @@ pub(crate) fn clear_one(program: &[u8], memory: &mut [u32], a: u32)
 {
     let r = reactor(memory, a);
     let start = a as usize;
-    let end = start + wide_size_of(program, r) as usize;
+    let end = start + size_of(program, r) as usize;
     clear_words(program, &mut memory[start..end], r);
 }

@@ -11,8 +11,8 @@ use image::value_at;
 use image::word;
 use program::Command;
 use program::mark_of;
-use program::wide_sink_loc;
-use program::wide_sources;
+use program::sink_loc;
+use program::sources;
 use value::Value;
 ghost use mathlib.Core.Path.{_≡_};
 ghost use Prim.Native.Nat.{ℕ, _<_};
@@ -29,7 +29,7 @@ pub(crate) fn here(program: &[u8], memory: &[u32], o: u32, i: u16) -> u16
     ensures { λ l. ⌜ l ≡ L.commandLoc (now (program .entry)) (M.reactor (now (memory .entry)) o) i ⌝ }
 {
     let r = reactor(memory, o);
-    wide_sources(program, r) as u16 + i
+    sources(program, r) as u16 + i
 }
 
 // The command gives v.
@@ -157,7 +157,7 @@ fn sink_value(program: &[u8], memory: &[u32], d: u32, x: u8) -> Value
     ensures { λ v. ⌜ v ≡ M.valueAt (now (program .entry)) (now (memory .entry)) d (L.sinkLoc (now (program .entry)) (M.reactor (now (memory .entry)) d) x) ⌝ }
 {
     let r = reactor(memory, d);
-    value_at(program, memory, d, wide_sink_loc(program, r, x))
+    value_at(program, memory, d, sink_loc(program, r, x))
 }
 
 // 7 Consume: sink x of deployment b, blank where there is none.
@@ -178,7 +178,7 @@ pub(crate) fn sink(program: &[u8], memory: &mut [u32], o: u32, x: u8, a: u8) -> 
     ensures { λ r. ⌜ ((h i : ℕ) → Acts (now (program .entry)) h (now (memory .entry)) o i (C.sink x a) r (now (memory .exit))) ⌝ }
 {
     let r = reactor(memory, o);
-    let l = wide_sink_loc(program, r, x);
+    let l = sink_loc(program, r, x);
     let given = value_at(program, memory, o, a as u16);
     store(program, memory, o, l, given);
     Outcome::Move

@@ -14,9 +14,9 @@ use crate::command::supply;
 use image::reactor;
 use image::set_wired;
 use program::Command;
-use program::byte;
-use program::wide_commands_at;
-use program::wide_declared;
+use program::bytes_at;
+use program::commands_at;
+use program::declared;
 ghost use mathlib.Core.Path.{_≡_};
 ghost use Prim.Native.Nat.{_<_};
 ghost use Rattle.program.specs.Bytes as B;
@@ -24,24 +24,6 @@ ghost use Rattle.program.specs.Command as C;
 ghost use Rattle.image.specs.Memory as M;
 ghost use Rattle.remus.specs.Exec as X;
 ghost use Rattle.machine.specs.Act.{did, acted, Workable, Located};
-
-// The eight bytes from byte `at` on.
-fn bytes_from(program: &[u8], at: u64) -> Command
-    requires { ⌜ at < 30000000000000 ⌝ }
-    ensures { λ c. ⌜ c ≡ C.bytesAt (now (program .entry)) at ⌝ }
-{
-    let i = at as usize;
-    Command {
-        code: byte(program, i),
-        x: byte(program, i + 1),
-        a: byte(program, i + 2),
-        b: byte(program, i + 3),
-        v0: byte(program, i + 4),
-        v1: byte(program, i + 5),
-        v2: byte(program, i + 6),
-        v3: byte(program, i + 7),
-    }
-}
 
 // The byte at which the commands of reactor r begin. It is the one known, unless words that are not
 // sound changed the reactor while it ran.
@@ -53,7 +35,7 @@ fn position(program: &[u8], known: Position, r: u32) -> u64
     if known.reactor == r {
         return known.at;
     }
-    wide_commands_at(program, r)
+    commands_at(program, r)
 }
 
 // The bytes of command i of the deployment at o.
@@ -63,7 +45,7 @@ pub(crate) fn command_of(program: &[u8], memory: &[u32], known: Position, o: u32
 {
     let r = reactor(memory, o);
     let at = position(program, known, r);
-    bytes_from(program, at + 8 * (i as u64))
+    bytes_at(program, at + 8 * (i as u64))
 }
 
 // At D's end the deployment at o is wired.
@@ -71,7 +53,7 @@ fn make_ready(program: &[u8], memory: &mut [u32], o: u32, i: u16)
     ensures { λ _. ⌜ now (memory .exit) ≡ X.ready (now (program .entry)) (now (memory .entry)) o i ⌝ }
 {
     let r = reactor(memory, o);
-    if i == wide_declared(program, r) as u16 {
+    if i == declared(program, r) as u16 {
         set_wired(memory, o, 1);
     }
 }

@@ -47,7 +47,7 @@ pub(crate) fn write_sinks(program: &[u8], memory: &[u32], space: &mut [u32])
     requires { ⌜ 2 * L.sinks (now program) (B.mainOf (now program)) ≤ length (now space) ⌝ }
     ensures { λ _. ⌜ now (space .exit) ≡ E.sunk (now (program .entry)) (now (memory .entry)) (now (space .entry)) ⌝ }
 {
-    let main = main_of(program);
+    let main = main_of(program) as u32;
     let n = sinks(program, main);
     let mut x: u8 = 0;
     while x < n {

@@ -9,9 +9,9 @@ use crate::exec::act;
 use image::reactor;
 use image::wired;
 use load::Refusal;
-use program::wide_commands_at;
-use program::wide_commands_in;
-use program::wide_declared;
+use program::commands_at;
+use program::commands_in;
+use program::declared;
 ghost use mathlib.Core.Path.{_≡_};
 ghost use Prim.Native.Nat.{_+_, _-_, _<_, _≤_};
 ghost use Rattle.remus.specs.Exec as X;
@@ -26,7 +26,7 @@ fn opening(program: &[u8], memory: &[u32], o: u32) -> u8
         return 0;
     }
     let r = reactor(memory, o);
-    wide_declared(program, r)
+    declared(program, r)
 }
 
 // Carries out command i of the deployment at o and, where it opens another, that one's run.
@@ -92,9 +92,9 @@ pub(crate) fn run(program: &[u8], readings: &[u32], memory: &mut [u32], h: u8, o
     }
     let known = Position {
         reactor: r,
-        at: wide_commands_at(program, r),
+        at: commands_at(program, r),
     };
     let first = opening(program, memory, o) as u16;
-    let end = wide_commands_in(program, r);
+    let end = commands_in(program, r);
     sequence(program, readings, memory, known, h, o, first, end)
 }

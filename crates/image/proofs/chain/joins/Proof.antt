@@ -7,7 +7,7 @@ use Rattle.image.proofs.chain.joins.Tie as tie
 
 returns : tie.Need-returns
 unfolding byte
-returns c = same-and (same-eq (c .before .wide-shape-of .ensures) refl) (same-eq (c .byte .ensures) refl)
+returns c = same-and (same-eq (c .before .shape-of .ensures) refl) (same-eq (c .byte .ensures) refl)
 
 pub joins-spec : {M : Type 1} → statement M
 joins-spec = tie.close (tie.spec (λ c κs. search needs) (λ c κs. search needs) returns)

@@ -21,7 +21,7 @@ abbrev μ-loop : tie.MeasureT-loop
 μ-loop pass program places memory table₀ o at r n j₀ table j = n - j
 
 loop-holds : tie.Need-loop-holds Inv-loop μ-loop
-loop-holds c = (refl, children-first _ _ _ _ _ _ (c .wide-declared .ensures ∙ ap (declared _) (c .before .reactor .ensures)))
+loop-holds c = (refl, children-first _ _ _ _ _ _ (c .declared .ensures ∙ ap (declared _) (c .before .reactor .ensures)))
 
 slot-of-requires : tie.Need-slot-of-requires Inv-loop μ-loop
 slot-of-requires c κs = c .before .before .before .before .position .ensures

@@ -12,8 +12,8 @@ returns : tie.Need-returns
 unfolding commandLoc
 returns c =
     let start = c .before .before .before .before .before .before in
-    let e : c .before .before .wide-sources .result ≡ sources (now (start .args .program)) (reactor (now (start .args .memory)) (start .args .o)) =
-    c .before .before .wide-sources .ensures ∙ ap (sources _) (c .before .before .before .reactor .ensures) in
+    let e : c .before .before .sources .result ≡ sources (now (start .args .program)) (reactor (now (start .args .memory)) (start .args .o)) =
+    c .before .before .sources .ensures ∙ ap (sources _) (c .before .before .before .reactor .ensures) in
     record { located = omega arith; makes = made-at _ _ _ _ _ _ (start .pre) (c .before .byte .ensures) (c .byte2 .ensures) }
 
 pub slot-of-spec : {M : Type 1} → statement M

@@ -7,7 +7,7 @@ use Rattle.image.proofs.deployment.size_at.Tie as tie
 
 returns : tie.Need-returns
 unfolding sizeAt
-returns c = (c .wide-size-of .ensures .0 ∙ ap (sizeOf _) (c .before .reactor .ensures), c .wide-size-of .ensures .1)
+returns c = (c .size-of .ensures .0 ∙ ap (sizeOf _) (c .before .reactor .ensures), c .size-of .ensures .1)
 
 pub size-at-spec : {M : Type 1} → statement M
 size-at-spec = tie.close (tie.spec (λ c κs. search needs) (λ c κs. search needs) returns)

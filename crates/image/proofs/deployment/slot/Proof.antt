@@ -14,7 +14,7 @@ returns c =
     let start = c .before .before .before .before in (
       omega (
         arith,
-        c .wide-slot-at .ensures .0
+        c .slot-at .ensures .0
             ∙ ap (λ (r : ℕ). slotAt (now (start .args .program)) r (start .args .l)) (c .before .reactor .ensures),
       ),
       omega arith,

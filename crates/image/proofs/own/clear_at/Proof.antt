@@ -12,7 +12,7 @@ sub-zero-at c =
     omega (
       arith,
       slots-first (now (c .before .before .before .before .before .before .before .before .args .program))
-          (c .before .before .before .before .before .reactor .result) (c .before .before .before .before .wide-sources .result),
+          (c .before .before .before .before .before .reactor .result) (c .before .before .before .before .sources .result),
     )
 
 sub-zero-at-2 : tie.Need-sub-zero-at-2
@@ -21,17 +21,17 @@ sub-zero-at-2 c =
       arith,
       slots-within (now (c .before .before .before .before .before .before .before .before .before .args .program))
           (c .before .before .before .before .before .before .reactor .result) _ _
-          (c .before .before .before .before .before .wide-sources .ensures) (c .before .before .before .wide-declared .ensures),
+          (c .before .before .before .before .before .sources .ensures) (c .before .before .before .declared .ensures),
     )
 
 returns : tie.Need-returns
 returns c =
     same-and (c .before .zero-at .ensures) (c .zero-at2 .ensures)
-    ∙ clear-same _ _ _ _ (c .before .before .before .before .before .before .wide-sources .ensures)
-    (c .before .before .before .before .wide-declared .ensures) _ _ _ _ _
+    ∙ clear-same _ _ _ _ (c .before .before .before .before .before .before .sources .ensures)
+    (c .before .before .before .before .declared .ensures) _ _ _ _ _
     (c .before .before .before .before .before .before .before .reactor .ensures)
-    (c .before .before .before .before .before .wide-slot-at .ensures .0) (c .before .before .before .wide-slot-at2 .ensures .0)
-    (c .before .before .wide-size-of .ensures .0)
+    (c .before .before .before .before .before .slot-at .ensures .0) (c .before .before .before .slot-at2 .ensures .0)
+    (c .before .before .size-of .ensures .0)
 
 pub clear-at-spec : {M : Type 1} → statement M
 clear-at-spec =

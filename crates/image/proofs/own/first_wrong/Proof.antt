@@ -24,7 +24,7 @@ abbrev μ-loop : tie.MeasureT-loop
 μ-loop program at memory table o r n j₀ j = n - j
 
 loop-holds : tie.Need-loop-holds Inv-loop μ-loop
-loop-holds c = ap (sweep _ _) (omega (arith, c .wide-declared .ensures ∙ ap (declared _) (c .before .reactor .ensures)))
+loop-holds c = ap (sweep _ _) (omega (arith, c .declared .ensures ∙ ap (declared _) (c .before .reactor .ensures)))
 
 slot-of-requires : tie.Need-slot-of-requires Inv-loop μ-loop
 slot-of-requires c κs = c .before .before .before .before .before .before .before .pre

@@ -24,7 +24,7 @@ returns-3 c =
     (and-goes
     (passed (c .before .before .before .before .before .clear-at .ensures) (c .before .before .before .before .if2 .left))
     (same-eq (c .before .first-wrong .ensures)
-    (c .wide-declared .ensures ∙ ap (declared _) (c .before .before .reactor .ensures))))
+    (c .declared .ensures ∙ ap (declared _) (c .before .before .reactor .ensures))))
 
 pub own-sound-spec : {M : Type 1} → statement M
 own-sound-spec =

@@ -23,8 +23,8 @@ returns : tie.Need-returns
 unfolding freshOf
 returns c =
     let start = c .before .before .before .before .before .before .before in
-    let z : c .before .before .before .wide-size-of .result ≡ sizeOf (now (start .args .program)) (mainOf (now (start .args .program))) =
-    c .before .before .before .wide-size-of .ensures .0 ∙ ap (sizeOf _) (c .before .before .before .before .main-of .ensures) in
+    let z : c .before .before .before .size-of .result ≡ sizeOf (now (start .args .program)) (mainOf (now (start .args .program))) =
+    c .before .before .before .size-of .ensures .0 ∙ ap (sizeOf _) (c .before .before .before .before .main-of .ensures) in
     same-and3 (same-eq (c .before .before .used .ensures) (omega arith)) (same-eq (c .before .wired .ensures) refl)
     (c .zero-at .ensures ∙ ap (zeroAt _ _) (omega arith))
 

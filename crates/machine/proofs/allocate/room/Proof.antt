@@ -12,7 +12,7 @@ returns c =
     sym (le× (omega (arith, size-formula (args .program .now) (args .r))))
 
 returns-2 : tie.Need-returns-2
-returns-2 c = same-le (c .wide-size-of .ensures .0) (omega arith)
+returns-2 c = same-le (c .size-of .ensures .0) (omega arith)
 
 pub room-spec : {M : Type 1} → statement M
 room-spec =

@@ -21,14 +21,14 @@ abbrev μ-loop : tie.MeasureT-loop
 loop-holds : tie.Need-loop-holds Inv-loop μ-loop
 loop-holds c =
     let args = c .before .before .before .before .before .before .args in
-    let e : c .wide-declared .result - 0 ≡ declared (args .program .now) (reactor (args .memory .now) (args .o)) = omega
-    (arith, c .wide-declared .ensures, ap (declared (args .program .now)) (c .before .before .reactor .ensures)) in
+    let e : c .declared .result - 0 ≡ declared (args .program .now) (reactor (args .memory .now) (args .o)) = omega
+    (arith, c .declared .ensures, ap (declared (args .program .now)) (c .before .before .reactor .ensures)) in
     (refl, rw e)
 
 slot-back-requires : tie.Need-slot-back-requires Inv-loop μ-loop
 slot-back-requires c κs =
-    let at-wide-commands-at = c .before .before .before .before .wide-commands-at in
-    record { is = at-wide-commands-at .ensures .0; small = at-wide-commands-at .ensures .1 }
+    let at-commands-at = c .before .before .before .before .commands-at in
+    record { is = at-commands-at .ensures .0; small = at-commands-at .ensures .1 }
 
 loop-again : tie.Need-loop-again Inv-loop μ-loop
 loop-again c =

@@ -14,11 +14,11 @@ part-clear-words-end c = omega (arith, ap (sizeOf (c .before .before .before .be
 
 returns : tie.Need-returns
 returns c =
-    let at-wide-size-of = c .before .before .before .before .wide-size-of in
+    let at-size-of = c .before .before .before .before .size-of in
     let at-reactor = c .before .before .before .before .before .reactor in
     let pre = c .before .before .before .before .before .before .before .before .before .pre in
     let args = c .before .before .before .before .before .before .before .before .before .args in
-    cleared-part _ _ _ (pre) _ _ _ (at-reactor .ensures) (ap (λ (k : ℕ). args .a + k) (at-wide-size-of .ensures .0))
+    cleared-part _ _ _ (pre) _ _ _ (at-reactor .ensures) (ap (λ (k : ℕ). args .a + k) (at-size-of .ensures .0))
     (c .before .before .clear-words .ensures)
 
 pub clear-one-spec : {M : Type 1} → statement M

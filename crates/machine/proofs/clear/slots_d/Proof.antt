@@ -5,7 +5,7 @@ use Rattle.machine.proofs.clear.slots_d.Tie as tie
 
 returns : tie.Need-returns
 unfolding slotsD
-returns c = rw (← c .before .wide-sources .ensures) (c .wide-slot-at .ensures .0)
+returns c = rw (← c .before .sources .ensures) (c .slot-at .ensures .0)
 
 pub slots-d-spec : {M : Type 1} → statement M
 slots-d-spec =

@@ -5,7 +5,7 @@ use Rattle.machine.proofs.clear.slots_r.Tie as tie
 
 returns : tie.Need-returns
 unfolding slotsR
-returns c = rw (← c .before .before .wide-sources .ensures, ← c .before .wide-declared .ensures) (c .wide-slot-at .ensures .0)
+returns c = rw (← c .before .before .sources .ensures, ← c .before .declared .ensures) (c .slot-at .ensures .0)
 
 pub slots-r-spec : {M : Type 1} → statement M
 slots-r-spec =

@@ -5,7 +5,7 @@ use Rattle.machine.proofs.command.here.Tie as tie
 
 returns : tie.Need-returns
 unfolding commandLoc
-returns c = rw (← c .before .reactor .ensures, ← c .wide-sources .ensures)
+returns c = rw (← c .before .reactor .ensures, ← c .sources .ensures)
 
 pub here-spec : {M : Type 1} → statement M
 here-spec =

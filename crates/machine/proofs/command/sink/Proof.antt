@@ -10,9 +10,9 @@ returns : tie.Need-returns
 unfolding exec acted
 returns c =
     let at-value-at = c .before .before .before .before .value-at in
-    let at-wide-sink-loc = c .before .before .before .before .before .before .wide-sink-loc in
+    let at-sink-loc = c .before .before .before .before .before .before .sink-loc in
     let at-reactor = c .before .before .before .before .before .before .before .reactor in
-    λ h i rd. rw (← at-reactor .ensures, ← at-wide-sink-loc .ensures, ← at-value-at .ensures)
+    λ h i rd. rw (← at-reactor .ensures, ← at-sink-loc .ensures, ← at-value-at .ensures)
     (ap (did Move) (c .before .before .store .ensures))
 
 pub sink-spec : {M : Type 1} → statement M

@@ -3,7 +3,7 @@ use Rattle.machine.proofs.command.sink_value.Statement.{statement}
 use Rattle.machine.proofs.command.sink_value.Tie as tie
 
 returns : tie.Need-returns
-returns c = rw (← c .before .before .reactor .ensures, ← c .before .wide-sink-loc .ensures) (c .value-at .ensures)
+returns c = rw (← c .before .before .reactor .ensures, ← c .before .sink-loc .ensures) (c .value-at .ensures)
 
 pub sink-value-spec : {M : Type 1} → statement M
 sink-value-spec =

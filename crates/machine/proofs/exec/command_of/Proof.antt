@@ -6,7 +6,7 @@ use Rattle.machine.proofs.exec.command_of.Tie as tie
 
 returns : tie.Need-returns
 unfolding bytesOf commandAt
-returns c = rw (← c .before .before .reactor .ensures, ← c .before .position .ensures .0) (c .bytes-from .ensures)
+returns c = rw (← c .before .before .reactor .ensures, ← c .before .position .ensures .0) (c .bytes-at .ensures)
 
 pub command-of-spec : {M : Type 1} → statement M
 command-of-spec =

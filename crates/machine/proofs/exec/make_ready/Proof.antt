@@ -10,15 +10,15 @@ returns : tie.Need-returns
 unfolding ready
 returns c =
     let at-if1 = c .before .before .before .before .if1 in
-    let at-wide-declared = c .before .before .before .before .before .wide-declared in
+    let at-declared = c .before .before .before .before .before .declared in
     let at-reactor = c .before .before .before .before .before .before .reactor in
-    yes _ (eq! (at-if1 .taken ∙ at-wide-declared .ensures ∙ ap (declared _) (at-reactor .ensures)))
+    yes _ (eq! (at-if1 .taken ∙ at-declared .ensures ∙ ap (declared _) (at-reactor .ensures)))
     (c .before .before .set-wired .ensures)
 
 returns-2 : tie.Need-returns-2
 unfolding ready
 returns-2 c =
-    no _ (eq× (λ e. c .if1 .left (e ∙ sym (c .before .wide-declared .ensures ∙ ap (declared _)
+    no _ (eq× (λ e. c .if1 .left (e ∙ sym (c .before .declared .ensures ∙ ap (declared _)
     (c .before .before .reactor .ensures))))) refl
 
 pub make-ready-spec : {M : Type 1} → statement M

@@ -23,8 +23,8 @@ use Rattle.machine.proofs.run.+command+run+sequence.Lts-sequence as seq
 use Rattle.image.proofs.reactor.Reads as reactor-reads
 use Rattle.machine.proofs.exec.act.Reads as act-reads
 use Rattle.machine.proofs.run.opening.Reads as opening-reads
-use Rattle.program.proofs.wide_commands_at.Reads as wide-commands-at-reads
-use Rattle.program.proofs.wide_commands_in.Reads as wide-commands-in-reads
+use Rattle.program.proofs.commands_at.Reads as commands-at-reads
+use Rattle.program.proofs.commands_in.Reads as commands-in-reads
 
 abbrev μ-command : Measures 3 command-kinds.ps ℕ
 μ-command κs a = (65 - a .1 .1 .1 .1 .0) * 3
@@ -61,12 +61,12 @@ abbrev run-cs : ℕ → run-lts.Claims
 run-cs t = (
   reactor-reads.Asked,
   reactor-reads.Learnt,
-  wide-commands-at-reads.Asked,
-  wide-commands-at-reads.Learnt,
+  commands-at-reads.Asked,
+  commands-at-reads.Learnt,
   opening-reads.Asked,
   opening-reads.Learnt,
-  wide-commands-in-reads.Asked,
-  wide-commands-in-reads.Learnt,
+  commands-in-reads.Asked,
+  commands-in-reads.Learnt,
   sequence-below t,
   sequence.Post,
 )
@@ -100,14 +100,14 @@ run-returns t c = too-deep _ _ _ _ _ _ (c .if1 .taken) (c .before .reactor .ensu
 
 run-sequence-requires : (t : ℕ) → run-lts.Need-sequence-requires (run-cs t) (run-at t) run.Post
 run-sequence-requires t c κs =
-    let at-wide-commands-at = c .before .before .before .before .wide-commands-at in
+    let at-commands-at = c .before .before .before .before .commands-at in
     let pre = c .before .before .before .before .before .before .before .before .before .before .before .pre in (
       omega arith,
       (
         omega arith,
         (
-          c .before .wide-commands-in .ensures .1,
-          (pre .1, record { is = at-wide-commands-at .ensures .0; small = at-wide-commands-at .ensures .1 }),
+          c .before .commands-in .ensures .1,
+          (pre .1, record { is = at-commands-at .ensures .0; small = at-commands-at .ensures .1 }),
         ),
       ),
     )
@@ -115,7 +115,7 @@ run-sequence-requires t c κs =
 run-returns-2 : (t : ℕ) → run-lts.Need-returns-2 (run-cs t) (run-at t) run.Post
 run-returns-2 t c =
     let at-opening = c .before .before .before .before .before .opening in
-    let at-wide-commands-in = c .before .before .before .before .wide-commands-in in
+    let at-commands-in = c .before .before .before .before .commands-in in
     let at-if1 = c .before .before .before .before .before .before .before .before .if1 in
     let at-reactor = c .before .before .before .before .before .before .before .before .before .reactor in
     let args = c .before .before .before .before .before .before .before .before .before .before .before .before .before .before .args in
@@ -123,7 +123,7 @@ run-returns-2 t c =
       opens (args .program .now) (args .readings .now) (args .h) (args .o) (args .memory .now) (at-if1 .left),
       ← at-reactor .ensures,
       ← at-opening .ensures,
-      ← at-wide-commands-in .ensures .0,
+      ← at-commands-in .ensures .0,
     ) (c .before .before .sequence .ensures)
 
 abbrev sequence-Inv-loop : sequence-lts.InvT-loop

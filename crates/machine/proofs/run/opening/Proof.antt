@@ -15,7 +15,7 @@ unfolding opening
 returns-2 c =
     let at-wired = c .before .before .before .wired in
     no _ (eq× (λ e. c .before .before .if1 .left (at-wired .ensures ∙ e)))
-    (c .wide-declared .ensures ∙ ap (declared _) (c .before .reactor .ensures))
+    (c .declared .ensures ∙ ap (declared _) (c .before .reactor .ensures))
 
 pub opening-spec : {M : Type 1} → statement M
 opening-spec =
