@@ -13,11 +13,11 @@ use Rattle.image.specs.Memory.{used, reactor, next}
 use Rattle.image.specs.Sound.{Deployed, OnChain, head, tail, Chain, empty, link}
 use Rattle.image.specs.Passes.{chainFrom, membersFrom}
 use Rattle.image.specs.declared.Pass.the-variants.{Starts}
+use Rattle.image.proofs.Lists.{zeros-at}
 use Rattle.image.proofs.Chains.{members-end, members-next}
 use Rattle.image.proofs.Memory.Tiles.{in-to}
 use Rattle.image.proofs.Memory.Distinct.{Members, end, one, few-members}
 use Rattle.image.proofs.Exact.Lists.{_∈_, same, total, is, is-same, is-other, count, count-none}
-use Rattle.image.proofs.Exact.Tables.{zeros-at}
 use Rattle.image.proofs.Exact.Tiling.{Laid, tableOf, start-test, deployed-reactor}
 
 module _ (p m : List ℕ) where

@@ -1,5 +1,5 @@
 -- The folds of the passes: the lowest place at which a test fails, and tables changed for each of a list, entry by entry.
-use Prim.Native.Nat.{ℕ, zero, suc, _/_, _<_}
+use Prim.Native.Nat.{ℕ, _/_, _<_}
 use mathlib.Core.Path.{_≡_, refl, _∙_, ap}
 use mathlib.Core.Bool.{Bool, true}
 use mathlib.Core.Logic.{_↔_, _≢_}
@@ -11,7 +11,7 @@ use Rattle.value.specs.Test.{_=?_}
 use Rattle.value.proofs.Tests.{eq!, eq?, guards}
 use Rattle.image.specs.Memory.{mainAt}
 use Rattle.image.specs.Passes.{tableBytes, lowest, over, entry, withEntry, blankTable}
-use Rattle.image.proofs.Lists.{over-append}
+use Rattle.image.proofs.Lists.{over-append, zeros-at}
 use Rattle.image.proofs.Exact.Lists.{_∈_, same, each, flat}
 
 -- no place is found where the test passes at each; a place is not 0
@@ -26,11 +26,6 @@ lowest-none ok (b ∷ l) pos =
     (λ h. let k = g .0 h in e .1 (k .0, w .0 (k .1)), λ h. let k = e .0 h in g .1 (k .0, w .1 (k .1)))
 
 -- ---- a table changed for each of a list
-
-pub zeros-at : (n i : ℕ) → getD {A = ℕ} (replicate n 0) i 0 ≡ 0
-zeros-at zero i = refl
-zeros-at (suc n) zero = refl
-zeros-at (suc n) (suc i) = zeros-at n i
 
 module _ (f : List ℕ → ℕ → List ℕ) where
   -- what each change keeps, all keep

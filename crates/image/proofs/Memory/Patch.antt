@@ -1,11 +1,12 @@
 -- Words put together, and words with a stretch put in: what stands where.
-use Prim.Native.Nat.{ℕ, zero, suc, _+_, _-_, _≤_, _<_}
+use Prim.Native.Nat.{ℕ, _+_, _-_, _≤_, _<_}
 use mathlib.Core.Path.{_≡_, refl, ap, _∙_, sym}
 use mathlib.Core.List.{List, _++_}
 use native.Mathlib.Omega.{arith}
 use lib.ListN.{length, getD, take, drop, replicate, length-append, length-drop, List·getD-append}
 use lib.Seq.{length-take-le, getD-append-add, getD-take, getD-drop}
 use Rattle.image.specs.Memory.{word, patch}
+use Rattle.image.proofs.Lists.{zeros-at}
 
 pub word-left : (xs ys : List ℕ) (k : ℕ) → k < length xs → word (xs ++ ys) k ≡ word xs k
 unfolding word
@@ -25,9 +26,7 @@ word-drop n xs k = getD-drop n xs k 0
 
 pub word-zeros : (n k : ℕ) → word (replicate n 0) k ≡ 0
 unfolding word
-word-zeros zero k = refl
-word-zeros (suc n) zero = refl
-word-zeros (suc n) (suc k) = word-zeros n k
+word-zeros n k = zeros-at n k
 
 module _ (m : List ℕ) (i : ℕ) (ws : List ℕ) (inside : i ≤ length m) where
   before : length (take i m) ≡ i
