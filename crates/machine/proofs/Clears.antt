@@ -18,7 +18,7 @@ use Rattle.remus.proofs.Clearing.{Loose, early, late, slots-order, loose-inside
 use Rattle.remus.proofs.Undo.Back.{word-unset}
 use Rattle.machine.specs.declared.Each.{Each}
 use Rattle.machine.specs.declared.Each.the-variants.{Clear, Back}
-use Rattle.machine.specs.Act.{swept}
+use Rattle.machine.specs.Act.{eachOf}
 use Rattle.machine.proofs.Stretch.{put-zeros, put-last, put-part}
 
 module _ (p : List ℕ) (r : ℕ) where
@@ -133,7 +133,7 @@ module _ (p : List ℕ) (u o : ℕ) where
       local-then p m o _ _ (local-slots (declared p (reactor m o)) 0 m (omega arith)) (local-clear p _ o (slots-inside m h))
 
   -- what a pass does to it
-  pub local-swept : (s : Each) (m : List ℕ) → o + sizeAt p m o ≤ length m → Local p m o (swept s p u m o)
-  unfolding swept
-  local-swept Clear m h = local-clear p m o h
-  local-swept Back m h = local-back m h
+  pub local-each : (s : Each) (m : List ℕ) → o + sizeAt p m o ≤ length m → Local p m o (eachOf s p u m o)
+  unfolding eachOf
+  local-each Clear m h = local-clear p m o h
+  local-each Back m h = local-back m h

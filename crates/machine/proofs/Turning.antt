@@ -4,16 +4,17 @@ use Prim.Native.Nat.{ℕ, _*_, _≤_, _<_}
 use mathlib.Core.Path.{_≡_, sym, subst}
 use mathlib.Core.Bool.{true}
 use mathlib.Core.List.{List}
-use native.Mathlib.Omega.{arith}
 use lib.ListN.{length}
-use Rattle.value.proofs.Tests.{guards, le?, lt?, both?}
+use Rattle.value.proofs.Tests.{le?, both?}
 use Rattle.program.specs.Bytes.{mainOf}
 use Rattle.program.specs.Location.{sinks}
 use Rattle.load.specs.declared.Refusal.{Refusal}
 use Rattle.image.specs.Memory.{mostWords, mostTurns, mainAt, used, turns}
 use Rattle.image.specs.Start.{wordsLegal}
 use Rattle.remus.specs.Run.{ran, stopped, runOf, mainRun}
-use Rattle.remus.specs.Turn.{Asked, fine, asked, askedOf}
+use Rattle.remus.specs.Turn.{fine, askedOf}
+use Rattle.remus.specs.Claim.{Fit}
+use Rattle.remus.proofs.Fits.{fits}
 use Rattle.remus.specs.Undo.{undoOf}
 use Rattle.remus.specs.declared.Turned.{Turned}
 use Rattle.machine.specs.declared.Ended.the-variants.{Whole, Stopped}
@@ -44,25 +45,15 @@ undone p m m′ u e h = rw e h
 
 -- ---- what is brought
 
-asked-not : (w : Refusal) → asked w ≡ fine → ⊥
-asked-not w e = let z : _≡_ {A = ℕ} 0 1 = cc in omega arith
-
 module _ (p m rd sk : List ℕ) (e : askedOf p m rd sk ≡ fine) where
-  -- the last two of the four questions
-  last-two : (2 * sinks p (mainOf p) ≤ length sk) × (turns m < mostTurns)
-  unfolding askedOf
-  last-two =
-      let a = guards (λ (x : Asked). x ≡ fine) _ _ _ (asked-not _) .0 e in
-      let b = guards (λ (x : Asked). x ≡ fine) _ _ _ (asked-not _) .0 (a .1) in
-      let c = guards (λ (x : Asked). x ≡ fine) _ _ _ (asked-not _) .0 (b .1) in
-      let d = guards (λ (x : Asked). x ≡ fine) _ _ _ (asked-not _) .0 (c .1) in
-      (le? (c .0), lt? (d .0))
+  fit : Fit p m (record { readings = rd; sinkSpace = sk })
+  fit = fits p m _ .1 e
 
   pub sinks-fit : 2 * sinks p (mainOf p) ≤ length sk
-  sinks-fit = last-two .0
+  sinks-fit = fit .room
 
   pub clock-left : turns m < mostTurns
-  clock-left = last-two .1
+  clock-left = fit .clock
 
 pub few-words : (n : ℕ) → wordsLegal n ≡ true → n ≤ mostWords
 unfolding wordsLegal

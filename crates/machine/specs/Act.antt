@@ -53,6 +53,6 @@ pub record Located (p : List ℕ) (q : Position) : Type 0 where
   pub small : q .at < 20000000000000
 
 -- what a pass over the deployments below u does to each
-unfoldable pub swept : Each → List ℕ → ℕ → List ℕ → ℕ → List ℕ
-swept Clear p u = clearOne p
-swept Back p u = oneBack p u
+unfoldable pub eachOf : Each → List ℕ → ℕ → List ℕ → ℕ → List ℕ
+eachOf Clear p u = clearOne p
+eachOf Back p u = oneBack p u

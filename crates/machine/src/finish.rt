@@ -2,7 +2,7 @@
 // sink words keep their content, every slot but D slots is zeroed, and word 1 grows by 1."
 use crate::Each;
 use crate::MAIN_AT;
-use crate::sweep::sweep;
+use crate::passes::pass_over;
 use image::put;
 use image::set_turns;
 use image::turns;
@@ -29,7 +29,7 @@ pub(crate) fn finish(program: &[u8], memory: &mut [u32])
 {
     let u = used(memory);
     let t = turns(memory);
-    sweep(program, memory, Each::Clear, u);
+    pass_over(program, memory, Each::Clear, u);
     set_turns(memory, t + 1)
 }
 

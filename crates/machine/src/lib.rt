@@ -2,7 +2,7 @@
 //
 // A command is decoded once (exec) and carried out by a function of its own (command, allocate); a
 // deployment's commands follow one another (run). A completed run leaves its sinks and cleared words
-// (finish), a refused one is undone in place (undo); both go over the deployments (sweep). Memory is
+// (finish), a refused one is undone in place (undo); both go over the deployments (passes). Memory is
 // never copied. The work of a turn is linear in the program's bytes and the used words.
 mod allocate;
 mod asked;
@@ -12,8 +12,8 @@ mod clear;
 mod command;
 mod exec;
 mod finish;
+mod passes;
 mod run;
-mod sweep;
 mod undo;
 
 pub use calls::turn;

@@ -2,7 +2,7 @@
 // memory and sink space as at entry."
 use crate::Each;
 use crate::MAIN_AT;
-use crate::sweep::sweep;
+use crate::passes::pass_over;
 use image::set_used;
 use image::set_wired;
 use image::turns;
@@ -41,7 +41,7 @@ fn later_back(program: &[u8], memory: &mut [u32], u: u32)
     requires { ⌜ Tiling (now program) (now memory) u M.mainAt ⌝ }
     ensures { λ _. ⌜ now (memory .exit) ≡ U.back (now (program .entry)) u false (now (memory .entry)) ⌝ }
 {
-    sweep(program, memory, Each::Back, u);
+    pass_over(program, memory, Each::Back, u);
     zero_from(memory, u as usize)
 }
 

@@ -6,33 +6,14 @@ use mathlib.Core.List.{List}
 use native.Mathlib.Omega.{arith}
 use Rattle.value.specs.Test.{_≤?_, _=?_, _or_}
 use Rattle.value.specs.Primitive.{isPrimitive}
-use Rattle.value.proofs.Tests.{Says, says-lt, says-le, says-eq, says-true, says-false, says-and, says-or, pick-any, cases, le?, le×?, eq?, eq! }
-use Rattle.program.specs.Command.{Cmd, decode, vOf, allocMono, makePoly, constant, global, supply, react, consume, sink, allocPoly, primitive, none}
+use Rattle.value.proofs.Tests.{Says, says-lt, says-le, says-eq, says-true, says-false, says-and, says-or, cases, le?, le×?, eq?, eq! }
+use Rattle.program.specs.Command.{decode, vOf}
 use Rattle.program.specs.Kind.{contentLegal, Content}
 use Rattle.program.specs.declared.Command.{Command}
+use Rattle.program.proofs.Decode.{by-code}
 use Rattle.load.specs.Scan.{formed}
 use Rattle.load.specs.Rules.{ZeroBytes}
 use Rattle.load.proofs.Exact.Fits.{Ranged}
-
--- what holds of each command that the bytes may be, holds of the one that they are
-pub by-code : (P : Cmd → Type 0) (c : Command) →
-    P (allocMono (c .x)) →
-    P (makePoly (c .x)) →
-    P (constant (c .x) (vOf c)) →
-    P (global (c .x)) →
-    P (supply (c .x) (c .a) (c .b)) →
-    P (react (c .b)) →
-    P (consume (c .x) (c .b)) →
-    P (sink (c .x) (c .a)) →
-    P (allocPoly (c .a) (c .b)) →
-    P (primitive (c .x) (c .a) (c .b) (c .v0)) →
-    P none →
-    P (decode c)
-unfolding decode
-by-code P c h1 h2 h3 h4 h5 h6 h7 h8 h9 h10 h0 =
-    pick-any P _ (λ _. h1) (λ _. pick-any P _ (λ _. h2) (λ _. pick-any P _ (λ _. h3) (λ _. pick-any P _ (λ _. h4) (λ _. pick-any P _ (λ _. h5)
-    (λ _. pick-any P _ (λ _. h6) (λ _. pick-any P _ (λ _. h7) (λ _. pick-any P _ (λ _. h8) (λ _. pick-any P _ (λ _. h9)
-    (λ _. pick-any P _ (λ _. h10) (λ _. h0))))))))))
 
 -- ---- a sum is zero where each part is
 
@@ -65,17 +46,17 @@ pub formed-says : (p : List ℕ) (c : Command) → Says (formed p c (decode c)) 
 unfolding formed isPrimitive
 formed-says p c =
     by-code (λ d. Says (formed p c d) (ZeroBytes c d × Ranged p d)) c
-    (says-and zero-three says-lt)
-    (says-and zero-three says-lt)
-    (says-and zero-two (says-and says-lt (content-says p (c .x) (vOf c))))
-    (says-and zero-three says-le)
-    (Iff·trans says-eq only)
-    (Iff·trans zero-three only)
-    (Iff·trans zero-two only)
-    (Iff·trans zero-two only)
-    (Iff·trans zero-two only)
-    (Iff·trans (says-and says-lt (says-and zero-three (says-and not-taken not-taken))) (
+    (λ _. says-and zero-three says-lt)
+    (λ _. says-and zero-three says-lt)
+    (λ _. says-and zero-two (says-and says-lt (content-says p (c .x) (vOf c))))
+    (λ _. says-and zero-three says-le)
+    (λ _. Iff·trans says-eq only)
+    (λ _. Iff·trans zero-three only)
+    (λ _. Iff·trans zero-two only)
+    (λ _. Iff·trans zero-two only)
+    (λ _. Iff·trans zero-two only)
+    (λ _. Iff·trans (says-and says-lt (says-and zero-three (says-and not-taken not-taken))) (
       (λ h. ((h .1 .0 .0, h .1 .0 .1, h .1 .0 .2, h .1 .1 .0, h .1 .1 .1), h .0)),
       (λ h. (h .1, ((h .0 .0, h .0 .1, h .0 .2), (h .0 .3, h .0 .4)))),
     ))
-    ((λ e. absurd (says-false .0 e)), (λ h. absurd (h .0)))
+    (λ _. ((λ e. absurd (says-false .0 e)), (λ h. absurd (h .0))))

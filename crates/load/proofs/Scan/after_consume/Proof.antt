@@ -10,7 +10,10 @@ use Rattle.load.proofs.Scan.after_consume.Tie as tie
 
 returns : tie.Need-returns
 unfolding standingAfter
-returns c = λ r. stands (c .before .before .before .before .before .args .self) (c .stand .ensures) refl refl (c .before .sink-kind .ensures ∙ ap (λ (s : ℕ). sinkKind (now (c .before .before .before .before .before .args .program)) s (c .before .before .before .before .before .args .c .x)) (c .before .before .kind-at .ensures))
+returns c =
+    let args = c .before .before .before .before .before .args in
+    let kind = c .before .sink-kind .ensures ∙ ap (λ (s : ℕ). sinkKind (now (args .program)) s (args .c .x)) (c .before .before .kind-at .ensures) in
+    λ r. stands (args .self) (c .stand .ensures) refl refl kind
 
 pub after-consume-spec : {M : Type 1} → statement M
 after-consume-spec =

@@ -9,9 +9,11 @@ use Rattle.load.proofs.Scan.after_poly.Tie as tie
 returns : tie.Need-returns
 unfolding standingAfter
 returns c =
+    let args = c .before .before .before .before .args in
+    let kind-at = c .before .before .kind-at in
     λ p r. c .stand2 .ensures
-    ∙ ap (λ (u : Scan). stand u (c .before .before .before .before .args .here) waiting (c .before .before .kind-at .result)) (c .before .stand .ensures)
-    ∙ ap (λ (k : ℕ). stand (stand (c .before .before .before .before .args .self) (c .before .before .before .before .args .c .b) usedPoint k) (c .before .before .before .before .args .here) waiting k) (c .before .before .kind-at .ensures)
+    ∙ ap (λ (u : Scan). stand u (args .here) waiting (kind-at .result)) (c .before .stand .ensures)
+    ∙ ap (λ (k : ℕ). stand (stand (args .self) (args .c .b) usedPoint k) (args .here) waiting k) (kind-at .ensures)
 
 pub after-poly-spec : {M : Type 1} → statement M
 after-poly-spec =

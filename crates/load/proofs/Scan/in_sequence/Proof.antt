@@ -1,4 +1,5 @@
 use Prim.Native.Nat.{_<_}
+use Rattle.load.proofs.Uncoded.{as-none}
 use Rattle.load.specs.Scan.{inSequence}
 use Rattle.program.proofs.Decode.{by-code}
 use Rattle.program.specs.Bytes.{declared}
@@ -8,8 +9,8 @@ use Rattle.value.specs.Test.{_<?_}
 use borrow.Author.Needs.{needs}
 use denote.Ref.{now}
 use lib.Dec.{ltb}
-use mathlib.Core.Bool.{false, not}
-use mathlib.Core.Logic.{⊎-elim}
+use mathlib.Core.Bool.{not}
+use mathlib.Core.Logic.{inl, inr, ⊎-elim}
 use mathlib.Core.Path.{_≡_, ap, refl}
 use native.Mathlib.Omega.{arith}
 use Rattle.load.proofs.Scan.in_sequence.Statement.{statement}
@@ -46,23 +47,15 @@ returns-3 : tie.Need-returns-3
 unfolding inSequence sequenceOf
 returns-3 c =
     let args = c .before .before .before .before .args in
-    by-code
-    (λ (d : Cmd). false ≡ inSequence (sequenceOf d) (args .self .next <? declared (now (args .program)) (args .r)))
-    (args .c) (λ e. absurd (omega arith)) (λ e. absurd (omega arith)) (λ e. absurd (omega arith))
-    (λ e. absurd (omega arith)) (λ e. absurd (omega arith)) (λ e. absurd (omega arith))
-    (λ e. absurd (omega arith)) (λ e. absurd (omega arith)) (λ e. absurd (omega arith))
-    (λ e. absurd (omega arith)) (λ w. refl)
+    as-none (λ (d : Cmd). inSequence (sequenceOf d) (args .self .next <? declared (now (args .program)) (args .r))) (args .c)
+    (inl (omega arith)) refl
 
 returns-4 : tie.Need-returns-4
 unfolding inSequence sequenceOf
 returns-4 c =
     let args = c .before .before .before .before .before .before .args in
-    by-code
-    (λ (d : Cmd). false ≡ inSequence (sequenceOf d) (args .self .next <? declared (now (args .program)) (args .r)))
-    (args .c) (λ e. absurd (omega arith)) (λ e. absurd (omega arith)) (λ e. absurd (omega arith))
-    (λ e. absurd (omega arith)) (λ e. absurd (omega arith)) (λ e. absurd (omega arith))
-    (λ e. absurd (omega arith)) (λ e. absurd (omega arith)) (λ e. absurd (omega arith))
-    (λ e. absurd (omega arith)) (λ w. refl)
+    as-none (λ (d : Cmd). inSequence (sequenceOf d) (args .self .next <? declared (now (args .program)) (args .r))) (args .c)
+    (inr (omega arith)) refl
 
 pub in-sequence-spec : {M : Type 1} → statement M
 in-sequence-spec =

@@ -11,9 +11,9 @@ use Rattle.load.proofs.Scan.sink_agreed.Tie as tie
 returns : tie.Need-returns
 unfolding agreed
 returns c =
-    same-and
-    (same-lt refl (c .before .before .sinks .ensures))
-    (same-eq (c .before .before .before .before .kind-at .ensures) (c .sink-kind .ensures ∙ ap (λ (s : ℕ). sinkKind (now (c .before .before .before .before .before .before .before .args .program)) s (c .before .before .before .before .before .before .before .args .c .x)) (c .before .before .before .shape-of .ensures)))
+    let args = c .before .before .before .before .before .before .before .args in
+    let kind = c .sink-kind .ensures ∙ ap (λ (s : ℕ). sinkKind (now (args .program)) s (args .c .x)) (c .before .before .before .shape-of .ensures) in
+    same-and (same-lt refl (c .before .before .sinks .ensures)) (same-eq (c .before .before .before .before .kind-at .ensures) kind)
 
 pub sink-agreed-spec : {M : Type 1} → statement M
 sink-agreed-spec =

@@ -11,9 +11,10 @@ use Rattle.load.proofs.Scan.source_agreed.Tie as tie
 returns : tie.Need-returns
 unfolding agreed
 returns c =
-    λ r. same-and
-    (same-lt refl (c .before .before .sources-in .ensures ∙ ap (sourcesIn _) (c .before .before .before .kind-at2 .ensures)))
-    (same-eq (c .before .before .before .before .before .kind-at .ensures) (c .source-kind .ensures ∙ ap (λ (s : ℕ). sourceKind (now (c .before .before .before .before .before .before .before .before .args .program)) s (c .before .before .before .before .before .before .before .before .args .c .x)) (c .before .before .before .kind-at2 .ensures)))
+    let args = c .before .before .before .before .before .before .before .before .args in
+    let shape = c .before .before .before .kind-at2 .ensures in
+    let kind = c .source-kind .ensures ∙ ap (λ (s : ℕ). sourceKind (now (args .program)) s (args .c .x)) shape in
+    λ r. same-and (same-lt refl (c .before .before .sources-in .ensures ∙ ap (sourcesIn _) shape)) (same-eq (c .before .before .before .before .before .kind-at .ensures) kind)
 
 pub source-agreed-spec : {M : Type 1} → statement M
 source-agreed-spec =

@@ -1,10 +1,10 @@
 use Rattle.load.proofs.Stands.{stands}
+use Rattle.load.proofs.Uncoded.{as-rest}
 use Rattle.load.specs.Scan.{standingAfter}
-use Rattle.program.proofs.Decode.{as-constant, as-consume, as-global, as-make, as-mono, as-poly, as-primitive, as-react, as-sink, as-supply, by-code}
-use Rattle.program.specs.Command.{Cmd}
+use Rattle.program.proofs.Decode.{as-constant, as-consume, as-global, as-make, as-mono, as-poly, as-primitive, as-react, as-sink, as-supply}
 use borrow.Author.Needs.{needs}
 use denote.Ref.{now}
-use mathlib.Core.Path.{_≡_, refl}
+use mathlib.Core.Path.{refl}
 use native.Mathlib.Omega.{arith}
 use Rattle.load.proofs.Scan.standing_after.Statement.{statement}
 use Rattle.load.proofs.Scan.standing_after.Tie as tie
@@ -86,19 +86,7 @@ returns-11 : tie.Need-returns-11
 unfolding standingAfter
 returns-11 c =
     let args = c .before .before .args in
-    by-code
-    (λ (d : Cmd). args .self ≡ standingAfter (now (args .program)) (args .r) (args .self) (args .here) d)
-    (args .c)
-    (λ e. absurd (c .match .rest .0 .0 .0 .0 .0 .0 .0 .0 .0 .1 e))
-    (λ e. absurd (c .match .rest .0 .0 .0 .0 .0 .0 .0 .0 .1 e))
-    (λ e. absurd (c .match .rest .0 .0 .0 .0 .0 .0 .0 .1 e))
-    (λ e. absurd (c .match .rest .0 .0 .0 .0 .0 .0 .1 e))
-    (λ e. absurd (c .match .rest .0 .0 .0 .0 .0 .1 e))
-    (λ e. absurd (c .match .rest .0 .0 .0 .0 .1 e))
-    (λ e. absurd (c .match .rest .0 .0 .0 .1 e))
-    (λ e. absurd (c .match .rest .0 .0 .1 e))
-    (λ e. absurd (c .match .rest .0 .1 e))
-    (λ e. absurd (c .match .rest .1 e)) (λ e. refl)
+    as-rest (standingAfter (now (args .program)) (args .r) (args .self) (args .here)) (args .c) (c .match .rest) refl
 
 pub standing-after-spec : {M : Type 1} → statement M
 standing-after-spec =

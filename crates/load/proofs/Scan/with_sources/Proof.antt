@@ -20,10 +20,11 @@ unfolding withSources
 loop-holds c = (refl, omega arith)
 
 loop-again : tie.Need-loop-again Inv-loop μ-loop
-loop-again c = (
-  one-source (now (c .before .before .before .before .before .before .before .args .program)) (c .before .before .before .before .before .before .before .args .r) (c .before .before .before .before .before .before .before .args .self) _ _ (c .before .before .before .loop .inv .0) (c .before .source-kind .ensures ∙ ap (λ (o : ℕ). sourceKind (now (c .before .before .before .before .before .before .before .args .program)) o (c .before .before .before .loop .x)) (c .before .before .before .before .shape-of .ensures)) (c .stand .ensures),
-  omega arith,
-)
+loop-again c =
+    let args = c .before .before .before .before .before .before .before .args in
+    let loop = c .before .before .before .loop in
+    let kind = c .before .source-kind .ensures ∙ ap (λ (o : ℕ). sourceKind (now (args .program)) o (loop .x)) (c .before .before .before .before .shape-of .ensures) in
+    (one-source (now (args .program)) (args .r) (args .self) _ _ (loop .inv .0) kind (c .stand .ensures), omega arith)
 
 returns : tie.Need-returns Inv-loop μ-loop
 returns c =

@@ -1,12 +1,11 @@
 use Prim.Native.Nat.{_+_, ℕ}
+use Rattle.load.proofs.Uncoded.{as-rest}
 use Rattle.load.specs.Scan.{formed}
-use Rattle.program.proofs.Decode.{as-constant, as-consume, as-global, as-make, as-mono, as-poly, as-primitive, as-react, as-sink, as-supply, by-code}
-use Rattle.program.specs.Command.{Cmd}
+use Rattle.program.proofs.Decode.{as-constant, as-consume, as-global, as-make, as-mono, as-poly, as-primitive, as-react, as-sink, as-supply}
 use Rattle.value.proofs.Tests.{same-and, same-eq, same-le, same-lt}
 use borrow.Author.Needs.{needs}
 use denote.Ref.{now}
-use mathlib.Core.Bool.{false}
-use mathlib.Core.Path.{_≡_, ap, refl}
+use mathlib.Core.Path.{ap, refl}
 use native.Mathlib.Omega.{arith}
 use Rattle.load.proofs.refuse.formed.Statement.{statement}
 use Rattle.load.proofs.refuse.formed.Tie as tie
@@ -83,18 +82,7 @@ returns-11 : tie.Need-returns-11
 unfolding formed
 returns-11 c =
     let args = c .before .before .before .before .before .before .args in
-    by-code (λ (d : Cmd). false ≡ formed (now (args .program)) (args .c) d) (args .c)
-    (λ e. absurd (c .match .rest .0 .0 .0 .0 .0 .0 .0 .0 .0 .1 e))
-    (λ e. absurd (c .match .rest .0 .0 .0 .0 .0 .0 .0 .0 .1 e))
-    (λ e. absurd (c .match .rest .0 .0 .0 .0 .0 .0 .0 .1 e))
-    (λ e. absurd (c .match .rest .0 .0 .0 .0 .0 .0 .1 e))
-    (λ e. absurd (c .match .rest .0 .0 .0 .0 .0 .1 e))
-    (λ e. absurd (c .match .rest .0 .0 .0 .0 .1 e))
-    (λ e. absurd (c .match .rest .0 .0 .0 .1 e))
-    (λ e. absurd (c .match .rest .0 .0 .1 e))
-    (λ e. absurd (c .match .rest .0 .1 e))
-    (λ e. absurd (c .match .rest .1 e))
-    (λ w. refl)
+    as-rest (formed (now (args .program)) (args .c)) (args .c) (c .match .rest) refl
 
 pub formed-spec : {M : Type 1} → statement M
 formed-spec =

@@ -53,15 +53,17 @@ run-requires c κs =
 returns : tie.Need-returns Inv-loop μ-loop
 returns c =
     ap Refused (c .at-command .ensures)
-    ∙ reactor-refused _ _ _ _ _ _ _ (omega arith) (c .before .before .before .before .before .before .commands-in .ensures .0) (c .before .before .before .before .before .begin .ensures) (c .before .before .before .before .run .ensures)
-    (c .before .before .if1 .taken)
+    ∙ reactor-refused _ _ _ _ _ _ _ (omega arith) (c .before .before .before .before .before .before .commands-in .ensures .0)
+    (c .before .before .before .before .before .begin .ensures)
+    (c .before .before .before .before .run .ensures) (c .before .before .if1 .taken)
     ∙ sym (c .before .before .before .before .before .before .before .before .loop .inv .0)
 
 returns-2 : tie.Need-returns-2 Inv-loop μ-loop
 returns-2 c =
     ap (λ (e : ℕ). Refused (Missing e)) (c .entry-at .ensures .0)
-    ∙ reactor-missing _ _ _ _ _ _ _ (omega arith) (c .before .before .before .before .before .before .before .before .commands-in .ensures .0) (c .before .before .before .before .before .before .before .begin .ensures) (c .before .before .before .before .before .before .run .ensures)
-    (c .before .before .before .before .if1 .left) (refused (c .before .before .complete .ensures) (c .before .if2 .taken))
+    ∙ reactor-missing _ _ _ _ _ _ _ (omega arith) (c .before .before .before .before .before .before .before .before .commands-in .ensures .0)
+    (c .before .before .before .before .before .before .before .begin .ensures)
+    (c .before .before .before .before .before .before .run .ensures) (c .before .before .before .before .if1 .left) (refused (c .before .before .complete .ensures) (c .before .if2 .taken))
     ∙ sym (c .before .before .before .before .before .before .before .before .before .before .loop .inv .0)
 
 loop-again : tie.Need-loop-again Inv-loop μ-loop
@@ -69,8 +71,9 @@ loop-again c =
     let p = now (c .before .before .before .before .before .before .before .before .before .before .before .before .before .args .program) in
     let loop = c .before .before .before .before .before .before .before .before .before .loop in (
       loop .inv .0
-          ∙ reactor-taken _ _ _ _ _ _ _ (omega arith) (c .before .before .before .before .before .before .before .commands-in .ensures .0) (c .before .before .before .before .before .before .begin .ensures) (c .before .before .before .before .before .run .ensures)
-          (c .before .before .before .if1 .left) (passed (c .before .complete .ensures) (c .if2 .left))
+          ∙ reactor-taken _ _ _ _ _ _ _ (omega arith) (c .before .before .before .before .before .before .before .commands-in .ensures .0)
+          (c .before .before .before .before .before .before .begin .ensures)
+          (c .before .before .before .before .before .run .ensures) (c .before .before .before .if1 .left) (passed (c .before .complete .ensures) (c .if2 .left))
           ∙ ap (λ (m : ℕ). reactorsOf (Accepted (sizeOf p (mainOf p))) m p (loop .r + 1)) (omega arith),
       omega arith,
       omega (arith, commands-next p (loop .r)),

@@ -1,11 +1,11 @@
-use Rattle.machine.specs.Act.{acted, did, doing}
-use Rattle.machine.specs.declared.Outcome.the-variants.{Move}
-use Rattle.program.proofs.Decode.{as-constant, as-consume, as-global, as-make, as-mono, as-poly, as-primitive, as-react, as-sink, as-supply, by-code}
+use Rattle.load.proofs.Uncoded.{as-rest}
+use Rattle.machine.specs.Act.{acted, doing}
+use Rattle.program.proofs.Decode.{as-constant, as-consume, as-global, as-make, as-mono, as-poly, as-primitive, as-react, as-sink, as-supply}
 use Rattle.program.specs.Command.{Cmd}
 use Rattle.remus.specs.Exec.{exec}
 use borrow.Author.Needs.{needs}
 use denote.Ref.{now}
-use mathlib.Core.Path.{_≡_, refl}
+use mathlib.Core.Path.{refl}
 use native.Mathlib.Omega.{arith}
 use Rattle.machine.proofs.exec.exec.Statement.{statement}
 use Rattle.machine.proofs.exec.exec.Tie as tie
@@ -13,85 +13,60 @@ use Rattle.machine.proofs.exec.exec.Tie as tie
 returns : tie.Need-returns
 returns c =
     let args = c .before .before .before .before .before .before .before .before .args in
-    let rd = now (args .readings) in
-    as-mono (doing (now (args .program)) rd (args .h) (now (args .memory)) (args .o) (args .i)) (args .c) (omega arith)
-    (c .before .before .alloc-mono .ensures rd)
+    rw (← as-mono (λ (d : Cmd). d) (args .c) (omega arith) refl) (c .before .before .alloc-mono .ensures _)
 
 returns-2 : tie.Need-returns-2
 returns-2 c =
     let args = c .before .before .before .before .before .before .before .before .args in
-    let rd = now (args .readings) in
-    as-make (doing (now (args .program)) rd (args .h) (now (args .memory)) (args .o) (args .i)) (args .c) (omega arith)
-    (c .before .before .make-poly .ensures (args .h) rd)
+    rw (← as-make (λ (d : Cmd). d) (args .c) (omega arith) refl) (c .before .before .make-poly .ensures _ _)
 
 returns-3 : tie.Need-returns-3
 returns-3 c =
     let at-v = c .before .before .before .v in
     let args = c .before .before .before .before .before .before .before .before .before .args in
-    let rd = now (args .readings) in
-    as-constant (doing (now (args .program)) rd (args .h) (now (args .memory)) (args .o) (args .i)) (args .c) (omega arith)
-    (rw (← at-v .ensures) (c .before .before .constant .ensures (args .h) rd))
+    rw (← as-constant (λ (d : Cmd). d) (args .c) (omega arith) refl, ← at-v .ensures) (c .before .before .constant .ensures _ _)
 
 returns-4 : tie.Need-returns-4
 returns-4 c =
     let args = c .before .before .before .before .before .before .before .before .args in
-    let rd = now (args .readings) in
-    as-global (doing (now (args .program)) rd (args .h) (now (args .memory)) (args .o) (args .i)) (args .c) (omega arith)
-    (c .before .before .global .ensures (args .h))
+    rw (← as-global (λ (d : Cmd). d) (args .c) (omega arith) refl) (c .before .before .global .ensures _)
 
 returns-5 : tie.Need-returns-5
 returns-5 c =
     let args = c .before .before .before .before .before .before .before .before .args in
-    let rd = now (args .readings) in
-    as-supply (doing (now (args .program)) rd (args .h) (now (args .memory)) (args .o) (args .i)) (args .c) (omega arith)
-    (c .before .before .supply .ensures (args .h) (args .i) rd)
+    rw (← as-supply (λ (d : Cmd). d) (args .c) (omega arith) refl) (c .before .before .supply .ensures _ _ _)
 
 returns-6 : tie.Need-returns-6
 returns-6 c =
     let args = c .before .before .before .before .before .before .args in
-    let rd = now (args .readings) in
-    as-react (doing (now (args .program)) rd (args .h) (now (args .memory)) (args .o) (args .i)) (args .c) (omega arith)
-    (c .react .ensures (args .h) (args .i) rd)
+    rw (← as-react (λ (d : Cmd). d) (args .c) (omega arith) refl) (c .react .ensures _ _ _)
 
 returns-7 : tie.Need-returns-7
 returns-7 c =
     let args = c .before .before .before .before .before .before .before .before .args in
-    let rd = now (args .readings) in
-    as-consume (doing (now (args .program)) rd (args .h) (now (args .memory)) (args .o) (args .i)) (args .c) (omega arith)
-    (c .before .before .consume .ensures (args .h) rd)
+    rw (← as-consume (λ (d : Cmd). d) (args .c) (omega arith) refl) (c .before .before .consume .ensures _ _)
 
 returns-8 : tie.Need-returns-8
 returns-8 c =
     let args = c .before .before .before .before .before .before .before .before .args in
-    let rd = now (args .readings) in
-    as-sink (doing (now (args .program)) rd (args .h) (now (args .memory)) (args .o) (args .i)) (args .c) (omega arith)
-    (c .before .before .sink .ensures (args .h) (args .i) rd)
+    rw (← as-sink (λ (d : Cmd). d) (args .c) (omega arith) refl) (c .before .before .sink .ensures _ _ _)
 
 returns-9 : tie.Need-returns-9
 returns-9 c =
     let args = c .before .before .before .before .before .before .before .before .args in
-    let rd = now (args .readings) in
-    as-poly (doing (now (args .program)) rd (args .h) (now (args .memory)) (args .o) (args .i)) (args .c) (omega arith)
-    (c .before .before .alloc-poly .ensures rd)
+    rw (← as-poly (λ (d : Cmd). d) (args .c) (omega arith) refl) (c .before .before .alloc-poly .ensures _)
 
 returns-10 : tie.Need-returns-10
 returns-10 c =
     let args = c .before .before .before .before .before .before .before .before .args in
-    let rd = now (args .readings) in
-    as-primitive (doing (now (args .program)) rd (args .h) (now (args .memory)) (args .o) (args .i)) (args .c) (omega arith)
-    (c .before .before .primitive .ensures (args .h) rd)
+    rw (← as-primitive (λ (d : Cmd). d) (args .c) (omega arith) refl) (c .before .before .primitive .ensures _ _)
 
 returns-11 : tie.Need-returns-11
 unfolding exec acted
 returns-11 c =
     let args = c .before .before .before .before .args in
     let rd = now (args .readings) in
-    by-code (λ (d : Cmd). did Move (now (args .memory)) ≡ doing (now (args .program)) rd (args .h) (now (args .memory)) (args .o)
-    (args .i) d) (args .c) (λ e. absurd (c .match .rest .0 .0 .0 .0 .0 .0 .0 .0 .0 .1 e))
-    (λ e. absurd (c .match .rest .0 .0 .0 .0 .0 .0 .0 .0 .1 e)) (λ e. absurd (c .match .rest .0 .0 .0 .0 .0 .0 .0 .1 e))
-    (λ e. absurd (c .match .rest .0 .0 .0 .0 .0 .0 .1 e)) (λ e. absurd (c .match .rest .0 .0 .0 .0 .0 .1 e))
-    (λ e. absurd (c .match .rest .0 .0 .0 .0 .1 e)) (λ e. absurd (c .match .rest .0 .0 .0 .1 e))
-    (λ e. absurd (c .match .rest .0 .0 .1 e)) (λ e. absurd (c .match .rest .0 .1 e)) (λ e. absurd (c .match .rest .1 e)) (λ e. refl)
+    as-rest (doing (now (args .program)) rd (args .h) (now (args .memory)) (args .o) (args .i)) (args .c) (c .match .rest) refl
 
 pub exec-spec : {M : Type 1} → statement M
 exec-spec =

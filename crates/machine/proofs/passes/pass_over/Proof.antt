@@ -2,21 +2,21 @@ use Prim.Native.Nat.{_-_}
 use Rattle.image.specs.Memory.{startsBelow}
 use Rattle.image.specs.Passes.{over}
 use Rattle.image.specs.Walk.{Tiling, startsOn}
-use Rattle.machine.proofs.Clears.{local-swept}
+use Rattle.machine.proofs.Clears.{local-each}
 use Rattle.machine.proofs.Passing.{pass-done, pass-inside, pass-next, pass-rises, pass-within}
-use Rattle.machine.specs.Act.{swept}
+use Rattle.machine.specs.Act.{eachOf}
 use borrow.Author.Needs.{needs}
 use lib.ListN.{length}
 use mathlib.Core.Path.{_∙_, _≡_, refl}
 use native.Mathlib.Omega.{arith}
-use Rattle.machine.proofs.sweep.sweep.Statement.{statement}
-use Rattle.machine.proofs.sweep.sweep.Tie as tie
+use Rattle.machine.proofs.passes.pass_over.Statement.{statement}
+use Rattle.machine.proofs.passes.pass_over.Tie as tie
 
 abbrev Inv-loop : tie.InvT-loop
 Inv-loop program memory₀ s u a₀ memory a =
     (length memory ≡ length memory₀)
     × Tiling program memory u a
-    × (over (swept s program u) memory (startsOn program memory u a) ≡ over (swept s program u) memory₀
+    × (over (eachOf s program u) memory (startsOn program memory u a) ≡ over (eachOf s program u) memory₀
     (startsBelow program memory₀ u))
 
 abbrev μ-loop : tie.MeasureT-loop
@@ -32,8 +32,8 @@ add-a c =
     let at = at-loop in
     omega (arith, pass-within _ _ _ _ (at .inv .1) (c .before .before .loop-test .taken) _ (c .size-at .ensures .0))
 
-sweep-one-requires : tie.Need-sweep-one-requires Inv-loop μ-loop
-sweep-one-requires c κs = pass-inside _ _ _ _ (c .before .before .before .before .loop .inv .1) (c .before .before .before .loop-test .taken)
+pass-one-requires : tie.Need-pass-one-requires Inv-loop μ-loop
+pass-one-requires c κs = pass-inside _ _ _ _ (c .before .before .before .before .loop .inv .1) (c .before .before .before .loop-test .taken)
 
 loop-less : tie.Need-loop-less Inv-loop μ-loop
 loop-less c =
@@ -50,8 +50,8 @@ loop-again c =
     let args = c .before .before .before .before .before .before .before .before .before .before .args in
     let at = at-loop in
     let in-loop = at-loop-test .taken in
-    pass-next _ _ _ _ (at .inv .1) in-loop _ (at-size-at .ensures .0) (swept (args .s) (args .program .now) (args .u)) _ _ _
-    (c .before .before .sweep-one .ensures) (local-swept _ _ _ _ _ (pass-inside _ _ _ _ (at .inv .1) in-loop)) (at .inv .0) (at .inv .2)
+    pass-next _ _ _ _ (at .inv .1) in-loop _ (at-size-at .ensures .0) (eachOf (args .s) (args .program .now) (args .u)) _ _ _
+    (c .before .before .pass-one .ensures) (local-each _ _ _ _ _ (pass-inside _ _ _ _ (at .inv .1) in-loop)) (at .inv .0) (at .inv .2)
 
 same-length : tie.Need-same-length Inv-loop μ-loop
 same-length c = c .before .loop .inv .0
@@ -59,8 +59,8 @@ same-length c = c .before .loop .inv .0
 returns : tie.Need-returns Inv-loop μ-loop
 returns c = pass-done _ _ _ _ _ (c .loop-test .left) ∙ c .before .loop .inv .2
 
-pub sweep-spec : {M : Type 1} → statement M
-sweep-spec =
+pub pass-over-spec : {M : Type 1} → statement M
+pass-over-spec =
     tie.close
     (tie.spec
-    Inv-loop μ-loop loop-holds (λ c κs. search needs) add-a sweep-one-requires loop-less loop-again same-length returns)
+    Inv-loop μ-loop loop-holds (λ c κs. search needs) add-a pass-one-requires loop-less loop-again same-length returns)

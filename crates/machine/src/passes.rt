@@ -10,12 +10,12 @@ ghost use lib.ListN.{length};
 ghost use Rattle.image.specs.Memory as M;
 ghost use Rattle.image.specs.Passes as P;
 ghost use Rattle.image.specs.Walk.{Tiling};
-ghost use Rattle.machine.specs.Act.{swept};
+ghost use Rattle.machine.specs.Act.{eachOf};
 
 // The deployment at o.
-fn sweep_one(program: &[u8], memory: &mut [u32], s: Each, u: u32, o: u32)
+fn pass_one(program: &[u8], memory: &mut [u32], s: Each, u: u32, o: u32)
     requires { ⌜ o + M.sizeAt (now program) (now memory) o ≤ length (now memory) ⌝ }
-    ensures { λ _. ⌜ now (memory .exit) ≡ swept s (now (program .entry)) u (now (memory .entry)) o ⌝ }
+    ensures { λ _. ⌜ now (memory .exit) ≡ eachOf s (now (program .entry)) u (now (memory .entry)) o ⌝ }
 {
     match s {
         Each::Clear => clear_one(program, memory, o),
@@ -24,14 +24,14 @@ fn sweep_one(program: &[u8], memory: &mut [u32], s: Each, u: u32, o: u32)
 }
 
 // All of them.
-pub(crate) fn sweep(program: &[u8], memory: &mut [u32], s: Each, u: u32)
+pub(crate) fn pass_over(program: &[u8], memory: &mut [u32], s: Each, u: u32)
     requires { ⌜ Tiling (now program) (now memory) u M.mainAt ⌝ }
-    ensures { λ _. ⌜ now (memory .exit) ≡ P.over (swept s (now (program .entry)) u) (now (memory .entry)) (M.startsBelow (now (program .entry)) (now (memory .entry)) u) ⌝ }
+    ensures { λ _. ⌜ now (memory .exit) ≡ P.over (eachOf s (now (program .entry)) u) (now (memory .entry)) (M.startsBelow (now (program .entry)) (now (memory .entry)) u) ⌝ }
 {
     let mut a = MAIN_AT;
     while a < u {
         let o = a;
         a = o + size_at(program, memory, o);
-        sweep_one(program, memory, s, u, o);
+        pass_one(program, memory, s, u, o);
     }
 }
