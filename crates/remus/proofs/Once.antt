@@ -29,10 +29,6 @@ module _ (p rd : List ℕ) where
       by (inl q) = inr (u, rw q e, stay)
       by (inr f) = inr (f .0, f .1, on (f .2) e)
 
-  pub reach-trans : {s t u : State} → Reach p rd s t → Reach p rd t u → Reach p rd s u
-  reach-trans r stay = r
-  reach-trans r (on q e) = on (reach-trans r q) e
-
   -- of two states that the walk comes to, one is on the way to the other
   pub reach-both : {b s t : State} → Reach p rd b s → Reach p rd b t → Reach p rd s t ⊎ Reach p rd t s
   reach-both stay q = inl q

@@ -4,7 +4,6 @@ pub mod Firm
 pub mod Keeping
 pub mod Writes
 pub mod Growing
-pub mod Choices
 pub mod Effects
 pub mod Declares
 pub mod Runs

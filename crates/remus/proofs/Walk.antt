@@ -2,6 +2,8 @@
 -- theorems. Assumes nothing.
 pub mod Facts
 pub mod Locations
+pub mod Sides
+pub mod Grown
 pub mod Story
 pub mod Step
 pub mod Keep

@@ -11,6 +11,7 @@ use Rattle.value.specs.Value.{blank, isBlank, markOf, deploymentMark, reactorKi
 use Rattle.value.specs.Primitive.{operands}
 use Rattle.value.specs.Primitive as P
 use Rattle.value.specs.declared.Value.{Value}
+use Rattle.value.proofs.Legal.{primitive-is}
 use Rattle.value.proofs.Tests.{eq!, eq?, eq×?, le?, yes, clash}
 use Rattle.program.specs.Bytes.{reactors, globals, globalKind, declared, commandsIn, shapeOf}
 use Rattle.program.specs.Command.{Cmd, cmdOf, givesValue, allocMono, makePoly, constant, global, supply, react, consume, sink, allocPoly, primitive, none}
@@ -30,8 +31,8 @@ use Rattle.remus.proofs.Walk.Locations.{own-inside, own-one, own-no-sou
 use Rattle.remus.proofs.Walk.Find.{Found, found}
 use Rattle.remus.proofs.Undo.Firm.{Holds, Held, Kinded, Firm, later-refl, later-trans}
 use Rattle.remus.proofs.Undo.Writes.{Kept, store-kept}
-use Rattle.remus.proofs.Undo.Growing.{branch-new, branch-reactor, branch-kept}
-use Rattle.remus.proofs.Undo.Choices.{primitive-if-reactor}
+use Rattle.remus.proofs.Undo.Growing.{branch-grown, branch-kept}
+use Rattle.remus.proofs.Walk.Outcome.{kinds-fit}
 
 module _ (p : List ℕ) where
   -- what an effect keeps of the words m
@@ -180,7 +181,8 @@ module _ (p : List ℕ) where
           value-kept _ (rw q refl)
           (λ n.
           rw e
-          (primitive-if-reactor (OfKind p) (λ k. inl refl) x (kindOf p r a) (kindOf p r b) (kindOf p r c) (valueAt p m o a) (valueAt p m o b) (valueAt p m o c) (g .4)
+          (primitive-is (λ k v. 2 ≤ k → OfKind p k v) (λ k h. inl refl) (λ z e h. absurd (omega arith)) (λ t h. absurd (omega arith)) x
+          (kindOf p r a) (kindOf p r b) (kindOf p r c) (valueAt p m o a) (valueAt p m o b) (valueAt p m o c) (kinds-fit _ _ _ _ (g .4))
           (operand-kind a (g .1)) (λ l. taken 2 b l (g .2)) (λ l. taken 3 c l (g .3)) (omega arith)))
         where
           taken : (u y : ℕ) → u ≤ operands x → (operands x < u) ⊎ ValueBefore p r i y → Kinded p m o y
@@ -256,9 +258,8 @@ module _ (p : List ℕ) where
               let room : used m + sizeOf p c ≤ length m = omega (arith, le? e, f .good .fits) in
               let plain : kindOf p r b ≡ 0 = rw at (st .no-kind j (omega arith) (rw point refl)) in
               let g = branch-kept p m o j b s c f t w low point at plain l n u room in
-              let new = branch-new p m o j b s c f t w low point at plain l n u room in
-              let its = branch-reactor p m o j b s c f t w low point at plain l n u room in
-              give-new _ (used m) g new (ap (shapeOf p) its ∙ n ∙ sym shape-there)
+              let new = branch-grown p m o j b s c f t w low point at plain l n u room in
+              give-new _ (used m) g (new .new) (ap (shapeOf p) (new .reactor-new) ∙ n ∙ sym shape-there)
 
           chosen-keeps : (d : ℕ) → find (reactors p) m (content p m o a) (content p m o b) ≡ d → isBlank (valueAt p m o a) ≡ false
               → Keeps m (chosen p rd h m o i d (content p m o a) b)

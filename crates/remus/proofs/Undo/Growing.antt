@@ -1,7 +1,7 @@
 -- A new deployment at a branch point: what is firm stays, and the branch point's chain has one new member.
 use Prim.Native.Nat.{ℕ, _+_, _≤_, _<_}
 use mathlib.Core.Path.{_≡_, sym, _∙_, subst, subst₂, ap}
-use mathlib.Core.Logic.{_⊎_, inl, inr, _≢_}
+use mathlib.Core.Logic.{_≢_}
 use mathlib.Core.List.{List}
 use native.Mathlib.Omega.{arith}
 use lib.ListN.{length}
@@ -11,11 +11,11 @@ use Rattle.program.specs.Command.{cmdOf, allocMono, makePoly}
 use Rattle.program.specs.Location.{commandLoc, locations, sizeOf}
 use Rattle.program.specs.Kind.{kindOf}
 use Rattle.load.proofs.Exact.Static.{DeploymentBefore, mono, poly}
-use Rattle.image.specs.Memory.{used, reactor, wired, next, mark, content, valueAt, store, place}
-use Rattle.image.specs.Sound.{Deployed, OnChain, Chain, empty, link, PointSlot}
-use Rattle.image.proofs.Memory.Each.{in-below}
-use Rattle.image.proofs.Memory.Changes.{Change, This-slot, unwired, unwritten, same-value, follow, Stored, stored, Placed, placed, stays}
-use Rattle.image.proofs.Memory.Slots.{member, on-back, chain-kept}
+use Rattle.image.specs.Memory.{used, reactor, wired, mark, content, valueAt, store, place}
+use Rattle.image.specs.Sound.{Deployed, OnChain, PointSlot}
+use Rattle.image.proofs.Memory.Changes.{This-slot}
+use Rattle.remus.proofs.Walk.Sides.{or-none}
+use Rattle.remus.proofs.Walk.Grown.{Grown, grown, point-grown}
 use Rattle.remus.proofs.Walk.Locations.{D-inside, own-one}
 use Rattle.remus.proofs.Undo.Search.{Newer, as-was, one-more}
 use Rattle.remus.proofs.Walk.Story.{own, cmd}
@@ -37,62 +37,27 @@ module _ (p : List ℕ) where
       (h : j < declared p (reactor m o)) (e : cmd p m o j ≡ makePoly x) (at : b ≡ own p m o j) (plain : kindOf p (reactor m o) b ≡ 0)
       (low : q < reactors p) (fits : shapeOf p q ≡ x) (missing : (d : ℕ) → OnChain p m (content p m o b) d → reactor m d ≢ q)
       (room : used m + sizeOf p q ≤ length m) where
-    abbrev m₁ : List ℕ
-    m₁ = place p m q (content p m o b)
-
     abbrev m₂ : List ℕ
-    m₂ = store p m₁ o b (value pointMark (used m))
+    m₂ = store p (place p m q (content p m o b)) o b (value pointMark (used m))
 
     here : PointSlot p m o b x
     here = rw at (f .points o j x i w h e)
 
-    c₁ : Placed p m q (content p m o b) m₁
-    c₁ = placed p m q (content p m o b) (f .good) low room
-
-    inside : b < locations p (reactor m o)
-    inside = rw at (D-inside p (reactor m o) j h)
-
-    c₂ : Stored p m₁ o b (value pointMark (used m)) m₂
-    c₂ = stored p m₁ o b (value pointMark (used m)) (c₁ .change .good) (c₁ .change .kept o i) (rw (c₁ .change .reactors o i) inside)
-
-    both : Change p (λ d l. ⊥ ⊎ This-slot p o b d l) (λ d. (d ≡ used m) ⊎ ⊥) (λ d. ⊥ ⊎ ⊥) m m₂
-    both = follow p (c₁ .change) (c₂ .change)
-
-    pub branch-new : Deployed p m₂ (used m)
-    branch-new = c₂ .change .kept (used m) (c₁ .new)
-
-    pub branch-reactor : reactor m₂ (used m) ≡ q
-    branch-reactor = c₂ .change .reactors (used m) (c₁ .new) ∙ c₁ .reactor-new
-
-    next-new : next m₂ (used m) ≡ content p m o b
-    next-new = c₂ .change .nexts (used m) (c₁ .new) ∙ c₁ .next-new
-
-    head-low : (c : ℕ) → Chain p m o x c → c < used m
-    head-low c empty = let z = in-below p i in omega arith
-    head-low c (link d a s l t ch) = in-below p d
-
-    chain-new : Chain p m₂ o x (used m)
-    chain-new =
-        link {c = used m} branch-new (in-below p i) (ap (shapeOf p) branch-reactor ∙ fits) (rw next-new (head-low (content p m o b) (here .chain)))
-        (λ d k. let z = on-back p (stays p both) next-new (here .chain) k in rw (branch-reactor, both .reactors d (member p (here .chain) z .deployed)) (missing d z))
-        (rw next-new (chain-kept p (stays p both) (here .chain)))
-
-    point-new : PointSlot p m₂ o b x
-    point-new = record { marked = c₂ .mark-here; chain = rw (c₂ .content-here) chain-new }
+    pub branch-grown : Grown p m q (content p m o b) o b (value pointMark (used m)) m₂
+    branch-grown = grown p m q (content p m o b) o b (value pointMark (used m)) (f .good) low room i (rw at (D-inside p (reactor m o) j h))
 
     newer : Newer p m₂ (used m) (content p m o b) (content p m₂ o b)
     newer =
-        subst (Newer p m₂ (used m) (content p m o b)) (sym (c₂ .content-here))
-        (one-more {c = used m} branch-new (omega arith) (subst (Newer p m₂ (used m) (content p m o b)) (sym next-new) as-was))
+        subst (Newer p m₂ (used m) (content p m o b)) (sym (branch-grown .content-here))
+        (one-more {c = used m} (branch-grown .new) (omega arith) (subst (Newer p m₂ (used m) (content p m o b)) (sym (branch-grown .next-new)) as-was))
 
     -- the slot written is D command j's
-    written : (a k : ℕ) → ⊥ ⊎ This-slot p o b a (own p m a k) → (a ≡ o) × (own p m o k ≡ b) × (k ≡ j)
-    written a k (inl z) = absurd z
-    written a k (inr z) =
+    written : (a k : ℕ) → This-slot p o b a (own p m a k) → (a ≡ o) × (own p m o k ≡ b) × (k ≡ j)
+    written a k z =
         let g : own p m o k ≡ b = subst (λ (y : ℕ). own p m y k ≡ b) (z .0) (z .1) in (z .0, g, own-one p (reactor m o) k j (g ∙ at))
 
     -- to say a thing of branch point k of a, where that is the slot written, is to say it of branch point j of o
-    at-written : (P : ℕ → ℕ → ℕ → Type 0) → P o b x → (a k y : ℕ) → cmd p m a k ≡ makePoly y → ⊥ ⊎ This-slot p o b a (own p m a k) → P a (own p m a k) y
+    at-written : (P : ℕ → ℕ → ℕ → Type 0) → P o b x → (a k y : ℕ) → cmd p m a k ≡ makePoly y → This-slot p o b a (own p m a k) → P a (own p m a k) y
     at-written P h a k y g z =
         let t = written a k z in
         let c : cmd p m o k ≡ makePoly y = subst (λ (a : ℕ). cmd p m a k ≡ makePoly y) (t .0) g in
@@ -100,55 +65,29 @@ module _ (p : List ℕ) where
         let d : x ≡ y = cc in
         subst (λ (a : ℕ). P a (own p m a k) y) (sym (t .0)) (subst₂ (P o) (sym (t .1)) d h)
 
-    new-there : (d : ℕ) → (d ≡ used m) ⊎ ⊥ → d ≡ used m
-    new-there d (inl z) = z
-    new-there d (inr z) = absurd z
+    no-slot : (a s l : ℕ) → Holds p m a s l → This-slot p o b a l → ⊥
+    no-slot a s l k z = let g : Holds p m o s b = subst₂ (λ (a l : ℕ). Holds p m a s l) (z .0) (z .1) k in point-holds-none j x e at g
 
-    raw-new : wired m₂ (used m) ≡ 0
-    raw-new = unwired p (c₂ .change) (used m) (c₁ .new) (λ z. z) ∙ c₁ .wired-new
-
-    -- the new deployment's slots: none is the one written, since o is an older one
-    blank-new : (l : ℕ) → l < locations p (reactor m₂ (used m)) → valueAt p m₂ (used m) l ≡ blank
-    blank-new l k =
-        same-value p (used m) l
-        (unwritten p (c₂ .change) (used m) l (c₁ .new) (rw (c₂ .change .reactors (used m) (c₁ .new)) at k) (λ z. omega (arith, z .0, in-below p i)))
-        ∙ c₁ .empty l
-
-    no-slot : (a s l : ℕ) → Holds p m a s l → ⊥ ⊎ This-slot p o b a l → ⊥
-    no-slot a s l k (inl z) = z
-    no-slot a s l k (inr z) =
-        let g : Holds p m o s b = subst₂ (λ (a l : ℕ). Holds p m a s l) (z .0) (z .1) k in point-holds-none j x e at g
-
-    no-kind : (a l : ℕ) → ⊥ ⊎ This-slot p o b a l → 2 ≤ kindOf p (reactor m a) l → ⊥
-    no-kind a l (inl z) k = z
-    no-kind a l (inr z) k = let g : 2 ≤ kindOf p (reactor m o) b = subst₂ (λ (a l : ℕ). 2 ≤ kindOf p (reactor m a) l) (z .0) (z .1) k in omega arith
-
-    point-written : (a k y : ℕ) → cmd p m a k ≡ makePoly y → (⊥ ⊎ This-slot p o b a (own p m a k)) ⊎ (⊥ ⊎ ⊥) → PointSlot p m₂ a (own p m a k) y
-    point-written a k y g (inl z) = at-written (PointSlot p m₂) point-new a k y g z
-    point-written a k y g (inr (inl z)) = absurd z
-    point-written a k y g (inr (inr z)) = absurd z
+    no-kind : (a l : ℕ) → This-slot p o b a l → 2 ≤ kindOf p (reactor m a) l → ⊥
+    no-kind a l z k = let g : 2 ≤ kindOf p (reactor m o) b = subst₂ (λ (a l : ℕ). 2 ≤ kindOf p (reactor m a) l) (z .0) (z .1) k in omega arith
 
     pub branch-kept : Kept p m m₂
     branch-kept =
         record {
-          firm = firm-kept p f both
+          firm = firm-kept p f (branch-grown .change)
               (record {
-                raw = λ d n. ap (wired m₂) (new-there d n) ∙ raw-new;
-                blank-slots = λ d l n k. subst (λ (d : ℕ). l < locations p (reactor m₂ d) → valueAt p m₂ d l ≡ blank) (sym (new-there d n)) (blank-new l) k;
-                points = λ a k y t l g z n. point-written a k y g z;
+                raw = λ d n. ap (wired m₂) n ∙ branch-grown .wired-new;
+                blank-slots = λ d l n k. subst (λ (d : ℕ). l < locations p (reactor m₂ d) → valueAt p m₂ d l ≡ blank) (sym n) (branch-grown .blank-new l) k;
+                points = λ a k y t l g z n. at-written (PointSlot p m₂) (point-grown p branch-grown i here fits missing) a k y g (or-none z);
                 held = λ a s l t k z g. absurd (no-slot a s l k z);
                 kinds = λ a l t k z g. absurd (no-kind a l z g);
               });
-          later = later-by p both (omega (arith, c₂ .same, c₁ .grown)) (λ d n. absurd (never n))
+          later = later-by p (branch-grown .change) (omega (arith, branch-grown .larger)) (λ d n. absurd n)
               (λ a k y t n l g z.
               let r = written a k z in
               let c : cmd p m o k ≡ allocMono y = subst (λ (a : ℕ). cmd p m a k ≡ allocMono y) (r .0) g in
               let c₃ : cmd p m o j ≡ allocMono y = subst (λ (k : ℕ). cmd p m o k ≡ allocMono y) (r .2) c in
               let v : _≡_ {A = ℕ} 0 1 = cc in omega arith)
               (λ a k y t n l g z.
-              at-written (λ a l y. (mark p m₂ a l ≡ mark p m a l) × Newer p m₂ (used m) (content p m a l) (content p m₂ a l)) (c₂ .mark-here ∙ sym (here .marked), newer) a k y g z);
+              at-written (λ a l y. (mark p m₂ a l ≡ mark p m a l) × Newer p m₂ (used m) (content p m a l) (content p m₂ a l)) (branch-grown .mark-here ∙ sym (here .marked), newer) a k y g z);
         }
-      where
-        never : ⊥ ⊎ ⊥ → ⊥
-        never (inl z) = z
-        never (inr z) = z

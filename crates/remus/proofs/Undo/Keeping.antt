@@ -6,13 +6,15 @@ use mathlib.Core.List.{List}
 use native.Mathlib.Omega.{arith}
 use Rattle.value.specs.Value.{blank, deploymentMark}
 use Rattle.program.specs.Bytes.{declared, commandsIn}
-use Rattle.program.specs.Command.{allocMono, makePoly}
-use Rattle.program.specs.Location.{locations}
+use Rattle.program.specs.Command.{cmdOf, allocMono, makePoly}
+use Rattle.program.specs.Location.{commandLoc, locations}
 use Rattle.program.specs.Kind.{kindOf, OfKind}
+use Rattle.load.proofs.Exact.Static.{DeploymentBefore}
 use Rattle.image.specs.Memory.{used, reactor, wired, mark, content, valueAt}
 use Rattle.image.specs.Sound.{Deployed, PointSlot}
 use Rattle.image.proofs.Memory.Changes.{Same, Change, same-value, value-mark, stays}
 use Rattle.image.proofs.Memory.Slots.{point-kept}
+use Rattle.remus.proofs.Walk.Sides.{old-or-new}
 use Rattle.remus.proofs.Walk.Locations.{D-inside}
 use Rattle.remus.proofs.Walk.Operands.{operand-inside}
 use Rattle.remus.proofs.Undo.Search.{Newer, as-was}
@@ -34,58 +36,44 @@ module _ (p : List ℕ) where
 
   module _ {W : ℕ → ℕ → Type 0} {N L : ℕ → Type 0} {m m′ : List ℕ} (f : Firm p m) (c : Change p W N L m m′) (a : Allowed W N L m m′) where
     points′ : (o j x : ℕ) → Deployed p m′ o → wired m′ o ≢ 0 → j < declared p (reactor m′ o) → cmd p m′ o j ≡ makePoly x → PointSlot p m′ o (own p m′ o j) x
-    points′ o j x i w h e = by (c .back o i)
+    points′ o j x i w =
+        old-or-new p c (λ r. j < declared p r → cmdOf p r j ≡ makePoly x → PointSlot p m′ o (commandLoc p r j) x) o i
+        (λ t h e. side t h e (c .slots o (own p m o j) t (D-inside p (reactor m o) j h)) (c .wireds o t))
+        (λ n h e. absurd (w (a .raw o n)))
       where
-        by : Deployed p m o ⊎ N o → PointSlot p m′ o (own p m′ o j) x
-        by (inr n) = absurd (w (a .raw o n))
-        by (inl t) = rw r (side (c .slots o (own p m o j) t (D-inside p (reactor m o) j h′)) (c .wireds o t))
-          where
-            r : reactor m′ o ≡ reactor m o
-            r = c .reactors o t
-
-            h′ : j < declared p (reactor m o)
-            h′ = rw r at h
-
-            e′ : cmd p m o j ≡ makePoly x
-            e′ = rw r at e
-
-            side : Same p m m′ o (own p m o j) ⊎ W o (own p m o j) → (wired m′ o ≡ wired m o) ⊎ L o → PointSlot p m′ o (own p m o j) x
-            side (inl z) (inl y) = point-kept p (stays p c) z (f .points o j x t (rw y at w) h′ e′)
-            side (inl z) (inr y) = a .points o j x t h′ e′ (inr y) w
-            side (inr z) y = a .points o j x t h′ e′ (inl z) w
+        side : Deployed p m o → j < declared p (reactor m o) → cmd p m o j ≡ makePoly x
+            → Same p m m′ o (own p m o j) ⊎ W o (own p m o j) → (wired m′ o ≡ wired m o) ⊎ L o → PointSlot p m′ o (own p m o j) x
+        side t h e (inl z) (inl y) = point-kept p (stays p c) z (f .points o j x t (rw y at w) h e)
+        side t h e (inl z) (inr y) = a .points o j x t h e (inr y) w
+        side t h e (inr z) y = a .points o j x t h e (inl z) w
 
     held-kept : (o s b : ℕ) → Same p m m′ o b → Held p m o s b → Held p m′ o s b
     held-kept o s b z k = record { deployed = rw (z .contents) (c .kept _ (k .deployed)); shape = rw (z .contents, c .reactors (content p m o b) (k .deployed)) (k .shape) }
 
     held′ : (o s b : ℕ) → Deployed p m′ o → Holds p m′ o s b → mark p m′ o b ≡ deploymentMark → Held p m′ o s b
-    held′ o s b i h e = by (c .back o i)
+    held′ o s b i h e = old-or-new p c (λ r. DeploymentBefore p r (commandsIn p r) s b → Held p m′ o s b) o i old new h
       where
-        by : Deployed p m o ⊎ N o → Held p m′ o s b
-        by (inr n) =
-            let inside = operand-inside p (reactor m′ o) (commandsIn p (reactor m′ o)) s b (omega arith) h in
-            absurd (omega (arith, value-mark p m′ o b (a .blank-slots o b n inside)))
-        by (inl t) = side (c .slots o b t (operand-inside p (reactor m o) (commandsIn p (reactor m o)) s b (omega arith) h′))
+        old : Deployed p m o → Holds p m o s b → Held p m′ o s b
+        old t k = side (c .slots o b t (operand-inside p (reactor m o) (commandsIn p (reactor m o)) s b (omega arith) k))
           where
-            h′ : Holds p m o s b
-            h′ = rw (c .reactors o t) at h
-
             side : Same p m m′ o b ⊎ W o b → Held p m′ o s b
-            side (inl z) = held-kept o s b z (f .held o s b t h′ (sym (z .marks) ∙ e))
-            side (inr z) = a .held o s b t h′ z e
+            side (inl z) = held-kept o s b z (f .held o s b t k (sym (z .marks) ∙ e))
+            side (inr z) = a .held o s b t k z e
+
+        new : N o → Holds p m′ o s b → Held p m′ o s b
+        new n k =
+            let inside = operand-inside p (reactor m′ o) (commandsIn p (reactor m′ o)) s b (omega arith) k in
+            absurd (omega (arith, value-mark p m′ o b (a .blank-slots o b n inside)))
 
     kinds′ : (d l : ℕ) → Deployed p m′ d → l < locations p (reactor m′ d) → Kinded p m′ d l
-    kinds′ d l i h k = by (c .back d i)
+    kinds′ d l i =
+        old-or-new p c (λ r. l < locations p r → 2 ≤ kindOf p r l → OfKind p (kindOf p r l) (valueAt p m′ d l)) d i
+        (λ t h k. side t h k (c .slots d l t h)) (λ n h k. inl (a .blank-slots d l n h))
       where
-        by : Deployed p m d ⊎ N d → OfKind p (kindOf p (reactor m′ d) l) (valueAt p m′ d l)
-        by (inr n) = inl (a .blank-slots d l n h)
-        by (inl t) = rw r (side (c .slots d l t (rw r at h)))
-          where
-            r : reactor m′ d ≡ reactor m d
-            r = c .reactors d t
-
-            side : Same p m m′ d l ⊎ W d l → OfKind p (kindOf p (reactor m d) l) (valueAt p m′ d l)
-            side (inl z) = rw (same-value p d l z) (f .kinds d l t (rw r at h) (rw r at k))
-            side (inr z) = a .kinds d l t (rw r at h) z (rw r at k)
+        side : Deployed p m d → l < locations p (reactor m d) → 2 ≤ kindOf p (reactor m d) l → Same p m m′ d l ⊎ W d l
+            → OfKind p (kindOf p (reactor m d) l) (valueAt p m′ d l)
+        side t h k (inl z) = rw (same-value p d l z) (f .kinds d l t h k)
+        side t h k (inr z) = a .kinds d l t h z k
 
     pub firm-kept : Firm p m′
     firm-kept = record { good = c .good; points = points′; held = held′; kinds = kinds′ }

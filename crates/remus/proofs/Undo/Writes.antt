@@ -1,7 +1,6 @@
 -- Storing a slot, wiring a deployment, placing one: each keeps what is firm, and is later.
 use Prim.Native.Nat.{ℕ, _+_, _≤_, _<_}
 use mathlib.Core.Path.{_≡_, sym, _∙_, subst, subst₂, ap}
-use mathlib.Core.Logic.{_⊎_, inl, inr, _≢_}
 use mathlib.Core.List.{List}
 use native.Mathlib.Omega.{arith}
 use lib.ListN.{length}
@@ -15,6 +14,7 @@ use Rattle.image.specs.Memory.{used, reactor, wired, mark, content, valueAt, wi
 use Rattle.image.specs.Sound.{Deployed, PointSlot}
 use Rattle.image.proofs.Memory.Changes.{This-slot, unwired, unwritten, Stored, stored, Placed, placed, Wired, wiring, value-of, stays}
 use Rattle.image.proofs.Memory.Slots.{point-kept}
+use Rattle.remus.proofs.Walk.Sides.{or-else, or-none}
 use Rattle.remus.proofs.Walk.Locations.{D-inside}
 use Rattle.remus.proofs.Walk.Story.{own, cmd}
 use Rattle.remus.proofs.Undo.Firm.{Holds, Held, Firm, Later}
@@ -62,7 +62,7 @@ module _ (p : List ℕ) where
               (record {
                 raw = λ d n. absurd n;
                 blank-slots = λ d j n i. absurd n;
-                points = λ o j x i k e w n. absurd (pointed o j i k w n);
+                points = λ o j x i k e w n. absurd (n (unwired p (c .change) o i (λ z. z) ∙ unwired-there o j k (or-none w)));
                 held = λ o z b i k w e.
                     subst₂ (λ (o b : ℕ). Holds p m o z b → mark p after o b ≡ deploymentMark → Held p after o z b) (sym (w .0)) (sym (w .1)) (holds-there z) k e;
                 kinds = λ d j i k w n.
@@ -72,10 +72,6 @@ module _ (p : List ℕ) where
           later = later-by p (c .change) (omega (arith, c .same)) (λ d n. absurd n) (λ d j x i w k e z. w (unwired-there d j k z))
               (λ d j x i w k e z. absurd (w (unwired-there d j k z)));
         }
-      where
-        pointed : (o j : ℕ) → Deployed p m o → j < declared p (reactor m o) → This-slot p a l o (own p m o j) ⊎ ⊥ → wired after o ≢ 0 → ⊥
-        pointed o j i k (inl w) n = n (unwired p (c .change) o i (λ z. z) ∙ unwired-there o j k w)
-        pointed o j i k (inr w) n = w
 
   -- ---- a deployment is wired
 
@@ -99,17 +95,13 @@ module _ (p : List ℕ) where
               (record {
                 raw = λ d n. absurd n;
                 blank-slots = λ d j n i. absurd n;
-                points = λ a j x i k e z n. chains-there a j x k e (wired-one a z);
+                points = λ a j x i k e z n. chains-there a j x k e (or-else z);
                 held = λ a z b i k n e. absurd n;
                 kinds = λ d j i k n h. absurd n;
               });
           later = later-by p (w .change) (omega (arith, w .same)) (λ d e. ap (wired (withWired m o 1)) e ∙ w .wired-here) (λ d j x i n k e z. z)
               (λ d j x i n k e z. absurd z);
         }
-      where
-        wired-one : (a : ℕ) → ⊥ ⊎ (a ≡ o) → a ≡ o
-        wired-one a (inl z) = absurd z
-        wired-one a (inr z) = z
 
   -- ---- a deployment is placed
 
@@ -124,13 +116,9 @@ module _ (p : List ℕ) where
               (record {
                 raw = λ d n. ap (wired (place p m q old)) n ∙ new .wired-new;
                 blank-slots = λ d l n i. ap (λ (d : ℕ). valueAt p (place p m q old) d l) n ∙ new .empty l;
-                points = λ a j x i k e z n. absurd (none z);
+                points = λ a j x i k e z n. absurd (or-else z);
                 held = λ a z b i k n e. absurd n;
                 kinds = λ d j i k n h. absurd n;
               });
           later = later-by p (new .change) (omega (arith, new .grown)) (λ d n. absurd n) (λ d j x i n k e z. z) (λ d j x i n k e z. absurd z);
         }
-      where
-        none : ⊥ ⊎ ⊥ → ⊥
-        none (inl z) = z
-        none (inr z) = z

@@ -13,6 +13,7 @@ use Rattle.load.proofs.Exact.Static.{Static}
 use Rattle.image.specs.Memory.{mostDepth, mainAt, used, turns, reactor, wired, valueAt, sizeAt}
 use Rattle.image.specs.Sound.{In, here, there, Deployed, InD, Owner, Depth, top, Grown, Sound}
 use Rattle.image.proofs.Memory.Tiles.{in-lt, in-ge, in-reactor}
+use Rattle.image.proofs.Memory.Each.{in-below}
 use Rattle.image.proofs.Memory.Changes.{Good}
 use Rattle.image.proofs.Memory.Slots.{Right, Made, made-names}
 use Rattle.remus.specs.Exec.{opening}
@@ -20,7 +21,7 @@ use Rattle.remus.specs.Walk.{Note, Frame, begun}
 use Rattle.remus.specs.Point.{_∈_}
 use Rattle.remus.proofs.Walk.Facts.{Facts}
 use Rattle.remus.proofs.Walk.Story.{own, cmd, Story}
-use Rattle.remus.proofs.Walk.Pile.{frame, Open, first as top-open, later as under, none-open, ground, on, Entered, Behind, behind-lower, flat, stack, FrameOk, Inv, below-used, not-zero}
+use Rattle.remus.proofs.Walk.Pile.{frame, Open, first as top-open, later as under, none-open, ground, on, Entered, Behind, behind-lower, flat, stack, FrameOk, Inv, not-zero}
 use Rattle.remus.proofs.Walk.Top.{right-done}
 use Rattle.remus.proofs.Walk.Moves.{opening-raw, opening-wired, opening-frame}
 use Rattle.remus.proofs.Walk.Locations.{own-inside, D-inside}
@@ -211,7 +212,7 @@ module _ (p : List ℕ) (u : Facts p) (w : List ℕ) (s : Sound p w) where
       record {
         story = story;
         piled = record {
-          falling = on (below-used p good (s .main)) ground;
+          falling = on (in-below p (s .main)) ground;
           heights = stack (not-zero p (s .main)) top flat;
           frames = λ o i z. let q = is-main z in let e₁ = q .0 in let e₂ = q .1 in rw (e₁, e₂) first-frame;
           apart = λ o i z n. no-note n;

@@ -14,19 +14,21 @@ use Rattle.program.specs.Kind.{kindOf}
 use Rattle.load.proofs.Exact.Static.{PointBefore}
 use Rattle.load.proofs.Exact.Places.{cmd-there}
 use Rattle.image.specs.Memory.{mostDepth, used, reactor, wired, next, content, valueAt, store, place}
-use Rattle.image.specs.Sound.{Deployed, OnChain, head, tail, Chain, empty, link, PointSlot, Names, by-mono, by-point}
-use Rattle.image.proofs.Memory.Changes.{Same, Change, Nothing, This-slot, Stored, stored, Placed, placed, unwritten, unwired, follow, change-as, same-value, stays}
-use Rattle.image.proofs.Memory.Slots.{member, on-back, on-forth, chain-kept}
+use Rattle.image.specs.Sound.{Deployed, OnChain, head, tail, PointSlot, Names, by-mono, by-point}
+use Rattle.image.proofs.Memory.Changes.{Same, Change, Nothing, This-slot, Stored, stored, unwritten, unwired, follow, change-as, same-value, stays}
+use Rattle.image.proofs.Memory.Slots.{on-back, on-forth, point-kept}
 use Rattle.remus.specs.Walk.{Note, location, run, Frame}
 use Rattle.remus.specs.Point.{_∈_, first, later}
 use Rattle.remus.proofs.Walk.Facts.{Facts}
+use Rattle.remus.proofs.Walk.Sides.{or-none}
+use Rattle.remus.proofs.Walk.Grown.{Grown, grown, point-grown}
 use Rattle.remus.proofs.Walk.Story.{Valued, own, cmd, Chosen}
-use Rattle.remus.proofs.Walk.Pile.{frame, state, first as top, Behind, behind-lower, Inv, below-used}
+use Rattle.remus.proofs.Walk.Pile.{frame, state, first as top, Behind, behind-lower, Inv}
 use Rattle.remus.proofs.Walk.Top.{Onward, onward, top-frame, not-behind, next-behind, just-behind, next-entered, same-entered}
 use Rattle.remus.proofs.Walk.Moves.{advance}
 use Rattle.remus.proofs.Walk.Operands.{static-here, point-here}
 use Rattle.remus.proofs.Walk.Stores.{note-out, run-past, past-D}
-use Rattle.remus.proofs.Walk.Making.{inside-here, own-depth, unused, below}
+use Rattle.remus.proofs.Walk.Making.{inside-here, new-own, below}
 use Rattle.remus.proofs.Walk.Locations.{own-inside, D-inside, not-mono, not-poly, own-one, own-no-source, own-no-sink}
 use Rattle.remus.proofs.Walk.Step.{Renewed, New}
 
@@ -62,32 +64,26 @@ module _ (p : List ℕ) (u : Facts p) {w m : List ℕ} {ns : List Note} {o i : �
     abbrev old : ℕ
     old = content p m o b
 
-    abbrev pub m₁ : List ℕ
-    m₁ = place p m q (content p m o b)
-
     abbrev pub m₂ : List ℕ
-    m₂ = store p m₁ o b (value pointMark (used m))
+    m₂ = store p (place p m q old) o b (value pointMark (used m))
 
     abbrev pub m₃ : List ℕ
     m₃ = store p m₂ o (own p m o i) (value deploymentMark (used m))
 
-    pl : Placed p m q old m₁
-    pl = placed p m q old (v .story .good) low room
-
     point-inside : b < locations p (reactor m o)
     point-inside = let f = pt .3 in let l = pt .1 in rw f (own-inside p (reactor m o) (pt .0) (omega arith))
 
-    s₁ : Stored p m₁ o b (value pointMark (used m)) m₂
-    s₁ = stored p m₁ o b (value pointMark (used m)) (pl .change .good) (pl .change .kept o t₀) (rw (pl .change .reactors o t₀) point-inside)
+    hd : Grown p m q old o b (value pointMark (used m)) m₂
+    hd = grown p m q old o b (value pointMark (used m)) (v .story .good) low room t₀ point-inside
 
     t₂ : Deployed p m₂ o
-    t₂ = s₁ .change .kept o (pl .change .kept o t₀)
+    t₂ = hd .change .kept o t₀
 
     r₂ : reactor m₂ o ≡ reactor m o
-    r₂ = s₁ .change .reactors o (pl .change .kept o t₀) ∙ pl .change .reactors o t₀
+    r₂ = hd .change .reactors o t₀
 
     s₂ : Stored p m₂ o (own p m o i) (value deploymentMark (used m)) m₃
-    s₂ = stored p m₂ o (own p m o i) (value deploymentMark (used m)) (s₁ .change .good) t₂ (rw r₂ (inside-here p u v h then))
+    s₂ = stored p m₂ o (own p m o i) (value deploymentMark (used m)) (hd .change .good) t₂ (rw r₂ (inside-here p u v h then))
 
     -- the two slots that are written
     abbrev Both : ℕ → ℕ → Type 0
@@ -96,56 +92,26 @@ module _ (p : List ℕ) (u : Facts p) {w m : List ℕ} {ns : List Note} {o i : �
     abbrev Newest : ℕ → Type 0
     Newest d = d ≡ used m
 
-    both-of : {d l : ℕ} → ((⊥ ⊎ This-slot p o b d l) ⊎ This-slot p o (own p m o i) d l) → Both d l
-    both-of (inl (inl z)) = absurd z
-    both-of (inl (inr z)) = inl z
-    both-of (inr z) = inr z
-
-    newest-of : {d : ℕ} → (((d ≡ used m) ⊎ ⊥) ⊎ ⊥) → Newest d
-    newest-of (inl (inl z)) = z
-    newest-of (inl (inr z)) = absurd z
-    newest-of (inr z) = absurd z
-
-    none-of : ((⊥ ⊎ ⊥) ⊎ ⊥) → ⊥
-    none-of (inl (inl z)) = z
-    none-of (inl (inr z)) = z
-    none-of (inr z) = z
-
     ch : Change p Both Newest (Nothing p) m m₃
-    ch = change-as p (λ d l z. both-of z) (λ d z. newest-of z) (λ d z. none-of z) (follow p (follow p (pl .change) (s₁ .change)) (s₂ .change))
+    ch = change-as p (λ d l z. z) (λ d z. or-none z) (λ d z. or-none z) (follow p (hd .change) (s₂ .change))
 
     r₃ : reactor m₃ o ≡ reactor m o
     r₃ = ch .reactors o t₀
 
     -- the new deployment
-    u₁ : Deployed p m₁ (used m)
-    u₁ = pl .new
-
-    u₂ : Deployed p m₂ (used m)
-    u₂ = s₁ .change .kept (used m) u₁
-
-    u₃ : Deployed p m₃ (used m)
-    u₃ = s₂ .change .kept (used m) u₂
-
-    new-reactor : reactor m₃ (used m) ≡ q
-    new-reactor = s₂ .change .reactors (used m) u₂ ∙ s₁ .change .reactors (used m) u₁ ∙ pl .reactor-new
-
     new-next : next m₃ (used m) ≡ old
-    new-next = s₂ .change .nexts (used m) u₂ ∙ s₁ .change .nexts (used m) u₁ ∙ pl .next-new
+    new-next = s₂ .change .nexts (used m) (hd .new) ∙ hd .next-new
 
     new-wired : wired m₃ (used m) ≡ 0
-    new-wired = unwired p (s₂ .change) (used m) u₂ (λ z. z) ∙ unwired p (s₁ .change) (used m) u₁ (λ z. z) ∙ pl .wired-new
+    new-wired = unwired p (s₂ .change) (used m) (hd .new) (λ z. z) ∙ hd .wired-new
 
     above : o < used m
     above = below p u v h then
 
     new-empty : (l : ℕ) → l < locations p (reactor m₃ (used m)) → valueAt p m₃ (used m) l ≡ blank
     new-empty l k =
-        let k₂ : l < locations p (reactor m₂ (used m)) = rw (s₂ .change .reactors (used m) u₂) at k in
-        let k₁ : l < locations p (reactor m₁ (used m)) = rw (s₁ .change .reactors (used m) u₁) at k₂ in
-        same-value p (used m) l (unwritten p (s₂ .change) (used m) l u₂ k₂ (λ z. let y = above in omega (arith, z .0)))
-        ∙ same-value p (used m) l (unwritten p (s₁ .change) (used m) l u₁ k₁ (λ z. let y = above in omega (arith, z .0)))
-        ∙ pl .empty l
+        let k₂ : l < locations p (reactor m₂ (used m)) = rw (s₂ .change .reactors (used m) (hd .new)) at k in
+        same-value p (used m) l (unwritten p (s₂ .change) (used m) l (hd .new) k₂ (λ z. let y = above in omega (arith, z .0))) ∙ hd .blank-new l k₂
 
     -- the branch point
     apart : b ≢ own p m o i
@@ -154,24 +120,14 @@ module _ (p : List ℕ) (u : Facts p) {w m : List ℕ} {ns : List Note} {o i : �
     point-same : Same p m₂ m₃ o b
     point-same = unwritten p (s₂ .change) o b t₂ (rw r₂ point-inside) (λ z. apart (z .1))
 
-    headed : content p m₃ o b ≡ used m
-    headed = point-same .contents ∙ s₁ .content-here
+    heads : content p m₃ o b ≡ used m
+    heads = point-same .contents ∙ hd .content-here
 
     not-main : used m ≢ 0
     not-main = let y = above in omega arith
 
-    old-low : {s c : ℕ} → Chain p m o s c → c < used m
-    old-low empty = let y = above in omega arith
-    old-low (link t h₁ h₂ h₃ h₄ k) = below-used p (v .story .good) t
-
-    chain : Chain p m₃ o shape (used m)
-    chain =
-        link {c = used m} u₃ above (rw new-reactor its) (rw new-next (old-low (slot .chain)))
-        (λ d z. let j = on-back p (stays p ch) new-next (slot .chain) z in rw (new-reactor, ch .reactors d (member p (slot .chain) j .deployed)) (missing d j))
-        (rw new-next (chain-kept p (stays p ch) (slot .chain)))
-
     right : PointSlot p m₃ o b shape
-    right = record { marked = point-same .marks ∙ s₁ .mark-here; chain = rw headed chain }
+    right = point-kept p (stays p (s₂ .change)) point-same (point-grown p hd t₀ slot its missing)
 
     abbrev pub notes : List Note
     notes = location o (own p m o i) ∷ ns
@@ -189,7 +145,7 @@ module _ (p : List ℕ) (u : Facts p) {w m : List ℕ} {ns : List Note} {o i : �
         }
       where
         here-b : content p m₃ o (own p m₃ o (pt .0)) ≡ used m
-        here-b = let f = pt .3 in rw (r₃, ← f) headed
+        here-b = let f = pt .3 in rw (r₃, ← f) heads
 
         from : (d : ℕ) {c : ℕ} → c ≡ used m → OnChain p m₃ c d → Names p m o (pt .0) d ⊎ Newest d
         from d z (head y) = inr z
@@ -250,37 +206,19 @@ module _ (p : List ℕ) (u : Facts p) {w m : List ℕ} {ns : List Note} {o i : �
         by g (inr k) =
             let f₂ : cmd p m o i ≡ allocPoly c y = rw (g, k) at f in
             let y₂ : y ≡ b = cc in
-            rw (g, k, y₂) (inr (s₂ .mark-here, rw (headed, s₂ .content-here) (head not-main)))
+            rw (g, k, y₂) (inr (s₂ .mark-here, rw (heads, s₂ .content-here) (head not-main)))
 
     module _ (enough : length fs + 1 + 1 ≤ mostDepth) where
       new : (d : ℕ) → Newest d → New p m m₃ B′ d
       new d n =
-          rw n (record {
-            absent = unused p u v h then;
-            raw = new-wired;
-            empty = new-empty;
-            parent = (
-              o,
-              pt .0,
-              length fs + 1,
-              record {
-                deployed = ch .kept o t₀;
-                low = rw r₃ (pt .2);
-                names = by-point shape (rw r₃ (pt .4)) (let f = pt .3 in rw (r₃, ← f, headed) (head not-main));
-              },
-              own-depth p u v h then,
-              enough,
-            );
-            cause = record {
-              owner = o;
-              command = i;
-              operand = own p m o i;
-              behind = inl (i + 1, top refl refl, omega arith);
-              marked = s₂ .mark-here;
-              names = s₂ .content-here;
-              is = (rw r₃ refl, rw (r₃, e) tt);
-            };
+          rw n
+          (new-own p u v h then (pt .0) (rw e tt) r₃ new-wired new-empty
+          (record {
+            deployed = ch .kept o t₀;
+            low = rw r₃ (pt .2);
+            names = by-point shape (rw r₃ (pt .4)) (let f = pt .3 in rw (r₃, ← f, heads) (head not-main));
           })
+          enough (s₂ .mark-here) (s₂ .content-here))
 
       pub grows : Inv p w (state m₃ (frame o (i + 1) ∷ fs) notes)
       grows =
@@ -316,7 +254,7 @@ module _ (p : List ℕ) (u : Facts p) {w m : List ℕ} {ns : List Note} {o i : �
           runs d z = run-past z
 
     pub grows-words : used m₃ ≡ used m + sizeOf p q
-    grows-words = s₂ .same ∙ s₁ .same ∙ pl .grown
+    grows-words = s₂ .same ∙ hd .larger
 
     pub grows-onward : Onward p m m₃
     grows-onward = onward p ch

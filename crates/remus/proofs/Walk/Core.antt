@@ -158,24 +158,20 @@ module _ (p : List ℕ) (rules : Rules p) (w : List ℕ) (few : length w ≤ 163
       roomy k (inl z) = k .0 (let y = a .height in omega (arith, z .1))
       roomy k (inr z) = let y = g in omega (arith, k .1, z .2)
 
+      same-one : {y : Refusal} (k : Stops p (a .state) y) (q′ : ℕ) → Allocation p (k .words) (k .owner) (k .command) q′ → q′ ≡ q
+      same-one k q′ b =
+          let e = same-point (k .before) (a .point .before) in
+          let e₀ = e .0 in
+          let e₁ = e .1 in
+          let e₂ = e .2 in
+          one-allocation (rw (e₀, e₁, e₂) at b) (a .is)
+
       same : {y : Refusal} (k : Stops p (a .state) y) {z : Refusal} → Stopping p (k .words) (length (a .state .pile)) (k .owner) (k .command) z →
           Refused v q h m → z ≡ v
-      same k (deep q′ b l) (inl z) =
-          let e = same-point (k .before) (a .point .before) in
-          let e₀ = e .0 in
-          let e₁ = e .1 in
-          let e₂ = e .2 in
-          let n : q′ ≡ q = one-allocation (rw (e₀, e₁, e₂) at b) (a .is) in
-          rw n (sym (z .0))
+      same k (deep q′ b l) (inl z) = ap TooDeep (same-one k q′ b) ∙ sym (z .0)
       same k (deep q′ b l) (inr z) = absurd (z .1 (let y = a .height in omega arith))
       same k (full q′ b n l) (inl z) = absurd (n (let y = a .height in omega (arith, z .1)))
-      same k (full q′ b n l) (inr z) =
-          let e = same-point (k .before) (a .point .before) in
-          let e₀ = e .0 in
-          let e₁ = e .1 in
-          let e₂ = e .2 in
-          let f : q′ ≡ q = one-allocation (rw (e₀, e₁, e₂) at b) (a .is) in
-          rw f (sym (z .0))
+      same k (full q′ b n l) (inr z) = ap NoRoom (same-one k q′ b) ∙ sym (z .0)
 
       by : (n : Next) → step p (t .readings) (a .state) ≡ n → Comes p w (a .state) n → step p (t .readings) (a .state) ≡ stop v
       by (go s) e c = absurd (roomy (c .3 m (a .owner) q (a .command) (a .point .before) (a .is)) r)

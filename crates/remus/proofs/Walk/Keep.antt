@@ -6,8 +6,8 @@ use mathlib.Core.Logic.{_⊎_, inl, inr, _≢_}
 use native.Mathlib.Omega.{arith}
 use Rattle.value.specs.Value.{blank}
 use Rattle.program.specs.Bytes.{reactors, declared, commandsIn}
-use Rattle.program.specs.Command.{Cmd, allocMono, makePoly, constant, global, supply, react, consume, sink, allocPoly, primitive, none}
-use Rattle.program.specs.Location.{sources, sinkLoc, locations, cmdAt}
+use Rattle.program.specs.Command.{Cmd, cmdOf, allocMono, makePoly, constant, global, supply, react, consume, sink, allocPoly, primitive, none}
+use Rattle.program.specs.Location.{sources, commandLoc, sinkLoc, locations, cmdAt}
 use Rattle.program.specs.Kind.{kindOf, OfKind}
 use Rattle.load.proofs.Exact.Static.{DeploymentBefore, mono, poly, Static, Single}
 use Rattle.image.specs.Memory.{mostDepth, mainAt, reactor, wired, content, valueAt}
@@ -17,6 +17,7 @@ use Rattle.image.proofs.Memory.Changes.{Same, Change, unwritten, same-value, st
 use Rattle.image.proofs.Memory.Slots.{Right, Made, blank-names, made-names, mono-kept, right-kept, names-back, names-forth, depth-forth, made-begun}
 use Rattle.remus.specs.Walk.{Note, location}
 use Rattle.remus.specs.Point.{_∈_}
+use Rattle.remus.proofs.Walk.Sides.{old-or-new}
 use Rattle.remus.proofs.Walk.Story.{Valued, Deploys, own, cmd, Chosen, Noted, Done, Cause, Supplying, Reacting, Making, Story}
 use Rattle.remus.proofs.Walk.Locations.{own-inside, D-inside, not-mono, not-poly}
 use Rattle.remus.proofs.Walk.Step.{Renewed, Step}
@@ -150,74 +151,53 @@ module _ (p : List ℕ) where
               side (inr l) = inr (c .wires d l .0)
 
       made′ : (o j : ℕ) → Deployed p m′ o → j < declared p (reactor m′ o) → Made p m′ o j
-      made′ o j t′ h = by (ch .back o t′)
+      made′ o j t′ =
+          old-or-new p ch (λ r. j < declared p r → Right p m′ o (commandLoc p r j) (cmdOf p r j) ⊎ (valueAt p m′ o (commandLoc p r j) ≡ blank)) o t′
+          (λ t h. side (c .in-D o j t h) (s .made o j t h))
+          (λ n h. inr (c .new o n .empty (own p m′ o j) (D-inside p (reactor m′ o) j h)))
         where
-          by : Deployed p m o ⊎ N o → Made p m′ o j
-          by (inr n) = inr (c .new o n .empty (own p m′ o j) (D-inside p (reactor m′ o) j h))
-          by (inl t) = rw e (side (c .in-D o j t (rw e at h)) (s .made o j t (rw e at h)))
-            where
-              e : reactor m′ o ≡ reactor m o
-              e = ch .reactors o t
-
-              side : Same p m m′ o (own p m o j) ⊎ (Renewed p m m′ N B′ o j × (o ≡ o₀) × (j ≡ j₀)) → Made p m o j →
-                  Right p m′ o (own p m o j) (cmd p m o j) ⊎ (valueAt p m′ o (own p m o j) ≡ blank)
-              side (inr z) k = inl (z .0 .right)
-              side (inl z) (inl k) = inl (right-kept p (stays p ch) o (own p m o j) (cmd p m o j) z k)
-              side (inl z) (inr k) = inr (same-value p o (own p m o j) z ∙ k)
+          side : Same p m m′ o (own p m o j) ⊎ (Renewed p m m′ N B′ o j × (o ≡ o₀) × (j ≡ j₀)) → Made p m o j →
+              Right p m′ o (own p m o j) (cmd p m o j) ⊎ (valueAt p m′ o (own p m o j) ≡ blank)
+          side (inr z) k = inl (z .0 .right)
+          side (inl z) (inl k) = inl (right-kept p (stays p ch) o (own p m o j) (cmd p m o j) z k)
+          side (inl z) (inr k) = inr (same-value p o (own p m o j) z ∙ k)
 
       slots′ : (o j : ℕ) → Deployed p m′ o → wired m′ o ≡ 1 → j < declared p (reactor m′ o) → Right p m′ o (own p m′ o j) (cmd p m′ o j)
-      slots′ o j t′ v h = by (ch .back o t′)
+      slots′ o j t′ v =
+          old-or-new p ch (λ r. j < declared p r → Right p m′ o (commandLoc p r j) (cmdOf p r j)) o t′
+          (λ t h. right-now o j t h (side t h (ch .wireds o t)))
+          (λ n h. absurd (let z = c .new o n .raw in omega arith))
         where
-          by : Deployed p m o ⊎ N o → Right p m′ o (own p m′ o j) (cmd p m′ o j)
-          by (inr n) = absurd (let z = c .new o n .raw in omega arith)
-          by (inl t) = rw e (right-now o j t h′ (side (ch .wireds o t)))
-            where
-              e : reactor m′ o ≡ reactor m o
-              e = ch .reactors o t
-
-              h′ : j < declared p (reactor m o)
-              h′ = rw e at h
-
-              side : (wired m′ o ≡ wired m o) ⊎ L o → Right p m o (own p m o j) (cmd p m o j)
-              side (inl z) = s .slots o j t (rw z at v) h′
-              side (inr l) = c .wires o l .1 j h′
+          side : Deployed p m o → j < declared p (reactor m o) → (wired m′ o ≡ wired m o) ⊎ L o → Right p m o (own p m o j) (cmd p m o j)
+          side t h (inl z) = s .slots o j t (rw z at v) h
+          side t h (inr l) = c .wires o l .1 j h
 
       fresh′ : (o j : ℕ) → Deployed p m′ o → wired m′ o ≡ 0 → j < declared p (reactor m′ o) → (B′ o j → ⊥) → valueAt p m′ o (own p m′ o j) ≡ blank
-      fresh′ o j t′ v h n = by (ch .back o t′)
+      fresh′ o j t′ v h n =
+          old-or-new p ch (λ r. j < declared p r → valueAt p m′ o (commandLoc p r j) ≡ blank) o t′
+          (λ t l. side t l (c .in-D o j t l) (wire (ch .wireds o t)))
+          (λ k l. c .new o k .empty (own p m′ o j) (D-inside p (reactor m′ o) j l))
+          h
         where
-          by : Deployed p m o ⊎ N o → valueAt p m′ o (own p m′ o j) ≡ blank
-          by (inr k) = c .new o k .empty (own p m′ o j) (D-inside p (reactor m′ o) j h)
-          by (inl t) = rw e (side (c .in-D o j t h′) (wire (ch .wireds o t)))
-            where
-              e : reactor m′ o ≡ reactor m o
-              e = ch .reactors o t
+          wire : (wired m′ o ≡ wired m o) ⊎ L o → wired m o ≡ 0
+          wire (inl z) = rw z at v
+          wire (inr l) = absurd (let z = c .wires o l .0 in omega arith)
 
-              h′ : j < declared p (reactor m o)
-              h′ = rw e at h
-
-              wire : (wired m′ o ≡ wired m o) ⊎ L o → wired m o ≡ 0
-              wire (inl z) = rw z at v
-              wire (inr l) = absurd (let z = c .wires o l .0 in omega arith)
-
-              side : Same p m m′ o (own p m o j) ⊎ (Renewed p m m′ N B′ o j × (o ≡ o₀) × (j ≡ j₀)) → wired m o ≡ 0 → valueAt p m′ o (own p m o j) ≡ blank
-              side (inl z) u = same-value p o (own p m o j) z ∙ s .fresh o j t u h′ (λ k. n (c .more-behind o j k))
-              side (inr z) u = absurd (n (z .0 .behind))
+          side : Deployed p m o → j < declared p (reactor m o) → Same p m m′ o (own p m o j) ⊎ (Renewed p m m′ N B′ o j × (o ≡ o₀) × (j ≡ j₀))
+              → wired m o ≡ 0 → valueAt p m′ o (own p m o j) ≡ blank
+          side t l (inl z) u = same-value p o (own p m o j) z ∙ s .fresh o j t u l (λ k. n (c .more-behind o j k))
+          side t l (inr z) u = absurd (n (z .0 .behind))
 
       polys′ : (o j a e : ℕ) → Deployed p m′ o → j < commandsIn p (reactor m′ o) → cmd p m′ o j ≡ allocPoly a e → Chosen p m′ o (own p m′ o j) e
-      polys′ o j a e t′ h q = by (ch .back o t′)
+      polys′ o j a e t′ =
+          old-or-new p ch (λ r. j < commandsIn p r → cmdOf p r j ≡ allocPoly a e → Chosen p m′ o (commandLoc p r j) e) o t′ old
+          (λ n h q. inl (c .new o n .empty (own p m′ o j) (own-inside p (reactor m′ o) j h)))
         where
-          by : Deployed p m o ⊎ N o → Chosen p m′ o (own p m′ o j) e
-          by (inr n) = inl (c .new o n .empty (own p m′ o j) (own-inside p (reactor m′ o) j h))
-          by (inl t) = rw r (side (ch .slots o (own p m o j) t (own-inside p (reactor m o) j h′)))
+          old : Deployed p m o → j < commandsIn p (reactor m o) → cmd p m o j ≡ allocPoly a e → Chosen p m′ o (own p m o j) e
+          old t h q = side (ch .slots o (own p m o j) t (own-inside p (reactor m o) j h))
             where
               r : reactor m′ o ≡ reactor m o
               r = ch .reactors o t
-
-              h′ : j < commandsIn p (reactor m o)
-              h′ = rw r at h
-
-              q′ : cmd p m o j ≡ allocPoly a e
-              q′ = rw r at q
 
               -- the branch point is D command i
               onward : (i x d : ℕ) → i < declared p (reactor m o) → e ≡ own p m o i → cmd p m o i ≡ makePoly x → OnChain p m (content p m o e) d →
@@ -238,13 +218,13 @@ module _ (p : List ℕ) where
               kept : Same p m m′ o (own p m o j) → Chosen p m o (own p m o j) e → Chosen p m′ o (own p m o j) e
               kept z (inl b) = inl (same-value p o (own p m o j) z ∙ b)
               kept z (inr k) =
-                  let f = static o t .polys j a e h′ q′ .1 in
+                  let f = static o t .polys j a e h q .1 in
                   let g = f .1 in
                   inr (z .marks ∙ k .0, rw (z .contents) (onward (g .0) (f .0) (content p m o (own p m o j)) (g .2) (g .3) (g .4) (k .1) (above _ (k .1))))
 
               side : Same p m m′ o (own p m o j) ⊎ W o (own p m o j) → Chosen p m′ o (own p m o j) e
-              side (inl z) = kept z (s .polys o j a e t h′ q′)
-              side (inr z) = c .polys o j a e t h′ q′ z
+              side (inl z) = kept z (s .polys o j a e t h q)
+              side (inr z) = c .polys o j a e t h q z
 
       depth′ : (d : ℕ) → Deployed p m′ d → (k : ℕ) × Depth p m′ d k × (k ≤ mostDepth)
       depth′ d t′ = by (ch .back d t′)

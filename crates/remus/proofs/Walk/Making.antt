@@ -13,17 +13,19 @@ use Rattle.program.specs.Bytes.{reactors, declared, commandsIn}
 use Rattle.program.specs.Command.{allocMono, makePoly, allocPoly}
 use Rattle.program.specs.Location.{sizeOf, locations}
 use Rattle.load.proofs.Exact.Places.{cmd-there}
-use Rattle.image.specs.Memory.{mostDepth, used, reactor, wired, valueAt, store, place}
-use Rattle.image.specs.Sound.{Deployed, empty, MonoSlot, Names, by-mono, by-point, Depth}
-use Rattle.image.proofs.Memory.Changes.{Same, Change, Nothing, This-slot, Stored, stored, Placed, placed, unwritten, unwired, follow, change-as, same-value}
+use Rattle.image.specs.Memory.{mostDepth, used, reactor, wired, mark, content, valueAt, store, place}
+use Rattle.image.specs.Sound.{Deployed, empty, MonoSlot, Names, by-mono, by-point, Owner}
+use Rattle.image.proofs.Memory.Each.{in-below}
+use Rattle.image.proofs.Memory.Changes.{Same, Change, Nothing, This-slot, Stored, stored, unwritten}
 use Rattle.image.proofs.Memory.Slots.{Right, no-chain, blank-names}
 use Rattle.remus.specs.Exec.{allocated, exec}
 use Rattle.remus.specs.Walk.{Note, Frame, notesOf}
 use Rattle.remus.specs.Point.{mono}
 use Rattle.remus.proofs.Walk.Facts.{Facts}
-use Rattle.remus.proofs.Walk.Story.{Valued, own, cmd}
-use Rattle.remus.proofs.Walk.Pile.{frame, state, first as top, Entered, Behind, behind-lower, Piled, Inv, below-used, height-bound}
-use Rattle.remus.proofs.Walk.Top.{onward, right-done, lower-heights, top-frame, not-behind, next-behind, just-behind, next-entered, same-entered}
+use Rattle.remus.proofs.Walk.Story.{Valued, Deploys, own, cmd}
+use Rattle.remus.proofs.Walk.Grown.{Grown, grown}
+use Rattle.remus.proofs.Walk.Pile.{frame, state, first as top, Entered, Behind, behind-lower, Piled, Inv, height-bound}
+use Rattle.remus.proofs.Walk.Top.{Onward, onward, right-done, lower-heights, top-frame, not-behind, next-behind, just-behind, next-entered, same-entered}
 use Rattle.remus.proofs.Walk.Moves.{advance}
 use Rattle.remus.proofs.Walk.Operands.{static-here}
 use Rattle.remus.proofs.Walk.Outcome.{no-words, words, deep, full, Outcome, allocation-deploys}
@@ -118,17 +120,75 @@ module _ (p : List ℕ) (u : Facts p) {w m : List ℕ} {ns : List Note} {o i : �
   pub too-deep : (mostDepth <? suc (length fs) + 1) ≡ true → suc (length fs) + 1 ≡ 65
   too-deep e = let l : mostDepth < suc (length fs) + 1 = lt? e in let k : suc (length fs) ≤ mostDepth = height-bound p v in omega arith
 
-  pub own-depth : Depth p m o (length fs + 1)
-  own-depth = lower-heights p (v .piled .heights) .0
-
-  pub unused : Deployed p m (used m) → ⊥
-  unused t = let l = below-used p (v .story .good) t in omega arith
-
   pub below : o < used m
-  below = below-used p (v .story .good) t₀
+  below = in-below p t₀
 
   pub has-room : (q : ℕ) → (sizeOf p q ≤? length m - used m) ≡ true → used m + sizeOf p q ≤ length m
   has-room q e = let l : sizeOf p q ≤ length m - used m = le? e in let k = v .story .good .fits in omega arith
+
+  -- what a new one is that command i makes, and D command j of o names
+  pub new-own : {m′ : List ℕ} {ns′ : List Note} (j : ℕ) → Deploys (cmd p m o i) → reactor m′ o ≡ reactor m o → wired m′ (used m) ≡ 0 →
+      ((l : ℕ) → l < locations p (reactor m′ (used m)) → valueAt p m′ (used m) l ≡ blank) → Owner p m′ o j (used m) → length fs + 1 + 1 ≤ mostDepth →
+      mark p m′ o here ≡ deploymentMark → content p m′ o here ≡ used m → New p m m′ (Behind p m′ (frame o (i + 1) ∷ fs) ns′) (used m)
+  new-own j makes same raw blanks owned enough marked names =
+      record {
+        absent = λ t. omega (arith, in-below p t);
+        raw = raw;
+        empty = blanks;
+        parent = (o, j, length fs + 1, owned, lower-heights p (v .piled .heights) .0, enough);
+        cause = record {
+          owner = o;
+          command = i;
+          operand = here;
+          behind = inl (i + 1, top refl refl, omega arith);
+          marked = marked;
+          names = names;
+          is = (rw same refl, rw same makes);
+        };
+      }
+
+  module _ (x : ℕ) (e : cmd p m o i ≡ allocMono x) (room : used m + sizeOf p x ≤ length m) (enough : length fs + 1 + 1 ≤ mostDepth) where
+    abbrev m′ : List ℕ
+    m′ = store p (place p m x 0) o here (value deploymentMark (used m))
+
+    z : (i < declared p (reactor m o)) × (x < reactors p) × (x < reactor m o)
+    z = static-here p u v h .monos i x h e
+
+    g : Grown p m x 0 o here (value deploymentMark (used m)) m′
+    g = grown p m x 0 o here (value deploymentMark (used m)) (v .story .good) (z .1) room t₀ inside-here
+
+    r′ : reactor m′ o ≡ reactor m o
+    r′ = g .change .reactors o t₀
+
+    right : MonoSlot p m′ o here x
+    right =
+        let c = g .content-here in
+        record {
+          marked = g .mark-here;
+          child = rw c (g .new);
+          its = rw c (g .reactor-new);
+          alone = rw c (g .next-new);
+          above = rw c below;
+        }
+
+    named : {d : ℕ} → Names p m′ o i d → d ≡ used m
+    named (by-mono y q ct) = sym ct ∙ rw r′ (g .content-here)
+    named (by-point y q oc) = let q′ : cmd p m o i ≡ makePoly y = rw r′ at q in absurd (not-mono x y (sym e ∙ q′))
+
+    new : (d : ℕ) → d ≡ used m → New p m m′ (Behind p m′ (frame o (i + 1) ∷ fs) ns) d
+    new d n =
+        rw n
+        (new-own i (rw e tt) r′ (g .wired-new) (g .blank-new)
+        (record { deployed = g .change .kept o t₀; low = rw r′ (z .0); names = by-mono x (rw r′ e) (rw r′ (g .content-here)) })
+        enough (g .mark-here) (g .content-here))
+
+    mono-made : Inv p w (state m′ (frame o (i + 1) ∷ fs) ns) × Onward p m m′ × (used m′ ≡ used m + sizeOf p x)
+    mono-made = (
+      makes {N = λ d. d ≡ used m} (z .0) (g .change) (rw e (λ z. z)) (λ a b z. let y : _≡_ {A = ℕ} 0 1 = cc in omega arith) (rw e right)
+          (λ d t n. inr (named n)) new,
+      onward p (g .change),
+      g .larger,
+    )
 
   pub mono-outcome : (x : ℕ) (rd : List ℕ) → cmd p m o i ≡ allocMono x → (a b : Bool) → (mostDepth <? suc (length fs) + 1) ≡ a →
       (sizeOf p x ≤? length m - used m) ≡ b →
@@ -136,87 +196,5 @@ module _ (p : List ℕ) (u : Facts p) {w m : List ℕ} {ns : List Note} {o i : �
   unfolding allocated
   mono-outcome x rd e true b f g = deep x mono (too-deep f)
   mono-outcome x rd e false false f g = full x mono (shallow f .0) (le×? g)
-  mono-outcome x rd e false true f g = (
-    makes {N = λ d. d ≡ used m} (z .0) ch (rw e (λ z. z)) (λ a b z. let y : _≡_ {A = ℕ} 0 1 = cc in omega arith) (rw e right) (λ d t n. inr (named n)) new,
-    onward p ch,
-    words x mono (s .same ∙ pl .grown) (shallow f .0) (le? g),
-  )
-    where
-      z : (i < declared p (reactor m o)) × (x < reactors p) × (x < reactor m o)
-      z = static-here p u v h .monos i x h e
-
-      m₁ : List ℕ
-      m₁ = place p m x 0
-
-      m′ : List ℕ
-      m′ = store p (place p m x 0) o (own p m o i) (value deploymentMark (used m))
-
-      pl : Placed p m x 0 (place p m x 0)
-      pl = placed p m x 0 (v .story .good) (z .1) (has-room x g)
-
-      t₁ : Deployed p (place p m x 0) o
-      t₁ = pl .change .kept o t₀
-
-      s : Stored p (place p m x 0) o (own p m o i) (value deploymentMark (used m)) (store p (place p m x 0) o (own p m o i) (value deploymentMark (used m)))
-      s = stored p (place p m x 0) o (own p m o i) (value deploymentMark (used m)) (pl .change .good) t₁ (rw (pl .change .reactors o t₀) inside-here)
-
-      first-of : {A : Type 0} → ⊥ ⊎ A → A
-      first-of (inl y) = absurd y
-      first-of (inr y) = y
-
-      last-of : {A : Type 0} → A ⊎ ⊥ → A
-      last-of (inl y) = y
-      last-of (inr y) = absurd y
-
-      ch : Change p (This-slot p o (own p m o i)) (λ d. d ≡ used m) (Nothing p) m (store p (place p m x 0) o (own p m o i) (value deploymentMark (used m)))
-      ch = change-as p (λ d l y. first-of y) (λ d y. last-of y) (λ d y. last-of y) (follow p (pl .change) (s .change))
-
-      r′ : reactor (store p (place p m x 0) o (own p m o i) (value deploymentMark (used m))) o ≡ reactor m o
-      r′ = ch .reactors o t₀
-
-      right : MonoSlot p (store p (place p m x 0) o (own p m o i) (value deploymentMark (used m))) o (own p m o i) x
-      right =
-          record {
-            marked = s .mark-here;
-            child = rw (s .content-here) (s .change .kept (used m) (pl .new));
-            its = rw (s .content-here, s .change .reactors (used m) (pl .new)) (pl .reactor-new);
-            alone = rw (s .content-here, s .change .nexts (used m) (pl .new)) (pl .next-new);
-            above = rw (s .content-here) below;
-          }
-
-      named : {d : ℕ} → Names p (store p (place p m x 0) o (own p m o i) (value deploymentMark (used m))) o i d → d ≡ used m
-      named (by-mono y q ct) = sym ct ∙ rw r′ (s .content-here)
-      named (by-point y q oc) = let q′ : cmd p m o i ≡ makePoly y = rw r′ at q in absurd (not-mono x y (sym e ∙ q′))
-
-      empty-new : (l : ℕ) → l < locations p (reactor (store p (place p m x 0) o (own p m o i) (value deploymentMark (used m))) (used m)) →
-          valueAt p (store p (place p m x 0) o (own p m o i) (value deploymentMark (used m))) (used m) l ≡ blank
-      empty-new l k =
-          same-value p (used m) l
-          (unwritten p (s .change) (used m) l (pl .new) (rw (s .change .reactors (used m) (pl .new)) at k) (λ y. let n = below in omega (arith, y .0)))
-          ∙ pl .empty l
-
-      new : (d : ℕ) → d ≡ used m →
-          New p m (store p (place p m x 0) o (own p m o i) (value deploymentMark (used m))) (Behind p (store p (place p m x 0) o (own p m o i) (value deploymentMark (used m))) (frame o (i + 1) ∷ fs) ns) d
-      new d n =
-          rw n (record {
-            absent = unused;
-            raw = unwired p (s .change) (used m) (pl .new) (λ y. y) ∙ pl .wired-new;
-            empty = empty-new;
-            parent = (
-              o,
-              i,
-              length fs + 1,
-              record { deployed = ch .kept o t₀; low = rw r′ (z .0); names = by-mono x (rw r′ e) (rw r′ (s .content-here)) },
-              own-depth,
-              shallow f .1,
-            );
-            cause = record {
-              owner = o;
-              command = i;
-              operand = own p m o i;
-              behind = inl (i + 1, top refl refl, omega arith);
-              marked = s .mark-here;
-              names = s .content-here;
-              is = (rw r′ refl, rw (r′, e) tt);
-            };
-          })
+  mono-outcome x rd e false true f g =
+      let k = mono-made x e (has-room x g) (shallow f .1) in (k .0, k .1, words x mono (k .2) (shallow f .0) (le? g))

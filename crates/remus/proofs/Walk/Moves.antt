@@ -15,6 +15,7 @@ use Rattle.program.specs.Location.{sources}
 use Rattle.image.specs.Memory.{mainAt, used, reactor, wired, mark, content, withWired}
 use Rattle.image.specs.Sound.{Deployed, Owner, Depth, child}
 use Rattle.image.proofs.Memory.Tiles.{in-reactor}
+use Rattle.image.proofs.Memory.Each.{in-below}
 use Rattle.image.proofs.Memory.Changes.{Wired, Change, This-slot, No-slot, Nothing, unwired, unchanged, wiring}
 use Rattle.image.proofs.Memory.Slots.{Right, depth-forth}
 use Rattle.remus.specs.Exec.{opening, ready}
@@ -23,7 +24,7 @@ use Rattle.remus.specs.Point.{_∈_, first, later}
 use Rattle.remus.proofs.Walk.Facts.{Facts}
 use Rattle.remus.proofs.Walk.Story.{own, cmd, Done}
 use Rattle.remus.proofs.Walk.Keep.{owner-forth, story-kept}
-use Rattle.remus.proofs.Walk.Pile.{frame, state, Open, first as top, later as under, Falling, ground, on, falls, Entered, Behind, Between, behind-lower, stack, heights-forth, FrameOk, Piled, Inv, below-used, not-zero}
+use Rattle.remus.proofs.Walk.Pile.{frame, state, Open, first as top, later as under, Falling, ground, on, falls, Entered, Behind, Between, behind-lower, stack, heights-forth, FrameOk, Piled, Inv, not-zero}
 use Rattle.remus.proofs.Walk.Top.{Onward, onward, done-right, right-done, behind-on, behind-off, lower-falls, lower-heights, top-frame, top-only, opens-off, next-entered}
 use Rattle.remus.proofs.Walk.Step.{Opens, calm}
 
@@ -78,7 +79,7 @@ module _ (p : List ℕ) where
           record {
             story = story-kept p (u .static) (v .story) c;
             piled = record {
-              falling = on (below-used p (ch .good) (ch .kept o t)) (lower-falls p (q .falling));
+              falling = on (in-below p (ch .kept o t)) (lower-falls p (q .falling));
               heights = let k = lower-heights p (q .heights) in stack (not-zero p t) (depth-forth p forth (not-zero p t) (k .0)) (heights-forth p forth (k .1));
               frames = λ a k z. by a k (opens-off p a k z);
               apart = λ a k z r. alone a k (opens-off p a k z) (runs a r);
@@ -139,7 +140,7 @@ module _ (p : List ℕ) where
                 (λ a j b. inl (back a j b)) (behind-lower p m fs (run o ∷ ns))
                 (λ a j z. absurd z) (λ a j z. absurd z) enter (λ d z. inl (entered d z)) (λ d z. absurd z) (λ d z. absurd z));
             piled = record {
-              falling = higher (let z = below-used p (v .story .good) t₀ in omega arith) (lower-falls p (q₀ .falling));
+              falling = higher (let z = in-below p t₀ in omega arith) (lower-falls p (q₀ .falling));
               heights = lower-heights p (q₀ .heights) .1;
               frames = λ a k z. q₀ .frames a k (under z);
               apart = λ a k z r. alone a k z (run-out r);
@@ -202,7 +203,7 @@ module _ (p : List ℕ) where
                   (λ n z. z) (λ a l z. z) forth back (behind-lower p m pile ns)
                   scope done enter entered opens (λ a z. absurd z));
               piled = record {
-                falling = on (below-used p (v .story .good) t) (on above (lower-falls p (q₀ .falling)));
+                falling = on (in-below p t) (on above (lower-falls p (q₀ .falling)));
                 heights = let y = lower-heights p (q₀ .heights) in stack (not-zero p t) (deeper (y .0)) (stack (not-zero p t₀) (y .0) (y .1));
                 frames = λ a n z. frames z;
                 apart = λ a n z. alone z;
@@ -327,7 +328,7 @@ module _ (p : List ℕ) where
                 inv = record {
                   story = story-kept p (u .static) (v .story) step;
                   piled = record {
-                    falling = on (below-used p (ch .good) (ch .kept o t₀)) (lower-falls p (q₀ .falling));
+                    falling = on (in-below p (ch .kept o t₀)) (lower-falls p (q₀ .falling));
                     heights = heights-forth p forth (q₀ .heights);
                     frames = λ a k z. frames a k z (same? a o);
                     apart = q₀ .apart;

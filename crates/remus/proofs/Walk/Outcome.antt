@@ -12,8 +12,7 @@ use Rattle.value.specs.Primitive as P
 use Rattle.value.specs.Primitive.{rowOf, operands, kindsFit}
 use Rattle.value.specs.declared.Value.{Value}
 use Rattle.value.specs.declared.Takes.{Takes}
-use Rattle.value.specs.declared.Takes.the-variants.{TwoNumbers, OneTruth, TwoTruths, OneOfAny, TruthThenTwo, TwoAlike}
-use Rattle.value.proofs.Tests.{eq?, eq×?, eq!, both! }
+use Rattle.value.proofs.Tests.{eq?, eq×?}
 use Rattle.value.proofs.Legal.{primitive-of-kind}
 use Rattle.program.specs.Bytes.{reactors, globals, globalKind, shapeOf, sourcesIn, declared, commandsIn}
 use Rattle.program.specs.Command.{Cmd, sequenceOf, givesValue, R, allocMono, makePoly, constant, global, supply, react, consume, sink, allocPoly, primitive, none}
@@ -23,6 +22,7 @@ use Rattle.load.specs.declared.Refusal.{Refusal}
 use Rattle.load.specs.declared.Refusal.the-variants.{NoRoom, TooDeep}
 use Rattle.load.proofs.Exact.Static.{ValueBefore, DeploymentBefore}
 use Rattle.load.proofs.Exact.Fits.{KindsFit}
+use Rattle.load.proofs.Exact.Taken.{kinds-say}
 use Rattle.image.specs.Memory.{used, reactor, wired, mark, content, valueAt, store}
 use Rattle.image.specs.Sound.{Deployed}
 use Rattle.image.proofs.Memory.Changes.{Same, Change, No-slot, Nothing, Stored, stored, unwritten, unchanged}
@@ -90,14 +90,8 @@ noted-done p m ns E o l (primitive x a b c) e n = n
 noted-done p m ns E o l none e n = absurd (false≢true e)
 
 -- the kinds that a primitive takes, as its table's test
-kinds-fit : (t : Takes) (j k l : ℕ) → KindsFit t j k l → kindsFit t j k l ≡ true
-unfolding kindsFit
-kinds-fit TwoNumbers j k l f = both! (eq! (f .0)) (eq! (f .1))
-kinds-fit OneTruth j k l f = eq! f
-kinds-fit TwoTruths j k l f = both! (eq! (f .0)) (eq! (f .1))
-kinds-fit OneOfAny j k l f = refl
-kinds-fit TruthThenTwo j k l f = both! (eq! (f .0)) (eq! (f .1))
-kinds-fit TwoAlike j k l f = eq! f
+pub kinds-fit : (t : Takes) (j k l : ℕ) → KindsFit t j k l → kindsFit t j k l ≡ true
+kinds-fit t j k l = kinds-say t j k l j k l refl (inr refl) (inr refl) .1
 
 module _ (p : List ℕ) (u : Facts p) (rd : List ℕ) (legal : (m : List ℕ) (x : ℕ) → x ≤ globals p → OfKind p (globalKind p x) (globalValue rd m x))
     {w m : List ℕ} {ns : List Note} {o i : ℕ} {fs : List Frame}

@@ -8,8 +8,7 @@ use lib.ListN.{length}
 use Rattle.program.specs.Bytes.{declared, commandsIn}
 use Rattle.image.specs.Memory.{mostDepth, mainAt, used, turns, reactor, wired}
 use Rattle.image.specs.Sound.{Deployed, Owner, Depth}
-use Rattle.image.proofs.Memory.Tiles.{in-ge, in-fits, size-at}
-use Rattle.image.proofs.Memory.Changes.{Good}
+use Rattle.image.proofs.Memory.Tiles.{in-ge}
 use Rattle.image.proofs.Memory.Slots.{made-names, depth-forth, depth-one}
 use Rattle.remus.specs.Walk.{Note, run, Frame, State}
 use Rattle.remus.specs.Point.{_∈_}
@@ -84,9 +83,6 @@ module _ (p : List ℕ) where
     pub piled : Piled (s .words) (s .pile) (s .notes)
     pub len : length (s .words) ≡ length w
     pub clock : turns (s .words) ≡ turns w
-
-  pub below-used : {m : List ℕ} {d : ℕ} → Good p m → Deployed p m d → d < used m
-  below-used {m} {d} g t = let q = in-fits p (g .tiles) t in let e = size-at p m d in omega arith
 
   pub not-zero : {m : List ℕ} {d : ℕ} → Deployed p m d → d ≢ 0
   not-zero t = let q = in-ge p t in omega arith

@@ -6,7 +6,6 @@ use mathlib.Core.Logic.{_⊎_, inl, inr}
 use native.Mathlib.Omega.{arith}
 use Rattle.value.proofs.Tests.{below}
 use Rattle.value.specs.declared.Value.{Value}
-use Rattle.value.proofs.Tests.{below}
 use Rattle.program.specs.Bytes.{declared, commandsIn}
 use Rattle.program.specs.Command.{Cmd, sequenceOf, D, R, sink, allocPoly}
 use Rattle.program.specs.Location.{sources, sinkLoc, locations, cmdAt}
