@@ -29,8 +29,7 @@ loop-holds c = (refl, c .before .before .pre, refl)
 add-a : tie.Need-add-a Inv-loop μ-loop
 add-a c =
     let at-loop = c .before .before .before .loop in
-    let at = at-loop in
-    omega (arith, pass-within _ _ _ _ (at .inv .1) (c .before .before .loop-test .taken) _ (c .size-at .ensures .0))
+    omega (arith, pass-within _ _ _ _ (at-loop .inv .1) (c .before .before .loop-test .taken) _ (c .size-at .ensures .0))
 
 pass-one-requires : tie.Need-pass-one-requires Inv-loop μ-loop
 pass-one-requires c κs = pass-inside _ _ _ _ (c .before .before .before .before .loop .inv .1) (c .before .before .before .loop-test .taken)
@@ -48,10 +47,9 @@ loop-again c =
     let at-loop-test = c .before .before .before .before .before .before .loop-test in
     let at-loop = c .before .before .before .before .before .before .before .loop in
     let args = c .before .before .before .before .before .before .before .before .before .before .args in
-    let at = at-loop in
     let in-loop = at-loop-test .taken in
-    pass-next _ _ _ _ (at .inv .1) in-loop _ (at-size-at .ensures .0) (eachOf (args .s) (args .program .now) (args .u)) _ _ _
-    (c .before .before .pass-one .ensures) (local-each _ _ _ _ _ (pass-inside _ _ _ _ (at .inv .1) in-loop)) (at .inv .0) (at .inv .2)
+    pass-next _ _ _ _ (at-loop .inv .1) in-loop _ (at-size-at .ensures .0) (eachOf (args .s) (args .program .now) (args .u)) _ _ _
+    (c .before .before .pass-one .ensures) (local-each _ _ _ _ _ (pass-inside _ _ _ _ (at-loop .inv .1) in-loop)) (at-loop .inv .0) (at-loop .inv .2)
 
 same-length : tie.Need-same-length Inv-loop μ-loop
 same-length c = c .before .loop .inv .0
