@@ -1,10 +1,9 @@
--- Folds and first faults over a list, one element at a time; and zeros.
+-- Folds and first faults over a list, one element at a time.
 -- Assumes nothing.
-use Prim.Native.Nat.{ℕ, zero, suc}
+use Prim.Native.Nat.{ℕ}
 use mathlib.Core.Path.{_≡_, refl}
 use mathlib.Core.Bool.{Bool, true, false}
 use mathlib.Core.List.{List, [], _∷_, _++_}
-use lib.ListN.{getD, replicate}
 use Rattle.value.proofs.Tests.{goes, stops}
 use Rattle.image.specs.Passes.{lowest, over}
 
@@ -35,8 +34,3 @@ module _ (ok : ℕ → Bool) (s rest : List ℕ) (a : ℕ) (e : s ≡ a ∷ rest
 pub lowest-done : (ok : ℕ → Bool) (s : List ℕ) → s ≡ [] → 0 ≡ lowest ok s
 unfolding lowest
 lowest-done ok s e = rw e
-
-pub zeros-at : (n i : ℕ) → getD {A = ℕ} (replicate n 0) i 0 ≡ 0
-zeros-at zero i = refl
-zeros-at (suc n) zero = refl
-zeros-at (suc n) (suc i) = zeros-at n i

@@ -4,4 +4,3 @@ pub mod Shapes
 pub mod Turns
 pub mod TableBytes
 pub mod Exact
-pub mod Uncoded

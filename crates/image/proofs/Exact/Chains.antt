@@ -13,7 +13,7 @@ use Rattle.image.specs.Memory.{used, reactor, next}
 use Rattle.image.specs.Sound.{Deployed, OnChain, head, tail, Chain, empty, link}
 use Rattle.image.specs.Passes.{chainFrom, membersFrom}
 use Rattle.image.specs.declared.Pass.the-variants.{Starts}
-use Rattle.image.proofs.Lists.{zeros-at}
+use Rattle.value.proofs.Zeros.{zeros-at}
 use Rattle.image.proofs.Chains.{members-end, members-next}
 use Rattle.image.proofs.Memory.Tiles.{in-to}
 use Rattle.image.proofs.Memory.Distinct.{Members, end, one, few-members}

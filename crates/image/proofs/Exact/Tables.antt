@@ -11,7 +11,8 @@ use Rattle.value.specs.Test.{_=?_}
 use Rattle.value.proofs.Tests.{eq!, eq?, guards}
 use Rattle.image.specs.Memory.{mainAt}
 use Rattle.image.specs.Passes.{tableBytes, lowest, over, entry, withEntry, blankTable}
-use Rattle.image.proofs.Lists.{over-append, zeros-at}
+use Rattle.value.proofs.Zeros.{zeros-at}
+use Rattle.image.proofs.Lists.{over-append}
 use Rattle.image.proofs.Exact.Lists.{_∈_, same, each, flat}
 
 -- no place is found where the test passes at each; a place is not 0

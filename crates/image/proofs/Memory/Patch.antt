@@ -6,7 +6,7 @@ use native.Mathlib.Omega.{arith}
 use lib.ListN.{length, getD, take, drop, replicate, length-append, length-drop, List·getD-append}
 use lib.Seq.{length-take-le, getD-append-add, getD-take, getD-drop}
 use Rattle.image.specs.Memory.{word, patch}
-use Rattle.image.proofs.Lists.{zeros-at}
+use Rattle.value.proofs.Zeros.{zeros-at}
 
 pub word-left : (xs ys : List ℕ) (k : ℕ) → k < length xs → word (xs ++ ys) k ≡ word xs k
 unfolding word

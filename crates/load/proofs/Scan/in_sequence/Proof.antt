@@ -1,7 +1,6 @@
 use Prim.Native.Nat.{_<_}
-use Rattle.load.proofs.Uncoded.{as-none}
 use Rattle.load.specs.Scan.{inSequence}
-use Rattle.program.proofs.Decode.{by-code}
+use Rattle.program.proofs.Decode.{as-none, by-code}
 use Rattle.program.specs.Bytes.{declared}
 use Rattle.program.specs.Command.{Cmd, sequenceOf}
 use Rattle.value.proofs.Tests.{same-lt}

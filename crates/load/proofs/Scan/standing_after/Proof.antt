@@ -1,7 +1,6 @@
 use Rattle.load.proofs.Stands.{stands}
-use Rattle.load.proofs.Uncoded.{as-rest}
 use Rattle.load.specs.Scan.{standingAfter}
-use Rattle.program.proofs.Decode.{as-constant, as-consume, as-global, as-make, as-mono, as-poly, as-primitive, as-react, as-sink, as-supply}
+use Rattle.program.proofs.Decode.{as-constant, as-consume, as-global, as-make, as-mono, as-poly, as-primitive, as-react, as-rest, as-sink, as-supply}
 use borrow.Author.Needs.{needs}
 use denote.Ref.{now}
 use mathlib.Core.Path.{refl}

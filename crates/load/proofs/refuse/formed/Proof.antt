@@ -1,7 +1,6 @@
 use Prim.Native.Nat.{_+_, ℕ}
-use Rattle.load.proofs.Uncoded.{as-rest}
 use Rattle.load.specs.Scan.{formed}
-use Rattle.program.proofs.Decode.{as-constant, as-consume, as-global, as-make, as-mono, as-poly, as-primitive, as-react, as-sink, as-supply}
+use Rattle.program.proofs.Decode.{as-constant, as-consume, as-global, as-make, as-mono, as-poly, as-primitive, as-react, as-rest, as-sink, as-supply}
 use Rattle.value.proofs.Tests.{same-and, same-eq, same-le, same-lt}
 use borrow.Author.Needs.{needs}
 use denote.Ref.{now}

@@ -1,6 +1,5 @@
-use Rattle.load.proofs.Uncoded.{as-rest}
 use Rattle.machine.specs.Act.{acted, doing}
-use Rattle.program.proofs.Decode.{as-constant, as-consume, as-global, as-make, as-mono, as-poly, as-primitive, as-react, as-sink, as-supply}
+use Rattle.program.proofs.Decode.{as-constant, as-consume, as-global, as-make, as-mono, as-poly, as-primitive, as-react, as-rest, as-sink, as-supply}
 use Rattle.program.specs.Command.{Cmd}
 use Rattle.remus.specs.Exec.{exec}
 use borrow.Author.Needs.{needs}

@@ -1,7 +1,6 @@
 use Rattle.program.proofs.Past.{same-bytes}
 use borrow.Author.Needs.{needs}
 use denote.Ref.{now}
-use native.Mathlib.Omega.{arith}
 use Rattle.program.proofs.commands.place.Statement.{statement}
 use Rattle.program.proofs.commands.place.Tie as tie
 
