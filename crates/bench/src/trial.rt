@@ -52,10 +52,7 @@ fn image_agrees(line: Line, program: &[u8], memory: &[u32]) -> bool {
 
 // Whether a turn's number and place are the line's.
 fn turn_says(line: Line, answer: Turned) -> bool {
-    match answer {
-        Turned::Done(u) => line.says(0, u),
-        Turned::Refused(why) => line.says(why.number(), why.place()),
-    }
+    line.says(answer.number(), answer.place())
 }
 
 // A turn's number and place, and every word of memory and of sink space after it.

@@ -11,7 +11,7 @@ use Rattle.value.proofs.Tests.{goes, stops, lt!, lt×}
 use Rattle.program.specs.Bytes.{shapeOf}
 use Rattle.image.specs.Memory.{reactor, next}
 use Rattle.image.specs.Passes.{isStart, chainFrom, membersFrom, childrenFrom, over}
-use Rattle.image.specs.Walk.{namedAt}
+use Rattle.image.specs.Cut.{namedAt}
 use Rattle.image.proofs.Lists.{over-append, over-done}
 
 module _ (p m t : List ℕ) (o s last : ℕ) (seen : List ℕ) (c : ℕ) where

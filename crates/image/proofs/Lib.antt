@@ -5,7 +5,7 @@ pub mod Lists
 pub mod Chains
 pub mod Made
 pub mod Positions
-pub mod Walks
+pub mod Cuts
 pub mod Starts
 pub mod Memory
 pub mod Exact

@@ -10,7 +10,7 @@ use Rattle.program.specs.Bytes.{byte, commandsAt, commandAt}
 use Rattle.program.specs.Command.{deployment, point, nothing, madeBy, decode, cmdOf, bytesOf, bytesAt}
 use Rattle.program.specs.declared.Command.{Command}
 use Rattle.program.proofs.Decode.{by-code}
-use Rattle.image.specs.Walk.{madeOf}
+use Rattle.image.specs.Cut.{madeOf}
 
 module _ (code x : ℕ) where
   pub made-mono : code ≡ 1 → deployment x ≡ madeOf code x

@@ -15,7 +15,7 @@ use Rattle.load.specs.declared.Refusal.{Refusal}
 use Rattle.load.specs.declared.Refusal.the-variants.{MemoryLength, NoRoom}
 use Rattle.image.specs.Memory.{mainAt, word, used, withUsed, place}
 use Rattle.image.specs.Start.{wordsLegal, startedOf, startBy, refused}
-use Rattle.image.specs.Walk.{placed}
+use Rattle.image.specs.Cut.{placed}
 use Rattle.image.specs.Answer.{started}
 use Rattle.image.specs.declared.Started.the-variants.{Ready, Refused}
 

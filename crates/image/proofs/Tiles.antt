@@ -13,7 +13,7 @@ use Rattle.program.specs.Bytes.{reactors, declared, commandsIn}
 use Rattle.program.specs.Location.{sizeOf, slotAt, locations, sources, sinkLoc}
 use Rattle.image.specs.Memory.{reactor, zeroAt, sizeAt, startsFrom, slotsD, slotsR}
 use Rattle.image.specs.Passes.{tilesFrom, clearAt}
-use Rattle.image.specs.Walk.{Tiling, Follows, startsOn}
+use Rattle.image.specs.Cut.{Tiling, Follows, startsOn}
 
 -- a deployment's three words come before its slots, D slots before others
 module _ (p : List ℕ) (r : ℕ) where

@@ -2,6 +2,6 @@ pub mod Memory
 pub mod Sound
 pub mod Whole
 pub mod Passes
-pub mod Walk
+pub mod Cut
 pub mod Start
 pub mod Answer

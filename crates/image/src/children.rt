@@ -17,7 +17,7 @@ ghost use Prim.Native.Nat.{_<_};
 ghost use Rattle.program.specs.Bytes as B;
 ghost use Rattle.image.specs.Memory as M;
 ghost use Rattle.image.specs.Passes as P;
-ghost use Rattle.image.specs.Walk as W;
+ghost use Rattle.image.specs.Cut as W;
 
 // One more name for c; more than once is as twice.
 fn name(table: &mut [u8], c: u32)

@@ -13,7 +13,7 @@ ghost use Prim.Native.Nat.{_<_};
 ghost use lib.ListN.{length};
 ghost use Rattle.program.specs.Bytes as B;
 ghost use Rattle.image.specs.Memory as M;
-ghost use Rattle.image.specs.Walk as W;
+ghost use Rattle.image.specs.Cut as W;
 
 // Fills in the byte at which each reactor's commands begin.
 pub(crate) fn fill_positions(program: &[u8], places: &mut [u32])

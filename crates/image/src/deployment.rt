@@ -12,7 +12,7 @@ ghost use Prim.Native.Nat.{_+_, _<_};
 ghost use lib.ListN.{set};
 ghost use Rattle.program.specs.Location as L;
 ghost use Rattle.image.specs.Memory as M;
-ghost use Rattle.image.specs.Walk as W;
+ghost use Rattle.image.specs.Cut as W;
 
 // The index of location l's two words, in the deployment at a.
 pub fn slot(program: &[u8], memory: &[u32], a: u32, l: u16) -> usize
@@ -77,8 +77,8 @@ fn put_header(memory: &mut [u32], u: u32, r: u32, old: u32, end: u32)
     set_used(memory, end)
 }
 
-// A new deployment of reactor r at u, on a branch point with the old head as its next. The words from
-// u on are zero. Nothing, where u after it would not fit a word.
+// A new deployment of reactor r at u, on a branch point with the old head as its next. Its slots stay
+// as they are, in a sound image zero. Nothing, where u after it would not fit a word.
 pub fn place(program: &[u8], memory: &mut [u32], r: u32, old: u32)
     ensures is { λ _. ⌜ now (memory .exit) ≡ W.placed (now (program .entry)) (now (memory .entry)) r old ⌝ }
     ensures small { λ _. ⌜ L.sizeOf (now (program .entry)) r < 131074 ⌝ }

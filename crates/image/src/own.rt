@@ -22,7 +22,7 @@ ghost use Rattle.program.specs.Bytes as B;
 ghost use Rattle.program.specs.Command as C;
 ghost use Rattle.image.specs.Memory as M;
 ghost use Rattle.image.specs.Passes as P;
-ghost use Rattle.image.specs.Walk as W;
+ghost use Rattle.image.specs.Cut as W;
 
 // The marks of D slots: "4 deployment index, 5 branch point with the index of its newest
 // deployment".

@@ -15,7 +15,7 @@ ghost use Prim.Native.Nat.{_<_};
 ghost use Rattle.program.specs.Bytes as B;
 ghost use Rattle.image.specs.Memory as M;
 ghost use Rattle.image.specs.Passes as P;
-ghost use Rattle.image.specs.Walk as W;
+ghost use Rattle.image.specs.Cut as W;
 
 // What a pass does for the deployment at o.
 fn visit(pass: Pass, program: &[u8], places: &[u32], memory: &[u32], table: &mut [u8], o: u32)

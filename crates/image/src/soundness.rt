@@ -20,7 +20,7 @@ ghost use Rattle.program.specs.Bytes as B;
 ghost use Rattle.image.specs.Answer as N;
 ghost use Rattle.image.specs.Memory as M;
 ghost use Rattle.image.specs.Passes as P;
-ghost use Rattle.image.specs.Walk as W;
+ghost use Rattle.image.specs.Cut as W;
 
 // Whether main comes first.
 fn main_first(program: &[u8], memory: &[u32], u: u32) -> bool
@@ -90,7 +90,8 @@ fn judge(ok: bool) -> Judged
     }
 }
 
-// Whether an image, of any words, is sound for a program.
+// Whether an image is sound for a program: exactly so for up to 64 reactors and 16,384 words, which
+// is all that check and length let pass (exact-soundness).
 pub fn sound(program: &[u8], memory: &[u32]) -> Judged
     ensures { λ r. ⌜ N.judged r ≡ P.soundOf (now (program .entry)) (now (memory .entry)) ⌝ }
 {

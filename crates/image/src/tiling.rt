@@ -8,7 +8,7 @@ ghost use Prim.Native.Nat.{_≤_, _<_};
 ghost use lib.ListN.{length};
 ghost use Rattle.image.specs.Memory as M;
 ghost use Rattle.image.specs.Passes as P;
-ghost use Rattle.image.specs.Walk as W;
+ghost use Rattle.image.specs.Cut as W;
 
 // Whether deployments tile the words from 2 up to u exactly.
 pub(crate) fn tiles(program: &[u8], memory: &[u32], u: u32) -> bool

@@ -1,4 +1,5 @@
--- The bench programs of 01, and its starred cases about the check as one table with one claim: each row's check answers as it says.
+-- The bench programs of 01, and its cases about the check, starred and others, as one table with one claim: each row's check answers as it says.
+-- The table of all starred cases is in crate remus.
 use Prim.Native.Nat.{ℕ}
 use mathlib.Core.Path.{_≡_, refl}
 use mathlib.Core.List.{List, [], _∷_, _++_}

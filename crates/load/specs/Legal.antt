@@ -19,6 +19,6 @@ pub record LegalTables (p : List ℕ) : Type 0 where
 abbrev pub FreeSource : Scan → Command → Type 0
 FreeSource s c = (c .x < 8) × (isSupplied s (c .b) (c .x) ≡ false)
 
--- every location but a value's has a shape as its kind
+-- a branch point's or deployment's kind is a shape; an own sink's is 0
 abbrev pub Shaped : List ℕ → Scan → Type 0
 Shaped p s = (l : ℕ) → freePoint ≤ standingAt s l → kindAt s l < shapes p

@@ -9,7 +9,7 @@ use Rattle.value.specs.declared.Value.{Value}
 use Rattle.value.proofs.Tests.{yes, le! }
 use Rattle.program.specs.Location.{commandLoc, sizeOf}
 use Rattle.image.specs.Memory.{used, turns, reactor, store, place}
-use Rattle.image.specs.Walk.{placed}
+use Rattle.image.specs.Cut.{placed}
 use Rattle.remus.specs.Exec.{move, chosen, globalValue}
 use Rattle.remus.specs.Turn.{readingAt}
 use Rattle.machine.specs.Act.{Acted, acted}

@@ -16,7 +16,7 @@ use Rattle.program.proofs.Decode.{as-make, by-code}
 use Rattle.program.specs.Location.{commandLoc, sinkLoc, sizeOf}
 use Rattle.image.specs.Memory.{mainAt, word, reactor, mark, content, valueAt, store, sizeAt, startsFrom, patch}
 use Rattle.image.specs.Passes.{over, tilesFrom}
-use Rattle.image.specs.Walk.{Tiling, Follows, startsOn}
+use Rattle.image.specs.Cut.{Tiling, Follows, startsOn}
 use Rattle.image.proofs.Tiles.{starts-done, follows}
 use Rattle.remus.specs.Clear.{pairsFrom}
 use Rattle.remus.specs.Undo.{below, slotBack, slotsBack}

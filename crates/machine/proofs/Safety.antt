@@ -12,7 +12,7 @@ use Rattle.load.specs.declared.Refusal.{Refusal}
 use Rattle.load.proofs.Exact.{exact}
 use Rattle.image.specs.Memory.{mostDepth, mostWords, mainAt, used}
 use Rattle.image.specs.Sound.{Tiles, Sound}
-use Rattle.image.specs.Walk.{Tiling}
+use Rattle.image.specs.Cut.{Tiling}
 use Rattle.image.proofs.Exact.{exact-soundness}
 use Rattle.image.proofs.Exact.Tiling.{tiles! }
 use Rattle.image.proofs.Memory.Tiles.{in-to, tiles-kept}

@@ -47,7 +47,7 @@ pub record Workable (m : List ℕ) : Type 0 where
   pub past : mainAt ≤ used m
   pub clock : turns m < 4294967295
 
--- q says where the commands of its reactor begin
+-- q says where the commands of its reactor begin; the bound is above 2^32 entries of 510 commands of 8 bytes
 pub record Located (p : List ℕ) (q : Position) : Type 0 where
   pub is : q .at ≡ commandsAt p (q .reactor)
   pub small : q .at < 20000000000000

@@ -7,7 +7,7 @@ use lib.ListN.{length}
 use Rattle.load.specs.declared.Refusal.{Refusal}
 use Rattle.image.specs.Memory.{mostWords, mainAt, used}
 use Rattle.image.specs.Passes.{sound, soundOf}
-use Rattle.image.specs.Walk.{Tiling}
+use Rattle.image.specs.Cut.{Tiling}
 use Rattle.remus.specs.Run.{ran, stopped, mainRun}
 use Rattle.remus.specs.Undo.{undoOf}
 use Rattle.remus.specs.Turn.{Turn, Asked, fine, asked}

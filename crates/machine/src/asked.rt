@@ -1,4 +1,4 @@
-// 10 to 13, which concern what one turn brings.
+// 10 to 13: what one turn brings, and the clock.
 use crate::Brought;
 use crate::command::reading_at;
 use image::turns;

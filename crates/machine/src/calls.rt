@@ -23,7 +23,7 @@ ghost use Rattle.program.specs.Bytes as B;
 ghost use Rattle.program.specs.Location as L;
 ghost use Rattle.load.specs.declared.Checked.the-variants.{Accepted};
 ghost use Rattle.image.specs.Memory as M;
-ghost use Rattle.image.specs.Walk.{Tiling};
+ghost use Rattle.image.specs.Cut.{Tiling};
 ghost use Rattle.remus.specs.Clear as E;
 ghost use Rattle.remus.specs.Run as R;
 ghost use Rattle.remus.specs.Undo as U;

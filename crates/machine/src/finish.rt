@@ -18,7 +18,7 @@ ghost use lib.ListN.{length, set};
 ghost use Rattle.program.specs.Bytes as B;
 ghost use Rattle.program.specs.Location as L;
 ghost use Rattle.image.specs.Memory as M;
-ghost use Rattle.image.specs.Walk.{Tiling};
+ghost use Rattle.image.specs.Cut.{Tiling};
 ghost use Rattle.remus.specs.Clear as E;
 
 // The words after a completed turn.

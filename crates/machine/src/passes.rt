@@ -9,7 +9,7 @@ ghost use Prim.Native.Nat.{_+_, _≤_};
 ghost use lib.ListN.{length};
 ghost use Rattle.image.specs.Memory as M;
 ghost use Rattle.image.specs.Passes as P;
-ghost use Rattle.image.specs.Walk.{Tiling};
+ghost use Rattle.image.specs.Cut.{Tiling};
 ghost use Rattle.machine.specs.Act.{eachOf};
 
 // The deployment at o.

@@ -13,7 +13,7 @@ ghost use Prim.Native.Nat.{_-_};
 ghost use lib.ListN.{length, replicate};
 ghost use Rattle.value.specs.Test.{_=?_};
 ghost use Rattle.image.specs.Memory as M;
-ghost use Rattle.image.specs.Walk.{Tiling};
+ghost use Rattle.image.specs.Cut.{Tiling};
 ghost use Rattle.remus.specs.Undo as U;
 
 const MAIN_SLOTS: usize = 5;

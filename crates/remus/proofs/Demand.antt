@@ -48,6 +48,7 @@ module _ (p : List ℕ) (rules : Rules p) (w : List ℕ) (few : length w ≤ mos
   pub inside : Inside p w t
   inside =
       record {
+        tiled = Core.tiled p rules w few image t;
         carried = Core.carried p rules w few image t;
         values = Core.values p rules w few image t;
         written = Core.written p rules w few image t;

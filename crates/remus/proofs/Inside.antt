@@ -11,6 +11,7 @@ use Rattle.program.specs.Location.{sinks, sinkLoc, sizeOf}
 use Rattle.load.specs.declared.Refusal.{Refusal}
 use Rattle.load.specs.declared.Refusal.the-variants.{NoRoom, TooDeep}
 use Rattle.image.specs.Memory.{mainAt, used, turns}
+use Rattle.image.specs.Sound.{Tiles}
 use Rattle.image.specs.Whole.{Whole}
 use Rattle.remus.specs.Run.{ran, stopped, mainRun}
 use Rattle.remus.specs.Turn.{fine, askedOf}
@@ -31,6 +32,7 @@ module _ (p w : List ℕ) (t : Input) where
         → length w - used m < sizeOf p q → Stop s (NoRoom q)
 
   pub record Inside : Type 0 where
+    pub tiled : (s : State) (m : List ℕ) (o : ℕ) (c : Cmd) → Point p w t s m o c → Tiles p m (used m) mainAt
     pub carried : (s : State) (m : List ℕ) (o : ℕ) (c : Cmd) → Point p w t s m o c → Can p m (s .notes) o c
     pub values : (s : State) (m : List ℕ) (o : ℕ) (c : Cmd) → Point p w t s m o c → ReadsWell p m (s .notes) o (t .readings) c
     -- every sink of main is noted as it leaves

@@ -158,6 +158,7 @@ module _ (p w : List ℕ) (t : Input) (yes-program : IsAccepted p) (few : length
     turn-claim =
         record {
           result = result;
+          tiled = inside .tiled;
           carried = inside .carried;
           values = inside .values;
           ends = ends;

@@ -1,5 +1,5 @@
--- The starred bench cases of 01, and the toggle's, as one table with a single claim: what each row asks, the definitions answer as
--- the row says.
+-- All starred bench cases of 01, the toggle's and a few others, as one table with a single claim: what each row asks, the definitions
+-- answer as the row says.
 use Prim.Native.Nat.{ℕ, zero, suc}
 use mathlib.Core.Path.{_≡_, refl}
 use mathlib.Core.List.{List, [], _∷_, _++_}

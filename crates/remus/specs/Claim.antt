@@ -13,7 +13,7 @@ use Rattle.load.specs.Check.{IsAccepted}
 use Rattle.load.specs.declared.Refusal.{Refusal}
 use Rattle.load.specs.declared.Refusal.the-variants.{NoRoom, TooDeep}
 use Rattle.image.specs.Memory.{mostTurns, mainAt, word, used, turns, mark, content}
-use Rattle.image.specs.Sound.{Sound}
+use Rattle.image.specs.Sound.{Tiles, Sound}
 use Rattle.image.specs.Start.{startOf, startedOf}
 use Rattle.image.specs.Start as Start
 use Rattle.remus.specs.Turn.{Turn, turnOf, readingAt, fine, askedOf}
@@ -73,7 +73,9 @@ module _ (p w : List ℕ) (t : Input) where
   pub record TurnClaim : Type 0 where
     -- "Every turn's number, place, memory and sink words are those of this walk." So the turn ends.
     pub result : Walked p w t (turnOf p w (t .readings) (t .sinkSpace))
-    -- at every point the next command can be carried out
+    -- at every point deployments tile the words from 2 to u−1, as in a sound image
+    pub tiled : (s : State) (m : List ℕ) (o : ℕ) (c : Cmd) → Point s m o c → Tiles p m (used m) mainAt
+    -- and the next command can be carried out
     pub carried : (s : State) (m : List ℕ) (o : ℕ) (c : Cmd) → Point s m o c → Can p m (s .notes) o c
     -- every value that it reads was made or supplied earlier in the turn and is of its kind
     pub values : (s : State) (m : List ℕ) (o : ℕ) (c : Cmd) → Point s m o c → ReadsWell p m (s .notes) o (t .readings) c
@@ -121,7 +123,7 @@ pub data Grows (p : List ℕ) : List ℕ → List Input → ℕ → Type 0 where
   refused : {m : List ℕ} {t : Input} {ts : List Input} {r : Turn} {v : Refusal} {j : ℕ}
       → Walked p m t r → r .answer ≡ Refused v → Grows p (r .memory) ts j → Grows p m (t ∷ ts) j
 
--- p the program, n the memory's words, ts the list of turns
+-- p the program, n the memory's words, ts the list of turns. `startedOf p n` is what a start leaves in n words.
 pub record Claim (p : List ℕ) (n : ℕ) (ts : List Input) : Type 0 where
   -- "Every turn's number, place, memory and sink words are those of this walk."
   pub results : Walks p (startedOf p n) ts (turnsOf p (startedOf p n) ts)
@@ -144,6 +146,6 @@ DemandOnce = (p w : List ℕ) (t : Input) → IsAccepted p → length w ≤ 1638
 abbrev pub WalkedOnce : Type 0
 WalkedOnce = (p w : List ℕ) (t : Input) (r s : Turn) → Walked p w t r → Walked p w t s → r ≡ s
 
--- A completed turn on a sound image leaves a sound image.
+-- A turn on a sound image, completed or refused, leaves a sound image.
 abbrev pub SoundnessKept : Type 0
 SoundnessKept = (p w : List ℕ) (t : Input) → IsAccepted p → length w ≤ 16384 → Sound p w → Sound p (turnOf p w (t .readings) (t .sinkSpace) .memory)

@@ -56,7 +56,7 @@ module _ (p rd : List ℕ) (h : ℕ) (m : List ℕ) (o i : ℕ) where
   abbrev pub room : ℕ → Bool
   room r = sizeOf p r ≤? length m - used m
 
-  -- "1 AllocMono: new deployment of it"
+  -- 1 AllocMono: ".. new deployment of it"
   unfoldable pub allocated : Bool → Bool → ℕ → Eff
   allocated true t x = fail (TooDeep x)
   allocated false false x = fail (NoRoom x)

@@ -8,11 +8,11 @@ use mathlib.Core.List.{List, _∷_}
 use lib.ListN.{length}
 use Rattle.value.specs.Value.{blank, isBlank, deploymentMark}
 use Rattle.value.specs.Primitive.{table, operands}
-use Rattle.program.specs.Bytes.{globalKind, shapeOf, commandsIn}
+use Rattle.program.specs.Bytes.{reactors, globalKind, shapeOf, commandsIn}
 use Rattle.program.specs.Command.{Cmd, cmdOf, allocMono, makePoly, constant, global, supply, react, consume, sink, allocPoly, primitive, none}
 use Rattle.program.specs.Location.{sources, sinks, sinkLoc, sizeOf, cmdAt, shapeThere}
 use Rattle.program.specs.Kind.{kindOf, OfKind}
-use Rattle.image.specs.Memory.{reactor, mark, content, valueAt}
+use Rattle.image.specs.Memory.{used, reactor, mark, content, valueAt, sizeAt}
 use Rattle.image.specs.Sound.{Deployed, OnChain, PointSlot}
 use Rattle.remus.specs.Exec.{globalValue, there, ready}
 use Rattle.remus.specs.Walk.{Note, location, run, Frame, State, go, step}
@@ -32,15 +32,21 @@ pub record Before (p : List ℕ) (s : State) (m : List ℕ) (o : ℕ) (c : Cmd) 
   pub is : cmdOf p (reactor (s .words) o) index ≡ c
   pub wiring : ready p (s .words) o index ≡ m
 
+-- d is "a deployment within words 2 to u−1"
+pub record Within (p m : List ℕ) (d : ℕ) : Type 0 where
+  pub deployed : Deployed p m d
+  pub legal : reactor m d < reactors p
+  pub inside : d + sizeAt p m d ≤ used m
+
 -- At a point: m the words, ns the notes, o the topmost deployment.
 module _ (p m : List ℕ) (ns : List Note) (o : ℕ) where
   -- "a deployment operand is a noted AllocPoly left blank, or a deployment within words 2 to u−1, of the AllocMono's reactor or the
   -- branch point's shape"
   pub data Operand (b : ℕ) : Type 0 where
     left-blank : (a c : ℕ) → cmdAt p (reactor m o) b ≡ allocPoly a c → location o b ∈ ns → valueAt p m o b ≡ blank → Operand b
-    of-mono : (x : ℕ) → cmdAt p (reactor m o) b ≡ allocMono x → mark p m o b ≡ deploymentMark → Deployed p m (content p m o b)
+    of-mono : (x : ℕ) → cmdAt p (reactor m o) b ≡ allocMono x → mark p m o b ≡ deploymentMark → Within p m (content p m o b)
         → reactor m (content p m o b) ≡ x → Operand b
-    of-point : (a c : ℕ) → cmdAt p (reactor m o) b ≡ allocPoly a c → mark p m o b ≡ deploymentMark → Deployed p m (content p m o b)
+    of-point : (a c : ℕ) → cmdAt p (reactor m o) b ≡ allocPoly a c → mark p m o b ≡ deploymentMark → Within p m (content p m o b)
         → shapeOf p (reactor m (content p m o b)) ≡ shapeThere p (reactor m o) c → Operand b
 
   -- "Where there is a deployment": P of it

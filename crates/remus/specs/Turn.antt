@@ -45,7 +45,7 @@ readingAt rd k = value (word rd (2 * k)) (word rd (2 * k + 1))
 unfoldable pub badReading : List ℕ → List ℕ → ℕ
 badReading p rd = sweep (λ k. legal p (globalKind p (k + 1)) (readingAt rd k)) 0 (globals p)
 
--- 10 to 13, which concern what one turn brings
+-- 10 to 13: what one turn brings, and the clock
 pub data Asked : Type 0 where
   fine : Asked
   asked : Refusal → Asked

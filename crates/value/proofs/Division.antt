@@ -1,5 +1,5 @@
--- Quotient and remainder make up the dividend, and the remainder is smaller than the divisor. 01: "The quotient is cut toward
--- zero; the remainder has the dividend's sign." Assumes nothing.
+-- Quotient and remainder make up the dividend; the remainder is smaller than the divisor and has the dividend's sign, or is 0.
+-- The three fix both numbers. 01: "The quotient is cut toward zero; the remainder has the dividend's sign." Assumes nothing.
 use Prim.Native.Nat.{ℕ, zero, suc, _+_, _*_, _/_, _%_, _<_}
 use native.Mathlib.Nat.{div-add-mod', mod-lt, zero-mul}
 use mathlib.Core.Path.{_≡_, refl, sym, ap, _∙_}
@@ -39,3 +39,13 @@ abs-neg (suc n) = refl
 pub remainder-small : (x y : ℤ) → 0 < natAbs y → natAbs (remZ x y) < natAbs y
 remainder-small (pos a) y h = mod-lt a h
 remainder-small (negsuc a) y h = rw (abs-neg (suc a % natAbs y)) (mod-lt (suc a) h)
+
+-- n with the sign of x
+abbrev pub signedAs : ℤ → ℕ → ℤ
+signedAs (pos a) n = pos n
+signedAs (negsuc a) n = negℤ (pos n)
+
+-- r is of x's sign, or 0
+pub remainder-sign : (x y : ℤ) → remZ x y ≡ signedAs x (natAbs (remZ x y))
+remainder-sign (pos a) y = refl
+remainder-sign (negsuc a) y = rw (abs-neg (suc a % natAbs y))

@@ -1,5 +1,5 @@
 -- The starred bench cases of 01 that are about primitives, as one table with one claim: each row's primitive of its operands
--- is its answer.
+-- is its answer. The table of all starred cases is in crate remus.
 use Prim.Native.Nat.{ℕ}
 use mathlib.Core.Bool.{Bool, true, _&&_}
 use mathlib.Core.List.{List, [], _∷_}

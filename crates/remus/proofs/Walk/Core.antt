@@ -15,7 +15,7 @@ use Rattle.load.specs.Rules.{Rules}
 use Rattle.load.specs.declared.Refusal.{Refusal}
 use Rattle.load.specs.declared.Refusal.the-variants.{NoRoom, TooDeep}
 use Rattle.image.specs.Memory.{mostDepth, mainAt, used, turns, reactor}
-use Rattle.image.specs.Sound.{Sound}
+use Rattle.image.specs.Sound.{Tiles, Sound}
 use Rattle.image.specs.Whole.{Whole}
 use Rattle.remus.specs.Run.{Ran, ran, stopped, mainRun}
 use Rattle.remus.specs.Turn.{fine, askedOf}
@@ -80,6 +80,9 @@ module _ (p : List ℕ) (rules : Rules p) (w : List ℕ) (few : length w ≤ 163
       let r = ready-kept p known v (b .goes-on) in
       subst (λ (x : List ℕ). At x o c (s .notes)) (b .wiring)
       (record { index = b .index; lower = b .lower; inv = r .inv; less = rw (r .same) (b .goes-on); is = rw (r .same) (b .is) })
+
+  pub tiled : (s : State) (m : List ℕ) (o : ℕ) (c : Cmd) → Point p w t s m o c → Tiles p m (used m) mainAt
+  tiled s m o c q = at s m o c q .inv .story .good .tiles
 
   pub carried : (s : State) (m : List ℕ) (o : ℕ) (c : Cmd) → Point p w t s m o c → Can p m (s .notes) o c
   carried s m o c q = let a = at s m o c q in can-here p known (a .inv) (a .less) c (a .is)

@@ -16,9 +16,10 @@ use Rattle.load.proofs.Exact.Static.{ValueBefore, DeploymentBefore, mono, poly}
 use Rattle.load.proofs.Exact.Places.{cmd-there}
 use Rattle.image.specs.Memory.{reactor, mark, content, valueAt}
 use Rattle.image.specs.Sound.{Deployed, MonoSlot}
+use Rattle.image.proofs.Memory.Tiles.{in-fits, in-reactor}
 use Rattle.remus.specs.Exec.{there}
 use Rattle.remus.specs.Walk.{Note, location, Frame}
-use Rattle.remus.specs.Point.{_∈_, Operand, left-blank, of-mono, of-point, Can, Reads, supplied, sunk, operator, taken, operand-1, operand-2, operand-3, ReadsWell}
+use Rattle.remus.specs.Point.{_∈_, Within, Operand, left-blank, of-mono, of-point, Can, Reads, supplied, sunk, operator, taken, operand-1, operand-2, operand-3, ReadsWell}
 use Rattle.remus.proofs.Walk.Facts.{Facts}
 use Rattle.remus.proofs.Walk.Story.{own, cmd, Chosen, Done}
 use Rattle.remus.proofs.Walk.Pile.{frame, state, Entered, Inv}
@@ -38,10 +39,13 @@ module _ (p : List ℕ) (u : Facts p) {w m : List ℕ} {ns : List Note} {o i : �
   command-at : (j : ℕ) {c : Cmd} → j < i → cmd p m o j ≡ c → cmdAt p (reactor m o) (own p m o j) ≡ c
   command-at j l e = cmd-there p (reactor m o) j (omega arith) ∙ e
 
+  within : {d : ℕ} → Deployed p m d → Within p m d
+  within t = record { deployed = t; legal = in-reactor p (v .story .good .tiles) t; inside = in-fits p (v .story .good .tiles) t }
+
   operand : (k b : ℕ) → DeploymentBefore p (reactor m o) i k b → Operand p m ns o b
   operand k b (mono j x l e q z) =
       let d : MonoSlot p m o (own p m o j) x = rw q at (v .story .done o j (behind-less p v j l)) in
-      rw e (of-mono x (command-at j l q) (d .marked) (d .child) (d .its))
+      rw e (of-mono x (command-at j l q) (d .marked) (within (d .child)) (d .its))
   operand k b (poly j a y l e q z) = rw e (by (v .story .polys o j a y t₀ (omega arith) q))
     where
       by : Chosen p m o (own p m o j) y → Operand p m ns o (own p m o j)
@@ -50,7 +54,7 @@ module _ (p : List ℕ) (u : Facts p) {w m : List ℕ} {ns : List Note} {o i : �
           left-blank a y (command-at j l q) d f
       by (inr f) =
           let t = target-here p u v h k (own p m o j) (poly j a y l refl q z) (f .0) in
-          of-point a y (command-at j l q) (f .0) (t .deployed) (t .shape ∙ sym z)
+          of-point a y (command-at j l q) (f .0) (within (t .deployed)) (t .shape ∙ sym z)
 
   pub can-here : (c : Cmd) → cmd p m o i ≡ c → Can p m ns o c
   unfolding sources sinks

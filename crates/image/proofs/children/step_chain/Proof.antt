@@ -2,7 +2,7 @@ use Prim.Native.Nat.{_-_}
 use Rattle.image.proofs.Chains.{members-end, members-next, members-out}
 use Rattle.image.proofs.Lists.{over-done, over-next}
 use Rattle.image.specs.Passes.{membersFrom, over}
-use Rattle.image.specs.Walk.{step}
+use Rattle.image.specs.Cut.{step}
 use Rattle.program.specs.Bytes.{reactors}
 use borrow.Author.Needs.{needs}
 use lib.ListN.{length}

@@ -1,8 +1,8 @@
 use Prim.Native.Nat.{_-_}
 use Rattle.image.proofs.Chains.{children-done, children-next}
-use Rattle.image.proofs.Walks.{by-slot, children-first}
+use Rattle.image.proofs.Cuts.{by-slot, children-first}
 use Rattle.image.specs.Passes.{childrenFrom, childrenOf, namedBy, over}
-use Rattle.image.specs.Walk.{namedAt, step}
+use Rattle.image.specs.Cut.{namedAt, step}
 use Rattle.program.specs.Bytes.{declared}
 use Rattle.value.proofs.Below.{at}
 use borrow.Author.Needs.{needs}

@@ -1,4 +1,4 @@
-use Rattle.image.proofs.Walks.{step-mono, step-none, step-point}
+use Rattle.image.proofs.Cuts.{step-mono, step-none, step-point}
 use borrow.Author.Needs.{needs}
 use Rattle.image.proofs.children.step_slot.Statement.{statement}
 use Rattle.image.proofs.children.step_slot.Tie as tie

@@ -1,5 +1,5 @@
 use Rattle.image.specs.Memory.{place}
-use Rattle.image.specs.Walk.{placed}
+use Rattle.image.specs.Cut.{placed}
 use Rattle.value.proofs.Tests.{le!, le×, no, yes}
 use borrow.Author.Needs.{needs}
 use mathlib.Core.Path.{refl}

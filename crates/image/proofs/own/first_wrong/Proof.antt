@@ -1,8 +1,8 @@
 use Prim.Native.Nat.{_-_}
-use Rattle.image.proofs.Walks.{by-slot}
+use Rattle.image.proofs.Cuts.{by-slot}
 use Rattle.image.specs.Memory.{reactor}
 use Rattle.image.specs.Passes.{slotSound}
-use Rattle.image.specs.Walk.{commandSound}
+use Rattle.image.specs.Cut.{commandSound}
 use Rattle.program.specs.Bytes.{declared}
 use Rattle.value.proofs.Below.{at}
 use Rattle.value.proofs.Sweeps.{sweep-done, sweep-found, sweep-next}

@@ -1,6 +1,6 @@
 use Rattle.image.proofs.Ands.{and-goes, and-stops}
 use Rattle.image.specs.Passes.{ownSound}
-use Rattle.image.specs.Walk.{commandSound}
+use Rattle.image.specs.Cut.{commandSound}
 use Rattle.program.specs.Bytes.{declared}
 use Rattle.value.proofs.Tests.{eq!, eq×, passed, refused, same-eq}
 use borrow.Author.Needs.{needs}

@@ -2,7 +2,7 @@ use Prim.Native.Nat.{_-_}
 use Rattle.image.proofs.Lists.{lowest-done, lowest-found, lowest-next}
 use Rattle.image.proofs.Tiles.{starts-done}
 use Rattle.image.specs.Passes.{fits, lowest}
-use Rattle.image.specs.Walk.{Tiling, startsOn}
+use Rattle.image.specs.Cut.{Tiling, startsOn}
 use Rattle.value.proofs.Tests.{passed, refused}
 use denote.Ref.{now}
 use mathlib.Core.Path.{_∙_, _≡_, refl}

@@ -1,4 +1,4 @@
-use Rattle.image.proofs.Walks.{pass-run}
+use Rattle.image.proofs.Cuts.{pass-run}
 use borrow.Author.Needs.{needs}
 use Rattle.image.proofs.passes.run_pass.Statement.{statement}
 use Rattle.image.proofs.passes.run_pass.Tie as tie

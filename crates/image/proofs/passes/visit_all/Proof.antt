@@ -2,7 +2,7 @@ use Prim.Native.Nat.{_-_}
 use Rattle.image.proofs.Lists.{over-done, over-next}
 use Rattle.image.proofs.Tiles.{starts-done}
 use Rattle.image.specs.Passes.{over, visit}
-use Rattle.image.specs.Walk.{Tiling, startsOn}
+use Rattle.image.specs.Cut.{Tiling, startsOn}
 use denote.Ref.{now}
 use lib.ListN.{length}
 use mathlib.Core.Path.{_∙_, _≡_, refl}

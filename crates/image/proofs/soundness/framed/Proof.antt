@@ -1,5 +1,5 @@
 use Rattle.image.proofs.Ands.{and-goes, and-stops}
-use Rattle.image.specs.Walk.{framedOf}
+use Rattle.image.specs.Cut.{framedOf}
 use Rattle.value.proofs.Tests.{le!, le×, passed, refused, same-eq}
 use borrow.Author.Needs.{needs}
 use mathlib.Core.Path.{refl}

@@ -1,6 +1,6 @@
 use Rattle.image.proofs.Tiles.{size-least}
 use Rattle.image.specs.Memory.{zeroAt}
-use Rattle.image.specs.Walk.{freshOf}
+use Rattle.image.specs.Cut.{freshOf}
 use Rattle.program.specs.Bytes.{mainOf}
 use Rattle.program.specs.Location.{sizeOf}
 use Rattle.value.proofs.Tests.{same-and3, same-eq}

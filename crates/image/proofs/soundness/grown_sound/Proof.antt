@@ -1,5 +1,5 @@
 use Rattle.image.proofs.Ands.{and-goes, and-stops}
-use Rattle.image.specs.Walk.{grownOf}
+use Rattle.image.specs.Cut.{grownOf}
 use Rattle.value.proofs.Tests.{eq!, eq×, same-eq}
 use borrow.Author.Needs.{needs}
 use mathlib.Core.Path.{_∙_, refl}

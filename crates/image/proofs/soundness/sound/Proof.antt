@@ -1,6 +1,6 @@
-use Rattle.image.proofs.Walks.{framed-tiling, fresh-verdict, grown-verdict, unframed}
+use Rattle.image.proofs.Cuts.{framed-tiling, fresh-verdict, grown-verdict, unframed}
 use Rattle.image.specs.Answer.{verdict}
-use Rattle.image.specs.Walk.{grownOf}
+use Rattle.image.specs.Cut.{grownOf}
 use Rattle.value.proofs.Tests.{passed, refused}
 use borrow.Author.Needs.{needs}
 use denote.Ref.{now}

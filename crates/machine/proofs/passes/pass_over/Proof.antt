@@ -1,7 +1,7 @@
 use Prim.Native.Nat.{_-_}
 use Rattle.image.specs.Memory.{startsBelow}
 use Rattle.image.specs.Passes.{over}
-use Rattle.image.specs.Walk.{Tiling, startsOn}
+use Rattle.image.specs.Cut.{Tiling, startsOn}
 use Rattle.machine.proofs.Clears.{local-each}
 use Rattle.machine.proofs.Passing.{pass-done, pass-inside, pass-next, pass-rises, pass-within}
 use Rattle.machine.specs.Act.{eachOf}

@@ -14,7 +14,7 @@ use Rattle.program.specs.Location.{commandLoc}
 use Rattle.image.specs.Answer.{verdict}
 use Rattle.image.specs.Memory.{mainAt, mostTurns, used, turns, reactor, next, content, zeroAt, startsBelow}
 use Rattle.image.specs.Passes.{Judged, unsound, tableBytes, lowest, over, withEntry, blankTable, visit, tableAfter, fits, membersFrom, namedBy, childrenFrom, childrenOf, lowestUnfit, freshSound, grownSound, byTurns, soundOf, tilesFrom}
-use Rattle.image.specs.Walk.{madeOf, SlotOf, Tiling, framedOf, freshOf, grownOf}
+use Rattle.image.specs.Cut.{madeOf, SlotOf, Tiling, framedOf, freshOf, grownOf}
 use Rattle.image.specs.declared.DSlot.{DSlot}
 use Rattle.image.specs.declared.Pass.{Pass}
 use Rattle.image.specs.declared.Pass.the-variants.{Starts}

@@ -1,4 +1,4 @@
--- What the code of soundness goes by: the definitions of Passes.antt cut as the code is.
+-- Definitions cut as the code is: those of Passes.antt into what each function of soundness answers, and `place` where u fits a word.
 use Prim.Native.Nat.{ℕ, _+_, _-_, _≤_, _<_}
 use mathlib.Core.Path.{_≡_}
 use mathlib.Core.Bool.{Bool, true}
