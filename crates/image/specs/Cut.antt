@@ -11,8 +11,9 @@ use Rattle.program.specs.Location.{commandLoc, sizeOf}
 use Rattle.image.specs.Memory.{mostTurns, mainAt, used, turns, reactor, wired, next, zeroAt, place, startsFrom}
 use Rattle.image.specs.Passes.{name, deepen, tilesFrom, slotSound, namedBy, lowestUnfit}
 use Rattle.image.specs.declared.DSlot.{DSlot}
-use Rattle.image.specs.declared.Pass.{Pass}
 use Rattle.image.specs.declared.Pass.the-variants.{Starts, Names, Depths}
+use Rattle.image.specs.declared.Step.{Step}
+use Rattle.image.specs.declared.Step.the-variants.{Name, Deepen}
 
 -- where u after it fits a word; else nothing is placed
 unfoldable pub placed : List ℕ → List ℕ → ℕ → ℕ → List ℕ
@@ -44,11 +45,10 @@ module _ (p m : List ℕ) where
     pub legal : reactor m a < reactors p
     pub here : startsOn u a ≡ a ∷ startsOn u b
 
--- what a pass does for the child c of o; the first does nothing
-abbrev pub step : Pass → ℕ → List ℕ → ℕ → List ℕ
-step Starts o = λ t c. t
-step Names o = name
-step Depths o = deepen o
+-- what a step does for the child c of o
+abbrev pub step : Step → ℕ → List ℕ → ℕ → List ℕ
+step Name o = name
+step Deepen o = deepen o
 
 module _ (p m : List ℕ) where
   -- whether the slot of D command j of o is right

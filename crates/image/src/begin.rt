@@ -52,7 +52,7 @@ fn start_sized(size: usize, program: &[u8], memory: &mut [u32]) -> Started
 }
 
 // Start, after the check of the program.
-pub fn start_by(checked: Checked, program: &[u8], memory: &mut [u32]) -> Started
+fn start_by(checked: Checked, program: &[u8], memory: &mut [u32]) -> Started
     ensures { λ r. ⌜ N.started r (now (memory .exit)) ≡ S.startBy (now (program .entry)) (now (memory .entry)) checked ⌝ }
 {
     match checked {

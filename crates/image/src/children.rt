@@ -1,6 +1,6 @@
 // The children of a deployment: the deployments that its D slots name. What a pass does for each.
 use crate::DSlot;
-use crate::Pass;
+use crate::Step;
 use crate::commands::position;
 use crate::commands::slot_of;
 use crate::deployment::content;
@@ -46,20 +46,19 @@ fn deepen(table: &mut [u8], o: u32, c: u32)
     put_entry(table, c, d)
 }
 
-// What a pass does for the child c of o; the first does nothing.
-fn step(pass: Pass, table: &mut [u8], o: u32, c: u32)
-    ensures { λ _. ⌜ now (table .exit) ≡ W.step pass o (now (table .entry)) c ⌝ }
+// One step for the child c of o.
+fn step(kind: Step, table: &mut [u8], o: u32, c: u32)
+    ensures { λ _. ⌜ now (table .exit) ≡ W.step kind o (now (table .entry)) c ⌝ }
 {
-    match pass {
-        Pass::Starts => {}
-        Pass::Names => name(table, c),
-        Pass::Depths => deepen(table, o, c),
+    match kind {
+        Step::Name => name(table, c),
+        Step::Deepen => deepen(table, o, c),
     }
 }
 
-// Does it for each deployment on the chain from `head`.
-fn step_chain(pass: Pass, program: &[u8], memory: &[u32], table: &mut [u8], o: u32, head: u32)
-    ensures { λ _. ⌜ now (table .exit) ≡ P.over (W.step pass o) (now (table .entry)) (P.membersFrom (now (program .entry)) (now (memory .entry)) (B.reactors (now (program .entry))) head) ⌝ }
+// A step for each deployment on the chain from `head`.
+fn step_chain(kind: Step, program: &[u8], memory: &[u32], table: &mut [u8], o: u32, head: u32)
+    ensures { λ _. ⌜ now (table .exit) ≡ P.over (W.step kind o) (now (table .entry)) (P.membersFrom (now (program .entry)) (now (memory .entry)) (B.reactors (now (program .entry))) head) ⌝ }
 {
     let mut c = head;
     let mut left = reactors(program);
@@ -67,29 +66,29 @@ fn step_chain(pass: Pass, program: &[u8], memory: &[u32], table: &mut [u8], o: u
         if c < 1 {
             return;
         }
-        step(pass, table, o, c);
+        step(kind, table, o, c);
         c = next(memory, c);
         left = left - 1;
     }
 }
 
-// Does it for each deployment that a D slot of o names.
-fn step_slot(pass: Pass, program: &[u8], memory: &[u32], table: &mut [u8], o: u32, s: DSlot)
-    ensures { λ _. ⌜ now (table .exit) ≡ P.over (W.step pass o) (now (table .entry)) (P.namedBy (now (program .entry)) (now (memory .entry)) o (s .location) (W.madeOf (s .code) (s .x))) ⌝ }
+// A step for each deployment that a D slot of o names.
+fn step_slot(kind: Step, program: &[u8], memory: &[u32], table: &mut [u8], o: u32, s: DSlot)
+    ensures { λ _. ⌜ now (table .exit) ≡ P.over (W.step kind o) (now (table .entry)) (P.namedBy (now (program .entry)) (now (memory .entry)) o (s .location) (W.madeOf (s .code) (s .x))) ⌝ }
 {
     let c = content(program, memory, o, s.location);
     if s.code == Command::ALLOC_MONO {
-        step(pass, table, o, c);
+        step(kind, table, o, c);
         return;
     }
     if s.code == Command::MAKE_POLY {
-        step_chain(pass, program, memory, table, o, c);
+        step_chain(kind, program, memory, table, o, c);
     }
 }
 
-// Does it for each child of o.
+// A step for each child of o.
 pub(crate) fn step_children(
-    pass: Pass,
+    kind: Step,
     program: &[u8],
     places: &[u32],
     memory: &[u32],
@@ -98,7 +97,7 @@ pub(crate) fn step_children(
 )
     requires { ⌜ W.Positions (now program) (now places) ⌝ }
     requires { ⌜ M.reactor (now memory) o < B.reactors (now program) ⌝ }
-    ensures { λ _. ⌜ now (table .exit) ≡ P.over (W.step pass o) (now (table .entry)) (P.childrenOf (now (program .entry)) (now (memory .entry)) o) ⌝ }
+    ensures { λ _. ⌜ now (table .exit) ≡ P.over (W.step kind o) (now (table .entry)) (P.childrenOf (now (program .entry)) (now (memory .entry)) o) ⌝ }
 {
     let at = position(program, places, memory, o);
     let r = reactor(memory, o);
@@ -106,7 +105,7 @@ pub(crate) fn step_children(
     let mut j: u8 = 0;
     while j < n {
         let s = slot_of(program, at, memory, o, j);
-        step_slot(pass, program, memory, table, o, s);
+        step_slot(kind, program, memory, table, o, s);
         j = j + 1;
     }
 }

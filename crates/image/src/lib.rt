@@ -18,7 +18,6 @@ mod words;
 mod zero;
 
 pub use begin::start;
-pub use begin::start_by;
 pub use begin::words_legal;
 pub use deployment::content;
 pub use deployment::mark;
@@ -29,6 +28,9 @@ pub use deployment::store;
 pub use deployment::value_at;
 use load::Refusal;
 pub use soundness::sound;
+pub use words::MAIN_AT;
+pub use words::MOST_DEPTH;
+pub use words::MOST_TURNS;
 pub use words::next;
 pub use words::put;
 pub use words::reactor;
@@ -40,7 +42,6 @@ pub use words::used;
 pub use words::wired;
 pub use words::word;
 pub use zero::wipe;
-pub use zero::zero_at;
 
 // Start's answer: u after it, or why it is refused.
 pub enum Started {
@@ -59,6 +60,12 @@ pub enum Pass {
     Starts,
     Names,
     Depths,
+}
+
+// What the two later ones do for each child: one more name for it, or one deeper than its owner.
+pub enum Step {
+    Name,
+    Deepen,
 }
 
 // A D slot: its location, and its command's code and x.

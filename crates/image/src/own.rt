@@ -15,6 +15,7 @@ use program::declared;
 use program::size_of;
 use program::slot_at;
 use program::sources;
+use value::Value;
 ghost use mathlib.Core.Path.{_≡_};
 ghost use Prim.Native.Nat.{_<_};
 ghost use Rattle.value.specs.Test.{sweep};
@@ -23,12 +24,6 @@ ghost use Rattle.program.specs.Command as C;
 ghost use Rattle.image.specs.Memory as M;
 ghost use Rattle.image.specs.Passes as P;
 ghost use Rattle.image.specs.Cut as W;
-
-// The marks of D slots: "4 deployment index, 5 branch point with the index of its newest
-// deployment".
-const DEPLOYMENT: u32 = 4;
-
-const POINT: u32 = 5;
 
 // Whether all slots but D slots are zero.
 fn clear_at(program: &[u8], memory: &[u32], a: u32) -> bool
@@ -47,7 +42,7 @@ fn clear_at(program: &[u8], memory: &[u32], a: u32) -> bool
 fn mono_sound(program: &[u8], memory: &[u32], table: &[u8], o: u32, l: u16, x: u8) -> bool
     ensures { λ r. ⌜ r ≡ P.slotSound (now (program .entry)) (now (memory .entry)) (now (table .entry)) o l (C.deployment x) ⌝ }
 {
-    if mark(program, memory, o, l) != DEPLOYMENT {
+    if mark(program, memory, o, l) != Value::DEPLOYMENT {
         return false;
     }
     let c = content(program, memory, o, l);
@@ -58,7 +53,7 @@ fn mono_sound(program: &[u8], memory: &[u32], table: &[u8], o: u32, l: u16, x: u
 fn point_sound(program: &[u8], memory: &[u32], table: &[u8], o: u32, l: u16, x: u8) -> bool
     ensures { λ r. ⌜ r ≡ P.slotSound (now (program .entry)) (now (memory .entry)) (now (table .entry)) o l (C.point x) ⌝ }
 {
-    if mark(program, memory, o, l) != POINT {
+    if mark(program, memory, o, l) != Value::POINT {
         return false;
     }
     let head = content(program, memory, o, l);

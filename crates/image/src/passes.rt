@@ -1,6 +1,7 @@
 // The passes of soundness. Each goes over the deployments twice: to change a table for each, and to
 // find the lowest that is unfit then.
 use crate::Pass;
+use crate::Step;
 use crate::children::step_children;
 use crate::own::own_sound;
 use crate::table::TABLE_BYTES;
@@ -25,8 +26,8 @@ fn visit(pass: Pass, program: &[u8], places: &[u32], memory: &[u32], table: &mut
 {
     match pass {
         Pass::Starts => mark_start(table, o),
-        Pass::Names => step_children(pass, program, places, memory, table, o),
-        Pass::Depths => step_children(pass, program, places, memory, table, o),
+        Pass::Names => step_children(Step::Name, program, places, memory, table, o),
+        Pass::Depths => step_children(Step::Deepen, program, places, memory, table, o),
     }
 }
 

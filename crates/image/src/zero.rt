@@ -18,7 +18,7 @@ fn all_zero(words: &[u32]) -> bool
 }
 
 // Whether the n words from `from` on are zero, those past the end not counted.
-pub fn zero_at(memory: &[u32], from: usize, n: usize) -> bool
+pub(crate) fn zero_at(memory: &[u32], from: usize, n: usize) -> bool
     ensures { λ r. ⌜ r ≡ M.zeroAt (now (memory .entry)) from n ⌝ }
 {
     if memory.len() <= from {

@@ -1,11 +1,9 @@
 // The commands that allocate: AllocMono and AllocPoly. 01: "At 65 the turn ends with 15; else, if
 // its size exceeds n less u at that moment, with 14".
-use crate::DEPLOYMENT;
-use crate::MOST_DEPTH;
 use crate::Outcome;
-use crate::POINT;
 use crate::command::give;
 use crate::command::here;
+use image::MOST_DEPTH;
 use image::content;
 use image::mark;
 use image::next;
@@ -67,7 +65,7 @@ fn allocate(program: &[u8], memory: &mut [u32], o: u32, i: u16, x: u8) -> Outcom
         o,
         l,
         Value {
-            mark: DEPLOYMENT,
+            mark: Value::DEPLOYMENT,
             content: u,
         },
     );
@@ -132,7 +130,7 @@ fn branch(program: &[u8], memory: &mut [u32], o: u32, i: u16, q: u32, b: u8) -> 
         o,
         b as u16,
         Value {
-            mark: POINT,
+            mark: Value::POINT,
             content: u,
         },
     );
@@ -142,7 +140,7 @@ fn branch(program: &[u8], memory: &mut [u32], o: u32, i: u16, q: u32, b: u8) -> 
         o,
         l,
         Value {
-            mark: DEPLOYMENT,
+            mark: Value::DEPLOYMENT,
             content: u,
         },
     );
@@ -181,7 +179,7 @@ fn choose(program: &[u8], memory: &mut [u32], h: u8, o: u32, i: u16, q: u32, b: 
         o,
         i,
         Value {
-            mark: DEPLOYMENT,
+            mark: Value::DEPLOYMENT,
             content: d,
         },
     )

@@ -1,6 +1,7 @@
 // 10 to 13: what one turn brings, and the clock.
 use crate::Brought;
 use crate::command::reading_at;
+use image::MOST_TURNS;
 use image::turns;
 use load::Refusal;
 use program::global_kind;
@@ -14,8 +15,6 @@ ghost use Rattle.program.specs.Bytes as B;
 ghost use Rattle.program.specs.Kind as K;
 ghost use Rattle.remus.specs.Turn as T;
 ghost use Rattle.machine.specs.Answer.{broughtAs};
-
-const MOST_TURNS: u32 = 2147483647;
 
 // Whether reading k, from 0, is legal.
 fn reading_legal(program: &[u8], readings: &[u32], k: u8) -> bool

@@ -1,6 +1,5 @@
 // One deployment of before a refused turn, brought back: the heads of its branch points, its other
 // slots zero.
-use crate::POINT;
 use crate::Position;
 use crate::clear::clear_one;
 use crate::command::here;
@@ -53,7 +52,7 @@ fn point_back(program: &[u8], memory: &mut [u32], u: u32, o: u32, l: u16)
         o,
         l,
         Value {
-            mark: POINT,
+            mark: Value::POINT,
             content: c,
         },
     )

@@ -2,13 +2,13 @@
 // in place; where it is refused, the words before it are brought back.
 use crate::Brought;
 use crate::Ended;
-use crate::MAIN_AT;
 use crate::asked::asked;
 use crate::finish::finish;
 use crate::finish::write_sinks;
 use crate::run::run;
 use crate::undo::undo;
 use image::Judged;
+use image::MAIN_AT;
 use image::sound;
 use image::used;
 use image::words_legal;

@@ -1,7 +1,5 @@
 // The commands that allocate nothing, one function each: 01, the command table.
-use crate::DEPLOYMENT;
 use crate::Outcome;
-use crate::POINT;
 use image::content;
 use image::mark;
 use image::reactor;
@@ -53,7 +51,7 @@ pub(crate) fn make_poly(program: &[u8], memory: &mut [u32], o: u32, i: u16, x: u
         o,
         i,
         Value {
-            mark: POINT,
+            mark: Value::POINT,
             content: 0,
         },
     )
@@ -119,7 +117,7 @@ pub(crate) fn global(
 fn there(program: &[u8], memory: &[u32], o: u32, b: u8) -> bool
     ensures { λ r. ⌜ r ≡ X.there (now (program .entry)) (now (memory .entry)) o b ⌝ }
 {
-    mark(program, memory, o, b as u16) == DEPLOYMENT
+    mark(program, memory, o, b as u16) == Value::DEPLOYMENT
 }
 
 // Value a of o to source x of its deployment b.

@@ -1,8 +1,8 @@
 // The end of a completed turn. 01: "At the end main's sinks are written as pairs in order, further
 // sink words keep their content, every slot but D slots is zeroed, and word 1 grows by 1."
 use crate::Each;
-use crate::MAIN_AT;
 use crate::passes::pass_over;
+use image::MAIN_AT;
 use image::put;
 use image::set_turns;
 use image::turns;

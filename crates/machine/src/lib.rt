@@ -21,15 +21,6 @@ pub use image::start;
 use load::Refusal;
 pub use load::check;
 
-// Marks that stand in memory only.
-const DEPLOYMENT: u32 = 4;
-
-const POINT: u32 = 5;
-
-const MAIN_AT: u32 = 2;
-
-const MOST_DEPTH: u8 = 64;
-
 // What a command comes to: the next command follows; first the deployment named runs; or the turn
 // ends.
 pub enum Outcome {

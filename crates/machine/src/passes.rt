@@ -1,8 +1,8 @@
 // A pass over the deployments below u, each changed in its own words.
 use crate::Each;
-use crate::MAIN_AT;
 use crate::back::one_back;
 use crate::clear::clear_one;
+use image::MAIN_AT;
 use image::size_at;
 ghost use mathlib.Core.Path.{_≡_};
 ghost use Prim.Native.Nat.{_+_, _≤_};

@@ -2,10 +2,10 @@
 // command of the outer one; an unwired one runs D first." A run calls itself for the nested one, and
 // 64 less the depth falls.
 use crate::Ended;
-use crate::MOST_DEPTH;
 use crate::Outcome;
 use crate::Position;
 use crate::exec::act;
+use image::MOST_DEPTH;
 use image::reactor;
 use image::wired;
 use load::Refusal;

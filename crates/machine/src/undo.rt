@@ -1,8 +1,8 @@
 // How a refused turn's words are brought back in place, with u as it was. 01: "A refused call leaves
 // memory and sink space as at entry."
 use crate::Each;
-use crate::MAIN_AT;
 use crate::passes::pass_over;
+use image::MAIN_AT;
 use image::set_used;
 use image::set_wired;
 use image::turns;

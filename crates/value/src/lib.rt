@@ -35,6 +35,11 @@ impl Value {
 
     pub const REACTOR: u32 = 3;
 
+    // These two stand in memory alone.
+    pub const DEPLOYMENT: u32 = 4;
+
+    pub const POINT: u32 = 5;
+
     pub fn blank() -> Value
         ensures { λ r. ⌜ r ≡ W.blank ⌝ }
     {

@@ -12,12 +12,12 @@ use Rattle.image.proofs.children.step_chain.Statement.{statement}
 use Rattle.image.proofs.children.step_chain.Tie as tie
 
 abbrev Inv-loop : tie.InvT-loop
-Inv-loop pass program memory table₀ o head c₀ left₀ table c left =
-    (length table ≡ length table₀) × (over (step pass o) table (membersFrom program memory left c) ≡ over (step pass o) table₀
+Inv-loop kind program memory table₀ o head c₀ left₀ table c left =
+    (length table ≡ length table₀) × (over (step kind o) table (membersFrom program memory left c) ≡ over (step kind o) table₀
     (membersFrom program memory (reactors program) head))
 
 abbrev μ-loop : tie.MeasureT-loop
-μ-loop pass program memory table₀ o head c₀ left₀ table c left = left
+μ-loop kind program memory table₀ o head c₀ left₀ table c left = left
 
 loop-holds : tie.Need-loop-holds Inv-loop μ-loop
 loop-holds c = (refl, rw (c .reactors .ensures))

@@ -13,12 +13,12 @@ use Rattle.image.proofs.children.step_children.Statement.{statement}
 use Rattle.image.proofs.children.step_children.Tie as tie
 
 abbrev Inv-loop : tie.InvT-loop
-Inv-loop pass program places memory table₀ o at r n j₀ table j =
+Inv-loop kind program places memory table₀ o at r n j₀ table j =
     (length table ≡ length table₀)
-    × (over (step pass o) table (childrenFrom program memory (n - j) j o) ≡ over (step pass o) table₀ (childrenOf program memory o))
+    × (over (step kind o) table (childrenFrom program memory (n - j) j o) ≡ over (step kind o) table₀ (childrenOf program memory o))
 
 abbrev μ-loop : tie.MeasureT-loop
-μ-loop pass program places memory table₀ o at r n j₀ table j = n - j
+μ-loop kind program places memory table₀ o at r n j₀ table j = n - j
 
 loop-holds : tie.Need-loop-holds Inv-loop μ-loop
 loop-holds c = (refl, children-first _ _ _ _ _ _ (c .declared .ensures ∙ ap (declared _) (c .before .reactor .ensures)))
@@ -33,7 +33,7 @@ loop-again c =
       cc,
       children-next _ _ _ _ _ _ _ _ (c .before .before .before .before .before .loop-test .taken)
           (c .before .before .step-slot .ensures
-          ∙ ap (over (step (start .args .pass) (start .args .o)) (c .before .before .before .before .before .before .loop .table))
+          ∙ ap (over (step (start .args .kind) (start .args .o)) (c .before .before .before .before .before .before .loop .table))
           (by-slot (namedBy (now (start .args .program)) (now (start .args .memory)) (start .args .o)) _ _ _ _ _
           (c .before .before .before .before .slot-of .ensures)))
           ∙ c .before .before .before .before .before .before .loop .inv .1,

@@ -10,16 +10,12 @@ returns c = rw (c .before .before .before .before .enum-told .given .1) (c .befo
 returns-2 : tie.Need-returns-2
 unfolding visit
 returns-2 c =
-    let e = c .before .before .before .before .enum-told2 .given .1 in
-    let h = c .before .before .step-children .ensures in
-    rw e (rw e at h)
+    rw (c .before .before .before .before .enum-told2 .given .1) (c .before .before .step-children .ensures)
 
 returns-3 : tie.Need-returns-3
 unfolding visit
 returns-3 c =
-    let e = c .before .before .before .before .enum-told3 .given .1 in
-    let h = c .before .before .step-children2 .ensures in
-    rw e (rw e at h)
+    rw (c .before .before .before .before .enum-told3 .given .1) (c .before .before .step-children2 .ensures)
 
 pub visit-spec : {M : Type 1} → statement M
 visit-spec =
