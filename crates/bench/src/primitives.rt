@@ -11,8 +11,6 @@ const TIMES: u8 = 2;
 
 const DIVIDE: u8 = 3;
 
-const REMAINDER: u8 = 4;
-
 const LESS: u8 = 5;
 
 const EQUAL: u8 = 6;
@@ -70,9 +68,7 @@ fn choice(t: Value, a: Value, b: Value) {
 
 fn starred() {
     numbers(LOWEST, DIVIDE, b" / ", -1);
-    numbers(LOWEST, REMAINDER, b" rem ", -1);
     numbers(-7, DIVIDE, b" / ", 2);
-    numbers(-7, REMAINDER, b" rem ", 2);
     infix(Value::blank(), LESS, b" < ", Value::number(5));
 }
 
@@ -84,9 +80,7 @@ fn bounds() {
     numbers(65536, TIMES, b" * ", 32768);
     numbers(65536, TIMES, b" * ", -32768);
     numbers(7, DIVIDE, b" / ", 0);
-    numbers(7, REMAINDER, b" rem ", 0);
     numbers(7, DIVIDE, b" / ", -2);
-    numbers(7, REMAINDER, b" rem ", -2);
     numbers(-1, LESS, b" < ", 0);
     numbers(5, EQUAL, b" == ", 5);
 }

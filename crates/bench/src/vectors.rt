@@ -7,9 +7,12 @@ use crate::text::put_decimal;
 use crate::trial::Kind;
 use crate::trial::agrees;
 
+// The numbers are 0 to 32.
+const NUMBERS: usize = 33;
+
 // How many vectors agree, for each number, and how many differ.
 struct Tally {
-    agree: [u32; 16],
+    agree: [u32; NUMBERS],
     differ: u32,
 }
 
@@ -28,7 +31,7 @@ impl Tally {
         let i = number as usize;
         if !agrees {
             tally.differ = tally.differ % 1000000 + 1;
-        } else if i < 16 {
+        } else if i < NUMBERS {
             tally.agree[i] = tally.agree[i] % 1000000 + 1;
         }
         tally
@@ -41,7 +44,7 @@ impl Progress {
             kind,
             line: Line::first(),
             tally: Tally {
-                agree: [0; 16],
+                agree: [0; NUMBERS],
                 differ: 0,
             },
             more: true,
@@ -108,7 +111,7 @@ fn print_row(label: &[u8], n: u32) {
     put(b"\n");
 }
 
-fn print_checks(agree: [u32; 16]) {
+fn print_checks(agree: [u32; NUMBERS]) {
     print_row(b"check 0: ", agree[0]);
     print_row(b"check 1: ", agree[1]);
     print_row(b"check 2: ", agree[2]);
@@ -117,21 +120,22 @@ fn print_checks(agree: [u32; 16]) {
     print_row(b"check 5: ", agree[5]);
     print_row(b"check 6: ", agree[6]);
     print_row(b"check 7: ", agree[7]);
+    print_row(b"check 25: ", agree[25]);
 }
 
-fn print_starts(agree: [u32; 16]) {
+fn print_starts(agree: [u32; NUMBERS]) {
     print_row(b"start 0: ", agree[0]);
     print_row(b"start 8: ", agree[8]);
     print_row(b"start 14: ", agree[14]);
 }
 
-fn print_images(agree: [u32; 16]) {
+fn print_images(agree: [u32; NUMBERS]) {
     print_row(b"image sound: ", agree[0]);
     print_row(b"image unsound: ", agree[9]);
 }
 
 // The numbers that say something of memory, readings, sinks or the run.
-fn print_turns_on_memory(agree: [u32; 16]) {
+fn print_turns_on_memory(agree: [u32; NUMBERS]) {
     print_row(b"turn 8: ", agree[8]);
     print_row(b"turn 9: ", agree[9]);
     print_row(b"turn 10: ", agree[10]);
@@ -142,7 +146,7 @@ fn print_turns_on_memory(agree: [u32; 16]) {
     print_row(b"turn 15: ", agree[15]);
 }
 
-fn print_turns(agree: [u32; 16]) {
+fn print_turns(agree: [u32; NUMBERS]) {
     print_row(b"turn 0: ", agree[0]);
     print_row(b"turn 1: ", agree[1]);
     print_row(b"turn 2: ", agree[2]);

@@ -117,7 +117,8 @@ module _ (p : List ℕ) (r : ℕ) (s : Scan) (c : Command) where
   not-refused d e =
       let a = needed _ 3 _ (omega arith) e in
       let b = needed _ 3 _ (omega arith) (a .1) in
-      let f = needed _ 4 _ (omega arith) (b .1) in
+      let w = needed _ 25 _ (omega arith) (b .1) in
+      let f = needed _ 4 _ (omega arith) (w .1) in
       let g = needed _ 5 _ (omega arith) (f .1) in
       record { formed = b .0; located = f .0; agreed = g .0; ordered = g .1 }
 

@@ -31,7 +31,8 @@ nest =
     ∷ command 2 0 0 0 0  -- 0 a branch point of shape 0
     ∷ command 3 2 0 0 0 ∷ command 9 0 1 0 0 ∷ command 6 0 0 2 0 ∷ command 7 0 0 2 0 ∷ command 8 0 4 0 0 ∷ [])
 
--- "Toggle program: plus and minus (reactors 0 and 1, size 13), main of size 39 chooses minus on odd time."
+-- "Toggle program: plus and minus (reactors 0 and 1, size 13), main of size 39 chooses minus on odd time." Since 02 (x) it tells
+-- odd from even by times and divide.
 abbrev pub toggle : List ℕ
 toggle =
     joined (
@@ -42,11 +43,15 @@ toggle =
     ∷ command 10 1 0 1 0 ∷ command 8 0 2 0 0  -- minus
     ∷ command 2 0 0 0 0  -- 0 a branch point
     ∷ command 4 0 0 0 0 ∷ command 4 1 0 0 0 ∷ command 4 2 0 0 0  -- 1 the time, 2 and 3 the readings
-    ∷ command 3 0 0 0 2 ∷ command 3 0 0 0 1  -- 4 two, 5 one
-    ∷ command 10 4 1 4 0 ∷ command 10 6 6 5 0  -- 6 the time's remainder by two, 7 whether it is one
-    ∷ command 3 2 0 0 0 ∷ command 3 2 0 0 1 ∷ command 10 11 7 9 8  -- 8 plus, 9 minus, 10 the operator
+    ∷ command 3 0 0 0 2 ∷ command 10 3 1 4 0 ∷ command 10 2 5 4 0  -- 4 two, 5 half the time, 6 twice that
+    ∷ command 10 6 6 1 0  -- 7 whether it is the time, so that it is even
+    ∷ command 3 2 0 0 0 ∷ command 3 2 0 0 1 ∷ command 10 11 7 8 9  -- 8 plus, 9 minus, 10 the operator
     ∷ command 9 0 10 0 0 ∷ command 5 0 2 11 0 ∷ command 5 1 3 11 0  -- 11 the deployment, supplied
     ∷ command 6 0 0 11 0 ∷ command 7 0 0 11 0 ∷ command 8 0 15 0 0 ∷ [])
+
+-- the toggle with a remainder where it divides, as a program in stock may have it: 02 (x)
+abbrev pub stocked : List ℕ
+stocked = set toggle 127 4
 
 -- a program, and the number and place that its check gives
 pub record Case : Type 0 where
@@ -64,6 +69,9 @@ starred =
     ∷ case (set clock 38 1) 4 36  -- "* Last command's a set to 1: 4, 36."
     ∷ case nest 0 17  -- "76 bytes, size 17."
     ∷ case toggle 0 39  -- "main of size 39"
+    ∷ case stocked 25 126  -- refused by name, at the command's byte
+    ∷ case (set stocked 130 1) 3 126  -- with a third operand, which it never took: 3 comes first
+    ∷ case (set stocked 128 29) 25 126  -- with an operand that names no location: 4 comes later
     ∷ []
 
 abbrev pub answers : List Case → List Case

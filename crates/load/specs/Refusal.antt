@@ -2,7 +2,7 @@
 use Prim.Native.Nat.{ℕ}
 use Rattle.value.specs.Test.{pick, _=?_}
 use Rattle.load.specs.declared.Refusal.{Refusal}
-use Rattle.load.specs.declared.Refusal.the-variants.{ProgramLength, TableByte, Command, Operand, PortOrKind, Order, Missing, MemoryLength, UnsoundImage, ReadingsLength, Reading, SinkSpace, Clock, NoRoom, TooDeep}
+use Rattle.load.specs.declared.Refusal.the-variants.{ProgramLength, TableByte, Command, Operand, PortOrKind, Order, Missing, MemoryLength, UnsoundImage, ReadingsLength, Reading, SinkSpace, Clock, NoRoom, TooDeep, Withdrawn}
 
 abbrev pub refusalNumber : Refusal → ℕ
 refusalNumber (ProgramLength q) = 1
@@ -20,6 +20,7 @@ refusalNumber (SinkSpace q) = 12
 refusalNumber Clock = 13
 refusalNumber (NoRoom q) = 14
 refusalNumber (TooDeep q) = 15
+refusalNumber (Withdrawn q) = 25
 
 abbrev pub refusalPlace : Refusal → ℕ
 refusalPlace (ProgramLength q) = q
@@ -37,7 +38,13 @@ refusalPlace (SinkSpace q) = q
 refusalPlace Clock = 0
 refusalPlace (NoRoom q) = q
 refusalPlace (TooDeep q) = q
+refusalPlace (Withdrawn q) = q
 
--- the refusal of a command, by its number from 3 to 6, at byte q
+-- the refusal of a command, by its number, at byte q
 unfoldable pub atCommand : ℕ → ℕ → Refusal
-atCommand n q = pick (n =? 3) (Command q) (pick (n =? 4) (Operand q) (pick (n =? 5) (PortOrKind q) (Order q)))
+atCommand n q =
+    pick (n =? 3) (Command q)
+    (pick (n =? 4) (Operand q)
+    (pick (n =? 5) (PortOrKind q)
+    (pick (n =? 25) (Withdrawn q)
+    (Order q))))

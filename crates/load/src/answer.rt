@@ -25,6 +25,7 @@ impl Refusal {
             Refusal::Clock => 13,
             Refusal::NoRoom(_) => 14,
             Refusal::TooDeep(_) => 15,
+            Refusal::Withdrawn(_) => 25,
         }
     }
 
@@ -47,6 +48,7 @@ impl Refusal {
             Refusal::Clock => 0,
             Refusal::NoRoom(q) => q,
             Refusal::TooDeep(q) => q,
+            Refusal::Withdrawn(q) => q,
         }
     }
 }

@@ -28,7 +28,8 @@ pub struct Scanned {
     pub scan: Scan,
 }
 
-// Why a call is refused: the rows of 01's table in its order, from 1 on, each with its value.
+// Why a call is refused: the rows of 01's table in its order, from 1 on, then those of 02, each with
+// its value.
 pub enum Refusal {
     ProgramLength(usize),
     TableByte(usize),
@@ -45,6 +46,7 @@ pub enum Refusal {
     Clock,
     NoRoom(usize),
     TooDeep(usize),
+    Withdrawn(usize),
 }
 
 // Accepted, with the size of main; or refused.

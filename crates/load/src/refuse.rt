@@ -1,4 +1,4 @@
-// Whether a command is refused: a test for each of 01's numbers 3 to 6, by the command's code.
+// Whether a command is refused: a test for each of the numbers 3 to 6, and 25, by the command's code.
 use crate::Scan;
 use crate::standing::is_ready;
 use program::Command;
@@ -15,6 +15,7 @@ use program::sinks_in;
 use program::source_kind;
 use program::sources_in;
 use value::is_primitive;
+use value::is_withdrawn;
 use value::kinds_fit;
 use value::operands;
 ghost use mathlib.Core.Path.{_≡_};
@@ -68,6 +69,16 @@ pub(crate) fn formed(program: &[u8], c: Command) -> bool
         Command::PRIMITIVE => primitive_formed(program, c),
         _ => false,
     }
+}
+
+// 25: no primitive that is withdrawn.
+pub(crate) fn remaining(c: Command) -> bool
+    ensures { λ r. ⌜ r ≡ S.remaining (C.decode c) ⌝ }
+{
+    if c.code != Command::PRIMITIVE {
+        return true;
+    }
+    !is_withdrawn(c.x)
 }
 
 impl Scan {
@@ -200,7 +211,7 @@ impl Scan {
         }
     }
 
-    // The refusal of a command as the next of reactor r, 3 to 6, or 0.
+    // The refusal of a command as the next of reactor r, 3 to 6 or 25, or 0.
     pub(crate) fn refuse(self, program: &[u8], r: u8, c: Command) -> u8
         ensures { λ n. ⌜ n ≡ S.refusalOf (now (program .entry)) r self c (C.decode c) ⌝ }
     {
@@ -209,6 +220,9 @@ impl Scan {
         }
         if !formed(program, c) {
             return 3;
+        }
+        if !remaining(c) {
+            return 25;
         }
         if !self.located(c) {
             return 4;

@@ -22,7 +22,7 @@ ghost use Rattle.load.specs.Legal.{LegalTables};
 ghost use Rattle.load.specs.Refusal.{atCommand};
 ghost use Rattle.load.specs.declared.Checked.the-variants.{Accepted};
 
-// The refusal of the command at byte `at`, by its number from 3 to 6.
+// The refusal of the command at byte `at`, by its number.
 fn at_command(number: u8, at: usize) -> Refusal
     ensures { λ r. ⌜ r ≡ atCommand number at ⌝ }
 {
@@ -30,6 +30,7 @@ fn at_command(number: u8, at: usize) -> Refusal
         3 => Refusal::Command(at),
         4 => Refusal::Operand(at),
         5 => Refusal::PortOrKind(at),
+        25 => Refusal::Withdrawn(at),
         _ => Refusal::Order(at),
     }
 }

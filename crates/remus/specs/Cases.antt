@@ -9,7 +9,7 @@ use Rattle.value.specs.Test.{pick, _=?_}
 use Rattle.value.specs.Value.{blank, number}
 use Rattle.value.specs.Primitive.{primitive}
 use Rattle.value.specs.declared.Value.{Value}
-use Rattle.load.specs.Cases.{clock, nest, toggle}
+use Rattle.load.specs.Cases.{clock, nest, toggle, stocked}
 use Rattle.load.specs.Check as Check
 use Rattle.image.specs.Memory.{word, used}
 use Rattle.image.specs.Start as Start
@@ -91,10 +91,8 @@ starred =
     ∷ row (turns 2 clock 11 [] (9 ∷ 9 ∷ 9 ∷ []))  -- "* First turn sink: mark 1, content 1; the next, 2."
     ((0 ∷ 11 ∷ 1 ∷ 1 ∷ 1 ∷ 9 ∷ []) ++ (0 ∷ 11 ∷ 2 ∷ 1 ∷ 2 ∷ 9 ∷ []))
     ∷ row (checks (set clock 38 1)) (4 ∷ 36 ∷ [])  -- "* Last command's a set to 1: 4, 36."
-    ∷ row (primitive-of 3 (number (negsuc 2147483647)) (number (negsuc 0))) (0 ∷ 0 ∷ [])  -- "* −2,147,483,648 divided by −1: blank, remainder 0."
-    ∷ row (primitive-of 4 (number (negsuc 2147483647)) (number (negsuc 0))) (int (pos 0))
-    ∷ row (primitive-of 3 (number (negsuc 6)) (number (pos 2))) (int (negsuc 2))  -- "* −7 by 2: −3, remainder −1."
-    ∷ row (primitive-of 4 (number (negsuc 6)) (number (pos 2))) (int (negsuc 0))
+    ∷ row (primitive-of 3 (number (negsuc 2147483647)) (number (negsuc 0))) (0 ∷ 0 ∷ [])  -- "* −2,147,483,648 divided by −1: blank"
+    ∷ row (primitive-of 3 (number (negsuc 6)) (number (pos 2))) (int (negsuc 2))  -- "* −7 by 2: −3"
     ∷ row (primitive-of 5 blank (number (pos 5))) (0 ∷ 0 ∷ [])  -- "* Less of blank and 5: blank."
     ∷ row (checks nest) (0 ∷ 17 ∷ [])  -- "76 bytes, size 17."
     ∷ row (turns 1 nest 1089 [] (9 ∷ 9 ∷ [])) (14 ∷ 0 ∷ 0 ∷ 9 ∷ 9 ∷ [])  -- "First turn: * n 1,089 gives 14, 0;"
@@ -102,6 +100,8 @@ starred =
     ∷ row (walks nest 1090 []) (15 ∷ 0 ∷ [])  -- and so says the walk
     ∷ row (walks toggle 67 (1 ∷ 7 ∷ 1 ∷ 5 ∷ [])) (0 ∷ 54 ∷ [])
     ∷ row (checks toggle) (0 ∷ 39 ∷ [])  -- "main of size 39"
+    ∷ row (checks stocked) (25 ∷ 126 ∷ [])  -- the toggle with a remainder: 02 (x)
+    ∷ row (starts stocked 67) (25 ∷ 126 ∷ [])
     ∷ row (starts toggle 67) (0 ∷ 41 ∷ [])  -- "u is 41"
     ∷ row (turns 3 toggle 67 (1 ∷ 7 ∷ 1 ∷ 5 ∷ []) (9 ∷ 9 ∷ []))  -- "Readings 7 and 5: sinks 2, 12, 2; u is 41, then 54, 67, 67."
     ((0 ∷ 54 ∷ 1 ∷ 1 ∷ 2 ∷ []) ++ ((0 ∷ 67 ∷ 2 ∷ 1 ∷ 12 ∷ []) ++ (0 ∷ 67 ∷ 3 ∷ 1 ∷ 2 ∷ [])))

@@ -1,20 +1,20 @@
 -- Signed integers as the machine has them: bits, read by `toZ` and written by `ofZ`. What is read back, which results fit, and
 -- what the operations of specs/Primitive.antt are where they fit. All signed reasoning of the crate is here. Assumes nothing.
 use Prim.Native.Nat.{ℕ, zero, suc, _+_, _-_, _*_, _/_, _^_, _≤_, _<_}
-use native.Mathlib.Nat.{mul-le-mul, zero-add, lt-of-le-of-lt, div-one, mod-one, div-le-self, div-lt-self}
+use native.Mathlib.Nat.{mul-le-mul, zero-add, div-one, div-le-self, div-lt-self}
 use native.Mathlib.Omega.{arith}
 use mathlib.Core.Path.{_≡_, refl, sym, ap, subst, _∙_}
 use mathlib.Core.Bool.{Bool, true, false, cond}
 use lib.Dec.{T, ltb, eqb}
 use borrow.Author.Tests.{le-ltb, ltb-true, ltb-false, eq-eqb, ne-eqb, eqb-true, eqb-false}
 use lib.IntN.{ℤ, pos, negsuc, negℤ, natAbs, _+ℤ_, _-ℤ_, _*ℤ_, +ℤ-idl}
-use lib.Signed.{mag, natAbs-le, ltZ, quotZ, remZ, mag-rem}
+use lib.Signed.{mag, natAbs-le, ltZ, quotZ}
 use mir.Syntax.{w32, w64}
 use mir.Val.{SFits, Fits, toZ, ofZ}
 use mir.Facts.{toZ-ofZ, ofZ-toZ, toZ-pos, sfits-widen, fits-lit}
 use Rattle.value.specs.Test.{pick}
 use Rattle.value.specs.Value.{blank, number}
-use Rattle.value.specs.Primitive.{within, isZero, sameInt, unlessZero}
+use Rattle.value.specs.Primitive.{within, isZero, sameInt, quotient}
 
 -- ---- read back
 
@@ -227,26 +227,21 @@ pub lowest-blank : {x : ℤ} → SFits w32 x → ofZ w32 x ≡ 2147483648 → wi
 unfolding within pick
 lowest-blank f h = ap (λ (y : ℤ). within (negℤ y)) (at f h)
 
--- ---- quotient and remainder
+-- ---- quotient
 
--- for either: a divisor 0, and a divisor -1
-module _ (op : ℤ → ℤ → ℤ) (x : ℤ) {y : ℤ} (g : SFits w32 y) where
-  pub by-zero : ofZ w32 y ≡ 0 → unlessZero op x y ≡ blank
-  unfolding unlessZero pick
-  by-zero h = ap (unlessZero op x) (at g h)
-
-  pub by-minus-one : ofZ w32 y ≡ 4294967295 → unlessZero op x y ≡ within (op x (negsuc 0))
-  unfolding unlessZero pick
-  by-minus-one h = ap (unlessZero op x) (at g h)
-
-pub quot-minus-one : (x : ℤ) → quotZ x (negsuc 0) ≡ negℤ x
+quot-minus-one : (x : ℤ) → quotZ x (negsuc 0) ≡ negℤ x
 quot-minus-one (pos a) = ap (λ (n : ℕ). negℤ (pos n)) (div-one a)
 quot-minus-one (negsuc a) = ap pos (div-one (suc a))
 
-pub rem-minus-one : (x : ℤ) → within (remZ x (negsuc 0)) ≡ number (pos 0)
-unfolding within pick
-rem-minus-one (pos a) = ap (λ (n : ℕ). within (pos n)) (mod-one a)
-rem-minus-one (negsuc a) = ap (λ (n : ℕ). within (negℤ (pos n))) (mod-one (suc a))
+-- a divisor 0, and a divisor -1
+module _ (x : ℤ) {y : ℤ} (g : SFits w32 y) where
+  pub by-zero : ofZ w32 y ≡ 0 → quotient x y ≡ blank
+  unfolding quotient pick
+  by-zero h = ap (quotient x) (at g h)
+
+  pub by-minus-one : ofZ w32 y ≡ 4294967295 → quotient x y ≡ within (negℤ x)
+  unfolding quotient pick
+  by-minus-one h = ap (quotient x) (at g h) ∙ ap within (quot-minus-one x)
 
 mag-neg-le : (r : ℕ) {a : ℕ} → r ≤ suc a → mag (negℤ (pos r)) ≤ a
 mag-neg-le zero h = omega arith
@@ -264,18 +259,14 @@ nonzero (pos n) h = ne-eqb n 0 h
 nonzero (negsuc n) h = refl
 
 module _ {x y : ℤ} (f : SFits w32 x) (g : SFits w32 y) (h : ofZ w32 y ≡ 0 → ⊥) where
-  pub rem-fits : SFits w32 (remZ x y)
-  rem-fits = record { sfits = lt-of-le-of-lt (mag-rem x y) (f .sfits) }
-
   module _ (k : ofZ w32 y ≡ 4294967295 → ⊥) where
-    pub quot-fits : SFits w32 (quotZ x y)
+    quot-fits : SFits w32 (quotZ x y)
     quot-fits = record { sfits = quot-mag x y (f .sfits) (not-at 4294967295 (fits-lit tt) k) }
 
-    -- what `x / y` and `x % y` ask
+    -- what `x / y` asks, and what it gives
     pub divides : (0 < ofZ w32 y) × SFits w32 (quotZ (back x) (back y))
     divides = (omega (arith, h), rw (is-back f, is-back g) quot-fits)
 
-  -- what they give, for either
-  pub divided : (op : ℤ → ℤ → ℤ) → SFits w32 (op x y) → number (back (op (back x) (back y))) ≡ unlessZero op x y
-  unfolding unlessZero pick
-  divided op i = rw (is-back f, is-back g, is-back i, nonzero y h) (sym (is-within (op x y) i))
+    pub divided : number (back (quotZ (back x) (back y))) ≡ quotient x y
+    unfolding quotient pick
+    divided = rw (is-back f, is-back g, is-back quot-fits, nonzero y h) (sym (is-within (quotZ x y) quot-fits))

@@ -9,19 +9,19 @@ use mathlib.Core.List.{List, [], _∷_}
 use lib.Dec.{ltb}
 use lib.ListN.{getD}
 use lib.IntN.{ℤ, pos, negsuc, _+ℤ_, _-ℤ_, _*ℤ_}
-use lib.Signed.{ltZ}
+use lib.Signed.{ltZ, quotZ}
 use borrow.Author.Tests.{ltb-false}
 use Rattle.value.proofs.Tests.{pick-any, eq?, both?, not-true}
 use Rattle.value.specs.Test.{pick, _and_, _=?_}
 use Rattle.value.specs.Value.{numberKind, truthKind, markOf, blank, number, truth, isBlank, isNumber, isTruth, isTrue, intOf, OfKind}
-use Rattle.value.specs.Primitive.{in32, within, isZero, sameInt, unlessZero, operation, onNumbers, onTruth, onTruths, known, choose, instead, Row, row, numeric, table, none, rowOf, primitive, countOf, operands, kindsFit, kindGiven}
+use Rattle.value.specs.Primitive.{in32, within, isZero, sameInt, quotient, operation, onNumbers, onTruth, onTruths, known, choose, instead, Row, row, numeric, table, none, rowOf, primitive, countOf, operands, kindsFit, kindGiven}
 use Rattle.value.specs.declared.Value.{Value}
 use Rattle.value.specs.declared.Takes.{Takes}
 use Rattle.value.specs.declared.Takes.the-variants.{TwoNumbers, OneTruth, TwoTruths, OneOfAny, TruthThenTwo, TwoAlike}
 use Rattle.value.specs.declared.Gives.{Gives}
 use Rattle.value.specs.declared.Gives.the-variants.{ANumber, ATruth, TheirKind}
 use Rattle.value.specs.declared.Operation.{Operation}
-use Rattle.value.specs.declared.Operation.the-variants.{Add, Subtract, Times, Divide, Remainder, Less, Equal}
+use Rattle.value.specs.declared.Operation.the-variants.{Add, Subtract, Times, Divide, Less, Equal}
 
 -- ---- row by row
 
@@ -66,9 +66,13 @@ module _
     unfolding within
     is-within z = unless-blank numberKind (in32 z) (is-number z)
 
-    is-divided : (f : ℤ → ℤ → ℤ) (x y : ℤ) → Is numberKind (unlessZero f x y)
-    unfolding unlessZero
-    is-divided f x y = pick-any (Is numberKind) (isZero y) (λ e. is-blank numberKind) (λ e. is-within (f x y))
+    is-quotient : (x y : ℤ) → Is numberKind (quotient x y)
+    unfolding quotient
+    is-quotient x y = pick-any (Is numberKind) (isZero y) (λ e. is-blank numberKind) (λ e. is-within (quotZ x y))
+
+    -- the row that is withdrawn, and that of no primitive
+    always-blank : (t : Takes) (g : Gives) → Kept (row t g (λ a b c. blank))
+    always-blank t g j k l a b c fit ia ib ic = is-blank (kindGiven g k)
 
     numbers : (f : Operation) (g : Gives) → ((k : ℕ) (x y : ℤ) → Is (kindGiven g k) (operation f x y)) → Kept (numeric f g)
     unfolding onNumbers
@@ -103,8 +107,8 @@ module _
         numbers Add ANumber (λ k x y. is-within (x +ℤ y))
         ◂ numbers Subtract ANumber (λ k x y. is-within (x -ℤ y))
         ◂ numbers Times ANumber (λ k x y. is-within (x *ℤ y))
-        ◂ numbers Divide ANumber (λ k x y. is-divided _ x y)
-        ◂ numbers Remainder ANumber (λ k x y. is-divided _ x y)
+        ◂ numbers Divide ANumber (λ k x y. is-quotient x y)
+        ◂ always-blank TwoNumbers ANumber
         ◂ numbers Less ATruth (λ k x y. is-truth (ltZ x y))
         ◂ numbers Equal ATruth (λ k x y. is-truth (sameInt x y))
         ◂ one-truth not
@@ -123,7 +127,7 @@ module _
         (3 ≤ operands x → Is l c) →
         Is (kindGiven (rowOf x .gives) k) (primitive x a b c)
     unfolding operands primitive
-    primitive-is = every-row Kept each-kept (λ j k l a b c fit ia ib ic. is-blank (kindGiven ANumber k))
+    primitive-is = every-row Kept each-kept (always-blank OneOfAny ANumber)
 
 -- ---- kinds: `reactor s c` says that c is a reactor of shape s
 

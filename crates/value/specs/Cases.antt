@@ -7,7 +7,7 @@ use lib.Dec.{T, eqb}
 use lib.IntN.{pos, negsuc}
 use Rattle.value.specs.Test.{pick, _=?_, _and_}
 use Rattle.value.specs.Value.{blank, number, isNumber}
-use Rattle.value.specs.Primitive.{within, unlessZero, operation, onNumbers, table, rowOf, primitive}
+use Rattle.value.specs.Primitive.{within, quotient, operation, onNumbers, table, rowOf, primitive}
 use Rattle.value.specs.declared.Value.{Value}
 
 pub record Case : Type 0 where
@@ -30,12 +30,10 @@ case x a b r = record { op = x; a = a; b = b; answer = r }
 abbrev pub starred : List Case
 starred =
     case 3 (number (negsuc 2147483647)) (number (negsuc 0)) blank  -- -2,147,483,648 divided by -1
-    ∷ case 4 (number (negsuc 2147483647)) (number (negsuc 0)) (number (pos 0))
     ∷ case 3 (number (negsuc 6)) (number (pos 2)) (number (negsuc 2))  -- -7 by 2
-    ∷ case 4 (number (negsuc 6)) (number (pos 2)) (number (negsuc 0))
     ∷ case 5 blank (number (pos 5)) blank  -- less of blank and 5
     ∷ []
 
 pub starred-hold : T (holds starred)
-unfolding primitive rowOf table onNumbers operation unlessZero within isNumber pick _and_ _=?_
+unfolding primitive rowOf table onNumbers operation quotient within isNumber pick _and_ _=?_
 starred-hold = tt

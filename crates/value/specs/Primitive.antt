@@ -6,7 +6,7 @@ use mathlib.Core.List.{List, [], _∷_}
 use lib.Dec.{eqb}
 use lib.ListN.{length, getD}
 use lib.IntN.{ℤ, pos, negsuc, _+ℤ_, _-ℤ_, _*ℤ_}
-use lib.Signed.{ltZ, quotZ, remZ}
+use lib.Signed.{ltZ, quotZ}
 use Rattle.value.specs.Test.{pick, _<?_, _=?_, _and_}
 use Rattle.value.specs.Value.{blank, number, truth, isBlank, isNumber, isTruth, isTrue, intOf, numberKind, truthKind}
 use Rattle.value.specs.declared.Value.{Value}
@@ -15,7 +15,7 @@ use Rattle.value.specs.declared.Takes.the-variants.{TwoNumbers, OneTruth
 use Rattle.value.specs.declared.Gives.{Gives}
 use Rattle.value.specs.declared.Gives.the-variants.{ANumber, ATruth, TheirKind}
 use Rattle.value.specs.declared.Operation.{Operation}
-use Rattle.value.specs.declared.Operation.the-variants.{Add, Subtract, Times, Divide, Remainder, Less, Equal}
+use Rattle.value.specs.declared.Operation.the-variants.{Add, Subtract, Times, Divide, Less, Equal}
 
 -- ---- integers
 
@@ -36,18 +36,16 @@ sameInt (pos m) (negsuc n) = false
 sameInt (negsuc m) (pos n) = false
 sameInt (negsuc m) (negsuc n) = eqb m n
 
--- ".. or a divisor 0, gives blank."
-unfoldable pub unlessZero : (ℤ → ℤ → ℤ) → ℤ → ℤ → Value
-unlessZero f x y = pick (isZero y) blank (within (f x y))
+-- blank by 0, else cut toward zero: the kit's `quotZ`, whose laws are in proofs/Division.antt
+unfoldable pub quotient : ℤ → ℤ → Value
+quotient x y = pick (isZero y) blank (within (quotZ x y))
 
--- "0 add, 1 subtract (a−b), 2 times, 3 divide, 4 remainder, 5 less, 6 equal: two numbers. The quotient is cut toward zero; the
--- remainder has the dividend's sign." That is the kit's `quotZ` and `remZ`; proofs/Division.antt has their laws.
+-- the primitives on two numbers, in their order: 0 to 3, 5 and 6
 unfoldable pub operation : Operation → ℤ → ℤ → Value
 operation Add x y = within (x +ℤ y)
 operation Subtract x y = within (x -ℤ y)
 operation Times x y = within (x *ℤ y)
-operation Divide x y = unlessZero quotZ x y
-operation Remainder x y = unlessZero remZ x y
+operation Divide x y = quotient x y
 operation Less x y = truth (ltZ x y)
 operation Equal x y = truth (sameInt x y)
 
@@ -88,13 +86,21 @@ row t g f = record { takes = t; gives = g; means = f }
 abbrev pub numeric : Operation → Gives → Row
 numeric f g = row TwoNumbers g (λ a b c. onNumbers (operation f) a b)
 
+-- 4, the remainder, is withdrawn: 02 (x). Its row stays, so that 3 asks of its bytes what it asked before; 25 then keeps it out
+-- of every accepted program, and so what it would mean is free.
+abbrev pub remainder : ℕ
+remainder = 4
+
+abbrev pub withdrawn : Row
+withdrawn = row TwoNumbers ANumber (λ a b c. blank)
+
 unfoldable pub table : List Row
 table =
     numeric Add ANumber  -- 0
     ∷ numeric Subtract ANumber  -- 1
     ∷ numeric Times ANumber  -- 2
     ∷ numeric Divide ANumber  -- 3
-    ∷ numeric Remainder ANumber  -- 4
+    ∷ withdrawn  -- 4, the remainder
     ∷ numeric Less ATruth  -- 5
     ∷ numeric Equal ATruth  -- 6
     ∷ row OneTruth ATruth (λ a b c. onTruth not a)  -- 7 not
@@ -115,6 +121,10 @@ rowOf x = getD table x none
 -- "x from 0 to 12"
 unfoldable pub isPrimitive : ℕ → Bool
 isPrimitive x = x <? length table
+
+-- whether 25 refuses it
+unfoldable pub isWithdrawn : ℕ → Bool
+isWithdrawn x = x =? remainder
 
 -- what primitive x gives for the operands a, b, c; one that it does not take is not read
 unfoldable pub primitive : ℕ → Value → Value → Value → Value

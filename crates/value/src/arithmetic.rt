@@ -4,8 +4,7 @@ use crate::Operation;
 use crate::Value;
 ghost use mathlib.Core.Path.{_≡_};
 ghost use lib.IntN.{negℤ, _+ℤ_, _-ℤ_, _*ℤ_};
-ghost use lib.Signed.{quotZ, remZ};
-ghost use Rattle.value.specs.Primitive.{within, unlessZero, operation};
+ghost use Rattle.value.specs.Primitive.{within, quotient, operation};
 
 // A result of 64 bits: blank where 32 bits do not hold it.
 pub(crate) fn narrow(z: i64) -> Value
@@ -51,7 +50,7 @@ pub(crate) fn negate(x: i32) -> Value
 
 // The machine's division is not defined at the lowest integer by -1, so -1 is apart.
 pub(crate) fn divide(x: i32, y: i32) -> Value
-    ensures { λ r. ⌜ r ≡ unlessZero quotZ x y ⌝ }
+    ensures { λ r. ⌜ r ≡ quotient x y ⌝ }
 {
     if y == 0 {
         return Value::blank();
@@ -62,18 +61,6 @@ pub(crate) fn divide(x: i32, y: i32) -> Value
     Value::number(x / y)
 }
 
-pub(crate) fn remainder(x: i32, y: i32) -> Value
-    ensures { λ r. ⌜ r ≡ unlessZero remZ x y ⌝ }
-{
-    if y == 0 {
-        return Value::blank();
-    }
-    if y == -1 {
-        return Value::number(0);
-    }
-    Value::number(x % y)
-}
-
 pub(crate) fn operate(f: Operation, x: i32, y: i32) -> Value
     ensures { λ r. ⌜ r ≡ operation f x y ⌝ }
 {
@@ -82,7 +69,6 @@ pub(crate) fn operate(f: Operation, x: i32, y: i32) -> Value
         Operation::Subtract => subtract(x, y),
         Operation::Times => times(x, y),
         Operation::Divide => divide(x, y),
-        Operation::Remainder => remainder(x, y),
         Operation::Less => Value::truth(x < y),
         Operation::Equal => Value::truth(x == y),
     }

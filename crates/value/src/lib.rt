@@ -13,6 +13,7 @@ pub use integer::signed;
 pub use integer::word;
 pub use primitives::primitive;
 pub use table::is_primitive;
+pub use table::is_withdrawn;
 pub use table::kind_given;
 pub use table::kinds_fit;
 pub use table::operands;
@@ -92,7 +93,6 @@ pub enum Operation {
     Subtract,
     Times,
     Divide,
-    Remainder,
     Less,
     Equal,
 }

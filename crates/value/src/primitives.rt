@@ -78,8 +78,8 @@ pub(crate) fn instead(a: Value, b: Value) -> Value
     if a.mark == Value::BLANK { b } else { a }
 }
 
-// Primitive `op` of its operands; one that it does not take is not read, and a number that is no
-// primitive's gives blank.
+// Primitive `op` of its operands; one that it does not take is not read. A number that is no
+// primitive's, and 4, which is withdrawn, give blank.
 pub fn primitive(op: u8, a: Value, b: Value, c: Value) -> Value
     ensures { λ r. ⌜ r ≡ P.primitive op a b c ⌝ }
 {
@@ -88,7 +88,7 @@ pub fn primitive(op: u8, a: Value, b: Value, c: Value) -> Value
         1 => on_numbers(Operation::Subtract, a, b),
         2 => on_numbers(Operation::Times, a, b),
         3 => on_numbers(Operation::Divide, a, b),
-        4 => on_numbers(Operation::Remainder, a, b),
+        4 => Value::blank(),
         5 => on_numbers(Operation::Less, a, b),
         6 => on_numbers(Operation::Equal, a, b),
         7 => not(a),

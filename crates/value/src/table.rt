@@ -10,6 +10,13 @@ pub fn is_primitive(op: u8) -> bool
     op < 13
 }
 
+// Whether the check refuses it by name.
+pub fn is_withdrawn(op: u8) -> bool
+    ensures { λ r. ⌜ r ≡ P.isWithdrawn op ⌝ }
+{
+    op == 4
+}
+
 pub(crate) fn takes_of(op: u8) -> Takes
     ensures { λ r. ⌜ r ≡ P.rowOf op .takes ⌝ }
 {

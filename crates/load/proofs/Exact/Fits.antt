@@ -1,11 +1,11 @@
 -- The rules, read as the check reads them: what one command asks of those before it. `Fits p r k c`: c may be command k of reactor r.
 use Prim.Native.Nat.{ℕ, _≤_, _<_}
 use mathlib.Core.Path.{_≡_}
-use mathlib.Core.Logic.{_⊎_}
+use mathlib.Core.Logic.{_⊎_, _≢_}
 use mathlib.Core.List.{List}
 use lib.ListN.{length}
 use Rattle.value.specs.Value.{numberKind, truthKind, reactorKind}
-use Rattle.value.specs.Primitive.{rowOf, table, operands}
+use Rattle.value.specs.Primitive.{rowOf, table, operands, remainder}
 use Rattle.value.specs.declared.Takes.{Takes}
 use Rattle.value.specs.declared.Takes.the-variants.{TwoNumbers, OneTruth, TwoTruths, OneOfAny, TruthThenTwo, TwoAlike}
 use Rattle.program.specs.Bytes.{shapes, reactors, globals, shapeOf, sourcesIn, sinksIn, sourceKind, sinkKind, declared, commandsIn}
@@ -39,6 +39,20 @@ Ranged p (sink x a) = Unit {0}
 Ranged p (allocPoly a b) = Unit {0}
 Ranged p (primitive x a b c) = x < length table
 Ranged p none = ⊥
+
+-- 25: not withdrawn
+abbrev pub Remaining : Cmd → Type 0
+Remaining (allocMono x) = Unit {0}
+Remaining (makePoly x) = Unit {0}
+Remaining (constant x v) = Unit {0}
+Remaining (global x) = Unit {0}
+Remaining (supply x a b) = Unit {0}
+Remaining (react b) = Unit {0}
+Remaining (consume x b) = Unit {0}
+Remaining (sink x a) = Unit {0}
+Remaining (allocPoly a b) = Unit {0}
+Remaining (primitive x a b c) = x ≢ remainder
+Remaining none = Unit {0}
 
 -- 5: ports and kinds
 abbrev pub Agreed : List ℕ → ℕ → Cmd → Type 0
@@ -97,6 +111,7 @@ module _ (p : List ℕ) (r k : ℕ) where
     pub in-sequence : InSequence (sequenceOf c)
     pub zero-bytes : ZeroBytes (bytesOf p r k) c
     pub ranged : Ranged p c
+    pub remaining : Remaining c
     pub located : Located c
     pub agreed : Agreed p r c
     pub timely : Timely c

@@ -18,7 +18,7 @@ use Rattle.load.specs.Accepted.{ReactorAccepted}
 use Rattle.load.proofs.Exact.Bytes.{header-first}
 use Rattle.load.specs.declared.Scanned.{Scanned}
 use Rattle.load.specs.declared.Refusal.{Refusal}
-use Rattle.load.specs.declared.Refusal.the-variants.{ProgramLength, TableByte, Command, Operand, PortOrKind, Order, Missing, MemoryLength, UnsoundImage, ReadingsLength, Reading, SinkSpace, Clock, NoRoom, TooDeep}
+use Rattle.load.specs.declared.Refusal.the-variants.{ProgramLength, TableByte, Command, Operand, PortOrKind, Order, Missing, MemoryLength, UnsoundImage, ReadingsLength, Reading, SinkSpace, Clock, NoRoom, TooDeep, Withdrawn}
 use Rattle.load.specs.declared.Checked.{Checked}
 use Rattle.load.specs.declared.Checked.the-variants.{Accepted, Refused}
 
@@ -121,6 +121,7 @@ refusal-counts (SinkSpace q) = omega arith
 refusal-counts Clock = omega arith
 refusal-counts (NoRoom q) = omega arith
 refusal-counts (TooDeep q) = omega arith
+refusal-counts (Withdrawn q) = omega arith
 
 module _ (p : List ℕ) where
   pub accepted : IsAccepted p ↔ Passed p

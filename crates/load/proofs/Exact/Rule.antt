@@ -18,7 +18,7 @@ use Rattle.load.specs.Rules.{Value, Deployment, Point, Operands, Right, 
 use Rattle.load.proofs.Exact.Seen.{Never, Already, FirstOnly, one, once}
 use Rattle.load.proofs.Exact.Class.{a-point, a-deployment, classOf, IsMade, shows-as}
 use Rattle.load.proofs.Exact.Places.{classAt, loc-lt, loc-lt-back, cmd-there, cmd-where, class-made, class-sink, by-place, value-exact, made-where}
-use Rattle.load.proofs.Exact.Fits.{KindsFit, InSequence, Ranged, ValueAt, Located, Agreed, Timely, Fits, Ended, Stepwise}
+use Rattle.load.proofs.Exact.Fits.{KindsFit, InSequence, Ranged, Remaining, ValueAt, Located, Agreed, Timely, Fits, Ended, Stepwise}
 
 -- ---- sequences
 
@@ -128,6 +128,7 @@ module _ (p : List ℕ) (r : ℕ) where
   right k (allocPoly a b) few f = (values k a few .0 (f .located .0), point-of k b few (f .located .1), f .agreed)
   right k (primitive x a b c) few f = (
     f .ranged,
+    f .remaining,
     operands-of (commandLoc p r k) (rowOf x .takes) a b c .0 (
       values k a few .0 (f .located .0),
       ⊎-map (λ h. h) (values k b few .0) (f .located .1),
@@ -228,15 +229,16 @@ module _ (p : List ℕ) (r : ℕ) where
           omega arith
 
       fitted : (c : Cmd) → cmdOf p r k ≡ c → Right p r (commandLoc p r k) c →
-          Ranged p c × Located p r k c × Agreed p r c × Timely p r k c
+          Ranged p c × Remaining c × Located p r k c × Agreed p r c × Timely p r k c
       unfolding operands sequenceOf
-      fitted (allocMono x) e g = (g .0, tt, tt, g .1)
-      fitted (makePoly x) e g = (g, tt, tt, tt)
-      fitted (constant x v) e g = (g, tt, tt, tt)
-      fitted (global x) e g = (g, tt, tt, tt)
+      fitted (allocMono x) e g = (g .0, tt, tt, tt, g .1)
+      fitted (makePoly x) e g = (g, tt, tt, tt, tt)
+      fitted (constant x v) e g = (g, tt, tt, tt, tt)
+      fitted (global x) e g = (g, tt, tt, tt, tt)
       fitted (supply x a b) e g =
           let s = u .deployments b (deployment-end k b few (g .1)) in
           let t = s .supplied x (g .2) in (
+            tt,
             tt,
             (values k a few .1 (g .0), deployment-now b _ e refl (g .1)),
             (g .2, g .3),
@@ -245,6 +247,7 @@ module _ (p : List ℕ) (r : ℕ) where
       fitted (react b) e g =
           let s = u .deployments b (deployment-end k b few g) in
           let i : k ≡ s .at = s .react .only k h e in (
+            tt,
             tt,
             deployment-now b _ e refl g,
             tt,
@@ -255,19 +258,19 @@ module _ (p : List ℕ) (r : ℕ) where
           )
       fitted (consume x b) e g =
           let s = u .deployments b (deployment-end k b few (g .0)) in
-          (tt, deployment-now b _ e refl (g .0), g .1, (s .at, s .consumed k h (x, e), s .react .is))
+          (tt, tt, deployment-now b _ e refl (g .0), g .1, (s .at, s .consumed k h (x, e), s .react .is))
       fitted (sink x a) e g =
           let t = u .set x (g .1) in
-          (tt, values k a few .1 (g .0), (g .1, g .2), first (Sets p r x) (t .0) (t .1) (a, e))
+          (tt, tt, values k a few .1 (g .0), (g .1, g .2), first (Sets p r x) (t .0) (t .1) (a, e))
       fitted (allocPoly a b) e g =
           let t = u .points b (g .1) in
           let at = point-there k few (D-early k (R-late _ e refl)) b (g .1) in
-          (tt, (values k a few .1 (g .0), at), g .2, first (Allocates p r b) (t .0) (t .1) (a, e))
+          (tt, tt, (values k a few .1 (g .0), at), g .2, first (Allocates p r b) (t .0) (t .1) (a, e))
       fitted (primitive x a b c) e g =
-          let o = operands-of (commandLoc p r k) (rowOf x .takes) a b c .1 (g .1) in
+          let o = operands-of (commandLoc p r k) (rowOf x .takes) a b c .1 (g .2) in
           let bs = ⊎-map (λ h. h) (values k b few .1) (o .1) in
           let cs = ⊎-map (λ h. h) (values k c few .1) (o .2) in
-          (g .0, (values k a few .1 (o .0), bs, cs), o .3, tt)
+          (g .0, g .1, (values k a few .1 (o .0), bs, cs), o .3, tt)
       fitted none e g = absurd g
 
       fits : Fits p r k (cmdOf p r k)
@@ -277,9 +280,10 @@ module _ (p : List ℕ) (r : ℕ) where
             in-sequence = in-sequence k h;
             zero-bytes = u .zero-bytes k h;
             ranged = f .0;
-            located = f .1;
-            agreed = f .2;
-            timely = f .3;
+            remaining = f .1;
+            located = f .2;
+            agreed = f .3;
+            timely = f .4;
           }
 
     reacted : (b : ℕ) → Deployment p r (commandLoc p r (commandsIn p r)) b → Already p r (Reacts p r b) (commandsIn p r)

@@ -7,21 +7,21 @@ use mathlib.Core.List.{List}
 use native.Mathlib.Omega.{arith}
 use Rattle.value.specs.Test.{need, _<?_, _=?_}
 use Rattle.value.specs.Value.{numberKind, truthKind, reactorKind}
-use Rattle.value.specs.Primitive.{rowOf, operands, countOf, kindsFit}
+use Rattle.value.specs.Primitive.{rowOf, operands, countOf, kindsFit, isWithdrawn}
 use Rattle.value.specs.declared.Takes.{Takes}
 use Rattle.value.specs.declared.Takes.the-variants.{TwoNumbers, OneTruth, TwoTruths, OneOfAny, TruthThenTwo, TwoAlike}
 use Rattle.value.proofs.Tests.{remains, Says, says-lt, says-le, says-eq, says-true, says-false, says-and, says-or, says-not, says-need}
 use Rattle.program.specs.Bytes.{declared, sourcesIn, sinksIn, sourceKind, sinkKind, shapeOf}
 use Rattle.program.specs.Command.{Cmd, Sequence, D, R, neither, cmdOf, decode, bytesOf, sequenceOf, allocMono, makePoly, constant, global, supply, react, consume, sink, allocPoly, primitive, none}
 use Rattle.program.specs.Location.{sinks, sinkLoc, shapeThere}
-use Rattle.load.specs.Scan.{standingAt, kindAt, isSupplied, readyAt, inSequence, located, agreed, disorder, refusalOf, unsetSink, setSink}
+use Rattle.load.specs.Scan.{standingAt, kindAt, isSupplied, readyAt, inSequence, remaining, located, agreed, disorder, refusalOf, unsetSink, setSink}
 use Rattle.load.specs.Rules.{Sets}
 use Rattle.load.specs.Accepted.{TablesRight}
 use Rattle.load.specs.declared.Scan.{Scan}
 use Rattle.load.proofs.Exact.Seen.{Never, tells-lo}
 use Rattle.load.proofs.Exact.Class.{a-deployment}
 use Rattle.load.proofs.Exact.Places.{classAt, class-sink}
-use Rattle.load.proofs.Exact.Fits.{KindsFit, InSequence, Located, Agreed, Timely, Fits}
+use Rattle.load.proofs.Exact.Fits.{KindsFit, InSequence, Remaining, Located, Agreed, Timely, Fits}
 use Rattle.load.proofs.Exact.Formed.{formed-says}
 use Rattle.load.proofs.Exact.Holds.{Holding, value-says, point-says, deployment-says, holds-as, kind-of-value, shape-of-deployment, shape-of-point, point-free, deployment-reacted, deployment-open, deployment-ready}
 
@@ -40,6 +40,20 @@ unfolding inSequence
 sequence-says p r k D = says-lt
 sequence-says p r k R = says-not says-lt
 sequence-says p r k neither = says-false
+
+remaining-says : (c : Cmd) → Says (remaining c) (Remaining c)
+unfolding remaining isWithdrawn
+remaining-says (allocMono x) = says-true
+remaining-says (makePoly x) = says-true
+remaining-says (constant x v) = says-true
+remaining-says (global x) = says-true
+remaining-says (supply x a b) = says-true
+remaining-says (react b) = says-true
+remaining-says (consume x b) = says-true
+remaining-says (sink x a) = says-true
+remaining-says (allocPoly a b) = says-true
+remaining-says (primitive x a b c) = says-not says-eq
+remaining-says none = says-true
 
 -- a primitive's kinds, an operand's kind being known where it is taken
 pub kinds-say : (t : Takes) (j k l j′ k′ l′ : ℕ) → j ≡ j′ → ((countOf t < 2) ⊎ (k ≡ k′)) → ((countOf t < 3) ⊎ (l ≡ l′)) →
@@ -135,19 +149,21 @@ module _ {p : List ℕ} {r k : ℕ} {s : Scan} (g : Holding p r k s) where
         Iff·trans
         (says-need 2 in-q
         (λ q. says-need 2 (formed-says p (bytesOf p r k))
-        (λ f. says-need 3 (located-says c)
+        (λ f. says-need 24 (remaining-says c)
+        (λ w. says-need 3 (located-says c)
         (λ h. says-need 4 (agreed-says c h)
-        (λ a. disorder-says c h a))))) (
+        (λ a. disorder-says c h a)))))) (
           (λ h.
               record {
                 in-sequence = h .0;
                 zero-bytes = h .1 .0 .0;
                 ranged = h .1 .0 .1;
-                located = h .1 .1 .0;
-                agreed = h .1 .1 .1 .0;
-                timely = h .1 .1 .1 .1;
+                remaining = h .1 .1 .0;
+                located = h .1 .1 .1 .0;
+                agreed = h .1 .1 .1 .1 .0;
+                timely = h .1 .1 .1 .1 .1;
               }),
-          (λ f. (f .in-sequence, ((f .zero-bytes, f .ranged), (f .located, (f .agreed, f .timely))))),
+          (λ f. (f .in-sequence, ((f .zero-bytes, f .ranged), (f .remaining, (f .located, (f .agreed, f .timely)))))),
         )
 
     pub taken-exact : (refusalOf p r s (bytesOf p r (s .next)) (decode (bytesOf p r (s .next))) ≡ 0) ↔ Fits p r k (cmdOf p r k)

@@ -19,10 +19,19 @@ returns-3 c = no _ (eq× (λ e. omega arith)) (no _ (eq× (λ e. omega arith)) (
 
 returns-4 : tie.Need-returns-4
 unfolding atCommand
-returns-4 c = no _ (eq× (c .match .rest .0 .0 .1)) (no _ (eq× (c .match .rest .0 .1)) (no _ (eq× (c .match .rest .1)) refl))
+returns-4 c =
+    no _ (eq× (λ e. omega arith))
+    (no _ (eq× (λ e. omega arith))
+    (no _ (eq× (λ e. omega arith))
+    (yes _ (eq! (omega arith)) refl)))
+
+returns-5 : tie.Need-returns-5
+unfolding atCommand
+returns-5 c =
+    no _ (eq× (c .match .rest .0 .0 .0 .1))
+    (no _ (eq× (c .match .rest .0 .0 .1))
+    (no _ (eq× (c .match .rest .0 .1))
+    (no _ (eq× (c .match .rest .1)) refl)))
 
 pub at-command-spec : {M : Type 1} → statement M
-at-command-spec =
-    tie.close
-    (tie.spec
-    returns returns-2 returns-3 returns-4)
+at-command-spec = tie.close (tie.spec returns returns-2 returns-3 returns-4 returns-5)

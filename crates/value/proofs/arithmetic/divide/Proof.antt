@@ -1,22 +1,20 @@
 use mathlib.Core.Path.{_∙_, ap, sym}
 use lib.IntN.{ℤ, negℤ}
-use lib.Signed.{quotZ}
-use Rattle.value.proofs.Integers.{is-back, by-zero, by-minus-one, quot-minus-one, quot-fits, divides, divided}
+use Rattle.value.proofs.Integers.{is-back, by-zero, by-minus-one, divides, divided}
 use Rattle.value.specs.Primitive.{within}
 use borrow.Author.Needs.{needs}
 use Rattle.value.proofs.arithmetic.divide.Statement.{statement}
 use Rattle.value.proofs.arithmetic.divide.Tie as tie
 
 returns : tie.Need-returns
-returns c = c .blank .ensures ∙ sym (by-zero quotZ _ (c .before .before .fits .y) (c .before .if1 .taken))
+returns c = c .blank .ensures ∙ sym (by-zero _ (c .before .before .fits .y) (c .before .if1 .taken))
 
 returns-2 : tie.Need-returns-2
 returns-2 c =
     let f = c .before .before .before .fits in
-    let quotient = by-minus-one quotZ _ (f .y) (c .before .if2 .taken) in
     c .negate .ensures
     ∙ ap (λ (z : ℤ). within (negℤ z)) (is-back (f .x))
-    ∙ sym (quotient ∙ ap within (quot-minus-one (c .before .before .before .args .x)))
+    ∙ sym (by-minus-one _ (f .y) (c .before .if2 .taken))
 
 div-number : tie.Need-div-number
 div-number c =
@@ -26,9 +24,7 @@ div-number c =
 returns-3 : tie.Need-returns-3
 returns-3 c =
     let f = c .before .before .before .fits in
-    let not-zero = c .before .before .if1 .left in
-    c .number .ensures
-    ∙ divided (f .x) (f .y) not-zero quotZ (quot-fits (f .x) (f .y) not-zero (c .before .if2 .left))
+    c .number .ensures ∙ divided (f .x) (f .y) (c .before .before .if1 .left) (c .before .if2 .left)
 
 pub divide-spec : {M : Type 1} → statement M
 divide-spec =

@@ -23,15 +23,15 @@ returns-4 c = rw (c .before .match .keys4) (c .on-numbers4 .ensures)
 
 returns-5 : tie.Need-returns-5
 unfolding primitive rowOf table
-returns-5 c = rw (c .before .match .keys5) (c .on-numbers5 .ensures)
+returns-5 c = rw (c .before .match .keys5) (c .blank .ensures)
 
 returns-6 : tie.Need-returns-6
 unfolding primitive rowOf table
-returns-6 c = rw (c .before .match .keys6) (c .on-numbers6 .ensures)
+returns-6 c = rw (c .before .match .keys6) (c .on-numbers5 .ensures)
 
 returns-7 : tie.Need-returns-7
 unfolding primitive rowOf table
-returns-7 c = rw (c .before .match .keys7) (c .on-numbers7 .ensures)
+returns-7 c = rw (c .before .match .keys7) (c .on-numbers6 .ensures)
 
 returns-8 : tie.Need-returns-8
 unfolding primitive rowOf table
@@ -60,7 +60,7 @@ returns-13 c = rw (c .before .match .keys13) (c .instead .ensures)
 returns-14 : tie.Need-returns-14
 unfolding primitive rowOf table
 returns-14 c =
-    rw (past (c .before .before .args .op) (missed 0 13 (c .before .before .args .op) (omega arith) (c .before .match .rest))) (c .blank .ensures)
+    rw (past (c .before .before .args .op) (missed 0 13 (c .before .before .args .op) (omega arith) (c .before .match .rest))) (c .blank2 .ensures)
 
 pub primitive-spec : {M : Type 1} → statement M
 primitive-spec =
