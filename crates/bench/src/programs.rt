@@ -130,7 +130,8 @@ pub const NEST: [u8; 76] = [
     0,
 ];
 
-// Reactors 0 and 1 add and subtract the two readings; main takes the second on odd time.
+// Reactors 0 and 1 add and subtract the two readings; main takes the second on odd time, where twice
+// the half of the time is not the time.
 pub const TOGGLE: [u8; 222] = [
     1,
     2,
@@ -475,6 +476,9 @@ pub fn print_checks() {
     put_check(b"clock with its last command's a set to 1", &damaged);
     put_check(b"nest", &NEST);
     put_check(b"toggle", &TOGGLE);
+    let mut stocked = TOGGLE;
+    stocked[127] = 4;
+    put_check(b"toggle with a remainder where it divides", &stocked);
 }
 
 // A line `name, n words: start number, place`.

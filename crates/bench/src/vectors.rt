@@ -1,5 +1,5 @@
-// Files of vectors, from another implementation of document 01: for each number, how many agree with
-// the proved code, and how many differ.
+// Files of vectors, from another implementation of documents 01 and 02: for each number, how many
+// agree with the proved code, and how many differ.
 use crate::line::Line;
 use crate::line::ROOM;
 use crate::text::put;
@@ -105,72 +105,31 @@ impl Progress {
     }
 }
 
-fn print_row(label: &[u8], n: u32) {
-    put(label);
+// A line for each number that vectors and code agree on, and one for those that differ.
+fn print(label: &[u8], tally: Tally) {
+    let agree = tally.agree;
+    let mut n = 0;
+    while n < NUMBERS {
+        let count = agree[n];
+        if 0 < count {
+            put(label);
+            put_decimal(n as u64);
+            put_count(count);
+        }
+        n += 1;
+    }
+    put(b"differ");
+    put_count(tally.differ);
+}
+
+fn put_count(n: u32) {
+    put(b": ");
     put_decimal(n as u64);
     put(b"\n");
 }
 
-fn print_checks(agree: [u32; NUMBERS]) {
-    print_row(b"check 0: ", agree[0]);
-    print_row(b"check 1: ", agree[1]);
-    print_row(b"check 2: ", agree[2]);
-    print_row(b"check 3: ", agree[3]);
-    print_row(b"check 4: ", agree[4]);
-    print_row(b"check 5: ", agree[5]);
-    print_row(b"check 6: ", agree[6]);
-    print_row(b"check 7: ", agree[7]);
-    print_row(b"check 25: ", agree[25]);
-}
-
-fn print_starts(agree: [u32; NUMBERS]) {
-    print_row(b"start 0: ", agree[0]);
-    print_row(b"start 8: ", agree[8]);
-    print_row(b"start 14: ", agree[14]);
-}
-
-fn print_images(agree: [u32; NUMBERS]) {
-    print_row(b"image sound: ", agree[0]);
-    print_row(b"image unsound: ", agree[9]);
-}
-
-// The numbers that say something of memory, readings, sinks or the run.
-fn print_turns_on_memory(agree: [u32; NUMBERS]) {
-    print_row(b"turn 8: ", agree[8]);
-    print_row(b"turn 9: ", agree[9]);
-    print_row(b"turn 10: ", agree[10]);
-    print_row(b"turn 11: ", agree[11]);
-    print_row(b"turn 12: ", agree[12]);
-    print_row(b"turn 13: ", agree[13]);
-    print_row(b"turn 14: ", agree[14]);
-    print_row(b"turn 15: ", agree[15]);
-}
-
-fn print_turns(agree: [u32; NUMBERS]) {
-    print_row(b"turn 0: ", agree[0]);
-    print_row(b"turn 1: ", agree[1]);
-    print_row(b"turn 2: ", agree[2]);
-    print_row(b"turn 3: ", agree[3]);
-    print_row(b"turn 4: ", agree[4]);
-    print_row(b"turn 5: ", agree[5]);
-    print_row(b"turn 6: ", agree[6]);
-    print_row(b"turn 7: ", agree[7]);
-    print_turns_on_memory(agree);
-}
-
-fn print(kind: Kind, tally: Tally) {
-    let agree = tally.agree;
-    match kind {
-        Kind::Check => print_checks(agree),
-        Kind::Start => print_starts(agree),
-        Kind::Image => print_images(agree),
-        Kind::Turn => print_turns(agree),
-    }
-    print_row(b"differ: ", tally.differ);
-}
-
 // Runs the file that an argument names.
-fn run_file(kind: Kind, argument: usize) {
+fn run_file(kind: Kind, label: &[u8], argument: usize) {
     let mut path = io::buffer();
     let length = os::arg(argument, &mut path);
     let fd = os::open_read(&path[..length]);
@@ -181,12 +140,12 @@ fn run_file(kind: Kind, argument: usize) {
     let mut room = [0u8; ROOM];
     let state = Progress::begin(kind).read_all(fd, &mut room);
     libc::close(fd);
-    print(kind, state.tally);
+    print(label, state.tally);
 }
 
 pub fn run() {
-    run_file(Kind::Check, 1);
-    run_file(Kind::Start, 2);
-    run_file(Kind::Image, 3);
-    run_file(Kind::Turn, 4);
+    run_file(Kind::Check, b"check ", 1);
+    run_file(Kind::Start, b"start ", 2);
+    run_file(Kind::Image, b"image ", 3);
+    run_file(Kind::Turn, b"turn ", 4);
 }
