@@ -1,33 +1,37 @@
--- Quotient and remainder make up the dividend; the remainder is smaller than the divisor and has the dividend's sign, or is 0.
--- The three fix both numbers. 01: "The quotient is cut toward zero; the remainder has the dividend's sign." Assumes nothing.
-use Prim.Native.Nat.{ℕ, zero, suc, _+_, _*_, _/_, _%_, _<_}
-use native.Mathlib.Nat.{div-add-mod', mod-lt, zero-mul}
+-- The kit's quotient is the one of `Division`, with the kit's remainder as the rest: `exact-quotient`. Assumes nothing.
+use Prim.Native.Nat.{ℕ, zero, suc, _+_, _-_, _*_, _/_, _%_, _<_}
+use native.Mathlib.Nat.{div-add-mod', mod-lt, suc-mul}
+use native.Mathlib.Omega.{arith}
 use mathlib.Core.Path.{_≡_, refl, sym, ap, _∙_}
-use lib.IntN.{ℤ, pos, negsuc, negℤ, natAbs, _+ℤ_, _*ℤ_, negℤ-+ℤ}
+use mathlib.Core.Logic.{_≢_}
+use lib.Arith.{digits-div}
+use lib.IntN.{ℤ, pos, negsuc, negℤ, natAbs, _+ℤ_, _*ℤ_, negℤ-+ℤ, negℤ-negℤ, zero-*ℤ, pos-ne-negsuc}
 use lib.Signed.{quotZ, remZ}
+use borrow.Author.Tests.{lt-ltb}
+use Rattle.value.specs.Division.{Division, ExactQuotient}
 
-neg-times : (q b : ℕ) → negℤ (pos q) *ℤ pos b ≡ negℤ (pos (q * b))
-neg-times zero b = rw (zero-mul b)
-neg-times (suc q) b = refl
-
-neg-times-neg : (q b : ℕ) → negℤ (pos q) *ℤ negsuc b ≡ pos (q * suc b)
-neg-times-neg zero b = rw (zero-mul (suc b))
-neg-times-neg (suc q) b = refl
+neg-product : (x y : ℤ) → negℤ x *ℤ y ≡ negℤ (x *ℤ y)
+neg-product (pos zero) y = rw (zero-*ℤ y) refl
+neg-product (pos (suc a)) (pos b) = refl
+neg-product (pos (suc a)) (negsuc b) = sym (negℤ-negℤ (pos (suc a * suc b)))
+neg-product (negsuc a) (pos b) = sym (negℤ-negℤ (pos (suc a * b)))
+neg-product (negsuc a) (negsuc b) = refl
 
 neg-sum : (m n : ℕ) → negℤ (pos m) +ℤ negℤ (pos n) ≡ negℤ (pos (m + n))
 neg-sum m n = sym (negℤ-+ℤ (pos m) (pos n))
 
--- x = q·y + r
-pub quotient-law : (x y : ℤ) → quotZ x y *ℤ y +ℤ remZ x y ≡ x
-quotient-law (pos a) (pos b) = ap pos (div-add-mod' a b)
-quotient-law (pos a) (negsuc b) =
-    ap (λ (z : ℤ). z +ℤ pos (a % suc b)) (neg-times-neg (a / suc b) b)
+-- ---- the kit's two make a division
+
+whole : (x y : ℤ) → quotZ x y *ℤ y +ℤ remZ x y ≡ x
+whole (pos a) (pos b) = ap pos (div-add-mod' a b)
+whole (pos a) (negsuc b) =
+    ap (λ (z : ℤ). z +ℤ pos (a % suc b)) (neg-product (pos (a / suc b)) (negsuc b) ∙ negℤ-negℤ (pos (a / suc b * suc b)))
     ∙ ap pos (div-add-mod' a (suc b))
-quotient-law (negsuc a) (pos b) =
-    ap (λ (z : ℤ). z +ℤ negℤ (pos (suc a % b))) (neg-times (suc a / b) b)
+whole (negsuc a) (pos b) =
+    ap (λ (z : ℤ). z +ℤ negℤ (pos (suc a % b))) (neg-product (pos (suc a / b)) (pos b))
     ∙ neg-sum (suc a / b * b) (suc a % b)
     ∙ ap (λ (n : ℕ). negℤ (pos n)) (div-add-mod' (suc a) b)
-quotient-law (negsuc a) (negsuc b) =
+whole (negsuc a) (negsuc b) =
     neg-sum (suc a / suc b * suc b) (suc a % suc b)
     ∙ ap (λ (n : ℕ). negℤ (pos n)) (div-add-mod' (suc a) (suc b))
 
@@ -35,17 +39,65 @@ abs-neg : (n : ℕ) → natAbs (negℤ (pos n)) ≡ n
 abs-neg zero = refl
 abs-neg (suc n) = refl
 
--- |r| < |y|
-pub remainder-small : (x y : ℤ) → 0 < natAbs y → natAbs (remZ x y) < natAbs y
-remainder-small (pos a) y h = mod-lt a h
-remainder-small (negsuc a) y h = rw (abs-neg (suc a % natAbs y)) (mod-lt (suc a) h)
+some : (y : ℤ) → y ≢ pos 0 → 0 < natAbs y
+some (pos zero) h = absurd (h refl)
+some (pos (suc n)) h = omega arith
+some (negsuc n) h = omega arith
 
--- n with the sign of x
-abbrev pub signedAs : ℤ → ℕ → ℤ
-signedAs (pos a) n = pos n
-signedAs (negsuc a) n = negℤ (pos n)
+division : (x y : ℤ) → y ≢ pos 0 → Division x y (quotZ x y) (remZ x y)
+division (pos a) y h = record { whole = whole (pos a) y; small = mod-lt a (some y h); sign = refl }
+division (negsuc a) y h =
+    let rest = abs-neg (suc a % natAbs y) in
+    record {
+      whole = whole (negsuc a) y;
+      small = rw rest (mod-lt (suc a) (some y h));
+      sign = rw rest refl;
+    }
 
--- r is of x's sign, or 0
-pub remainder-sign : (x y : ℤ) → remZ x y ≡ signedAs x (natAbs (remZ x y))
-remainder-sign (pos a) y = refl
-remainder-sign (negsuc a) y = rw (abs-neg (suc a % natAbs y))
+-- ---- and no other number does
+
+-- −m + n with n below m is below zero
+below : (m n a : ℕ) → n < m → negℤ (pos m) +ℤ pos n ≢ pos a
+below zero n a h e = omega arith
+below (suc m) n a h e = pos-ne-negsuc a (m - n) (sym e ∙ still)
+  where
+    still : negsuc m +ℤ pos n ≡ negsuc (m - n)
+    still = rw (lt-ltb n (suc m) h) (ap negsuc (omega arith))
+
+-- a rest that is below one part is below any number of them
+few : {n b : ℕ} (c : ℕ) → n < b → n < suc c * b
+few {b = b} c h = omega (arith, suc-mul c b)
+
+parts : {c b n a : ℕ} → n < b → c * b + n ≡ a → c ≡ a / b
+parts {c} {b} h e = sym (digits-div c h) ∙ ap (λ (m : ℕ). m / b) e
+
+-- from zero on
+only-above : (a n : ℕ) (y q : ℤ) → n < natAbs y → q *ℤ y +ℤ pos n ≡ pos a → q ≡ quotZ (pos a) y
+only-above a n (pos b) (pos c) h e = ap pos (parts h (ap natAbs e))
+only-above a n (pos b) (negsuc c) h e = absurd (below (suc c * b) n a (few c h) e)
+only-above a n (negsuc b) (pos zero) h e =
+    let rest = ap natAbs (sym (ap (λ (z : ℤ). z +ℤ pos n) (zero-*ℤ (negsuc b))) ∙ e) in
+    ap (λ (m : ℕ). negℤ (pos m)) (parts {c = 0} h (omega (arith, rest)))
+only-above a n (negsuc b) (pos (suc c)) h e = absurd (below (suc c * suc b) n a (few c h) e)
+only-above a n (negsuc b) (negsuc c) h e = ap (λ (m : ℕ). negℤ (pos m)) (parts {c = suc c} h (ap natAbs e))
+
+neg-quotient : (a : ℕ) (y : ℤ) → negℤ (quotZ (pos (suc a)) y) ≡ quotZ (negsuc a) y
+neg-quotient a (pos b) = refl
+neg-quotient a (negsuc b) = negℤ-negℤ (pos (suc a / suc b))
+
+only : (x y q r : ℤ) → Division x y q r → q ≡ quotZ x y
+only (pos a) y q r d = only-above a (natAbs r) y q (d .small) (ap (λ (z : ℤ). q *ℤ y +ℤ z) (sym (d .sign)) ∙ d .whole)
+only (negsuc a) y q r d =
+    let n = natAbs r in
+    let rest : negℤ r ≡ pos n = ap negℤ (d .sign) ∙ negℤ-negℤ (pos n) in
+    let above : negℤ q *ℤ y +ℤ pos n ≡ pos (suc a) =
+    ap (λ (z : ℤ). negℤ q *ℤ y +ℤ z) (sym rest)
+    ∙ ap (λ (z : ℤ). z +ℤ negℤ r) (neg-product q y)
+    ∙ sym (negℤ-+ℤ (q *ℤ y) r)
+    ∙ ap negℤ (d .whole)
+    in
+    sym (negℤ-negℤ q) ∙ ap negℤ (only-above (suc a) n y (negℤ q) (d .small) above) ∙ neg-quotient a y
+
+pub exact-quotient : ExactQuotient
+exact-quotient x y q h =
+    ((λ e. (remZ x y, rw e (division x y h))), λ d. only x y q (d .0) (d .1))

@@ -1,4 +1,5 @@
 pub mod Test
 pub mod Value
+pub mod Division
 pub mod Primitive
 pub mod Cases

@@ -36,7 +36,7 @@ sameInt (pos m) (negsuc n) = false
 sameInt (negsuc m) (pos n) = false
 sameInt (negsuc m) (negsuc n) = eqb m n
 
--- blank by 0, else cut toward zero: the kit's `quotZ`, whose laws are in proofs/Division.antt
+-- blank by 0, else cut toward zero: the kit's `quotZ`, which is the quotient of Division.antt
 unfoldable pub quotient : ℤ → ℤ → Value
 quotient x y = pick (isZero y) blank (within (quotZ x y))
 
