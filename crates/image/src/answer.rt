@@ -1,4 +1,4 @@
-// The number and the place that 01's table gives for start's answer.
+// The number and the place that the papers give for start's answer.
 use crate::Started;
 ghost use mathlib.Core.Path.{_≡_};
 ghost use Rattle.image.specs.Start.{numberOf, placeOf};

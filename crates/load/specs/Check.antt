@@ -23,7 +23,7 @@ abbrev pub placeOf : Checked → ℕ
 placeOf (Accepted size) = size
 placeOf (Refused w) = refusalPlace w
 
--- what a reactor's scan comes to: 3 to 6 at a command, 7 at its end, or on
+-- what a reactor's scan comes to: the refusal of a command at its byte, 7 at the reactor's end, or on
 unfoldable pub ended : (Unit {0} → Checked) → ℕ → Scanned → ℕ → Checked
 ended more entry t zero = guard (complete (t .scan)) (Refused (Missing entry)) more
 ended more entry t (suc n) = Refused (atCommand (suc n) (t .place))

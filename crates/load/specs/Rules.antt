@@ -3,11 +3,11 @@
 use Prim.Native.Nat.{ℕ, _+_, _≤_, _<_}
 use mathlib.Core.Path.{_≡_}
 use mathlib.Core.Bool.{true}
-use mathlib.Core.Logic.{_⊎_, _↔_, _≢_}
+use mathlib.Core.Logic.{_⊎_, _↔_}
 use mathlib.Core.List.{List}
 use lib.ListN.{length}
 use Rattle.value.specs.Value.{numberKind, truthKind, reactorKind}
-use Rattle.value.specs.Primitive.{rowOf, table, operands, remainder}
+use Rattle.value.specs.Primitive.{rowOf, operands, Offered}
 use Rattle.value.specs.declared.Takes.{Takes}
 use Rattle.value.specs.declared.Takes.the-variants.{TwoNumbers, OneTruth, TwoTruths, OneOfAny, TruthThenTwo, TwoAlike}
 use Rattle.program.specs.Bytes.{byte, mostBytes, mostShapes, mostReactors, mostGlobals, shapes, reactors, globals, globalKind, sourcesIn, sinksIn, sourceKind, sinkKind, entryAt, shapeOf, declared, running, mainOf, commandsIn, wholeLength}
@@ -92,7 +92,7 @@ module _ (p : List ℕ) (r : ℕ) where
   Operands l TwoAlike a b c = Value l a × Value l b × (kindOf p r a ≡ kindOf p r b)
 
   -- The command table, with "Ports must exist and kinds agree; an operator has kind 2 + the branch point's shape" and "AllocMono names a reactor of
-  -- lower number than its own". The remainder is no longer among the primitives: 02 (x). l is the command's own location.
+  -- lower number than its own". l is the command's own location.
   abbrev pub Right : ℕ → Cmd → Type 0
   Right l (allocMono x) = (x < reactors p) × (x < r)
   Right l (makePoly x) = x < shapes p
@@ -103,7 +103,7 @@ module _ (p : List ℕ) (r : ℕ) where
   Right l (consume x b) = Deployment l b × (x < sinksIn p (shapeThere p r b))
   Right l (sink x a) = Value l a × (x < sinks p r) × (kindOf p r a ≡ sinkKind p (shapeOf p r) x)
   Right l (allocPoly a b) = Value l a × Point b × (kindOf p r a ≡ reactorKind (shapeThere p r b))
-  Right l (primitive x a b c) = (x < length table) × (x ≢ remainder) × Operands l (rowOf x .takes) a b c
+  Right l (primitive x a b c) = Offered x × Operands l (rowOf x .takes) a b c
   Right l none = ⊥
 
   -- ---- the order of commands

@@ -1,4 +1,4 @@
-// The number and the place that 01's table gives for an answer.
+// The number and the place that the papers give for an answer.
 use crate::Checked;
 use crate::Refusal;
 ghost use mathlib.Core.Path.{_≡_};

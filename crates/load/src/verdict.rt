@@ -67,7 +67,7 @@ fn length_legal(n: usize) -> bool
     (8 <= n) & (n <= Header::MOST_BYTES)
 }
 
-// Accepted with the size of main, or refused with the number and the place that 01's table gives.
+// Accepted with the size of main, or refused with the number and the place that the papers give.
 pub fn check(program: &[u8]) -> Checked
     ensures { λ c. ⌜ c ≡ checkOf (now (program .entry)) ⌝ }
 {

@@ -5,9 +5,8 @@ use mathlib.Core.Path.{_≡_}
 use mathlib.Core.Bool.{true, false}
 use mathlib.Core.Logic.{_≢_}
 use mathlib.Core.List.{List, _∷_}
-use lib.ListN.{length}
 use Rattle.value.specs.Value.{blank, isBlank, deploymentMark}
-use Rattle.value.specs.Primitive.{table, operands}
+use Rattle.value.specs.Primitive.{operands, Offered}
 use Rattle.program.specs.Bytes.{reactors, globalKind, shapeOf, commandsIn}
 use Rattle.program.specs.Command.{Cmd, cmdOf, allocMono, makePoly, constant, global, supply, react, consume, sink, allocPoly, primitive, none}
 use Rattle.program.specs.Location.{sources, sinks, sinkLoc, sizeOf, cmdAt, shapeThere}
@@ -55,7 +54,7 @@ module _ (p m : List ℕ) (ns : List Note) (o : ℕ) where
 
   -- "A command can be carried out if a branch point it names heads a chain as in a sound image, and a deployment operand is .., at
   -- Supply and Consume with port x. Where there is a deployment, at Supply its port isn't noted yet; at React all its sources are and
-  -- it isn't noted as run; at Consume it is. At Sink the own sink isn't noted yet." A primitive is one of the table.
+  -- it isn't noted as run; at Consume it is. At Sink the own sink isn't noted yet." A primitive is one that programs may have.
   abbrev pub Can : Cmd → Type 0
   Can (allocMono x) = Unit {0}
   Can (makePoly x) = Unit {0}
@@ -66,7 +65,7 @@ module _ (p m : List ℕ) (ns : List Note) (o : ℕ) where
   Can (consume x b) = Operand b × Where b (λ d. (x < sinks p (reactor m d)) × (run d ∈ ns))
   Can (sink x a) = location o (sinkLoc p (reactor m o) x) ∈ ns → ⊥
   Can (allocPoly a b) = PointSlot p m o b (shapeThere p (reactor m o) b)
-  Can (primitive x a b c) = x < length table
+  Can (primitive x a b c) = Offered x
   Can none = ⊥
 
   -- "A command reads its value operands and operator; Global reads its global, Consume its deployment's sink if there is a

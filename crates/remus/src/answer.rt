@@ -1,4 +1,4 @@
-// The number and the place that 01's table gives for a turn's answer.
+// The number and the place that the papers give for a turn's answer.
 use crate::Turned;
 ghost use mathlib.Core.Path.{_≡_};
 ghost use Rattle.remus.specs.Turn.{numberOf, placeOf};

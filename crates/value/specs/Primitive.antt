@@ -1,7 +1,8 @@
 -- The primitives of 01, "Primitives": ONE table, a row for each number from 0 on, with what it takes, what it gives and what it
 -- means.
-use Prim.Native.Nat.{ℕ}
+use Prim.Native.Nat.{ℕ, _<_}
 use mathlib.Core.Bool.{Bool, true, false, not, _&&_, _||_}
+use mathlib.Core.Logic.{_≢_}
 use mathlib.Core.List.{List, [], _∷_}
 use lib.Dec.{eqb}
 use lib.ListN.{length, getD}
@@ -125,6 +126,10 @@ isPrimitive x = x <? length table
 -- whether 25 refuses it
 unfoldable pub isWithdrawn : ℕ → Bool
 isWithdrawn x = x =? remainder
+
+-- x is the number of a primitive that a program may have
+abbrev pub Offered : ℕ → Type 0
+Offered x = (x < length table) × (x ≢ remainder)
 
 -- what primitive x gives for the operands a, b, c; one that it does not take is not read
 unfoldable pub primitive : ℕ → Value → Value → Value → Value

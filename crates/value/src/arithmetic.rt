@@ -1,4 +1,4 @@
-// The primitives 0 to 6 on integers. Sums and products go by 64 bits, which hold them, and are then
+// The primitives on two numbers, as integers. Sums and products go by 64 bits, which hold them, and are then
 // brought back to 32.
 use crate::Operation;
 use crate::Value;

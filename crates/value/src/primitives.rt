@@ -10,7 +10,7 @@ ghost use Rattle.value.specs.Test.{pick, _and_};
 ghost use Rattle.value.specs.Value.{blank, truth, isTruth};
 ghost use Rattle.value.specs.Primitive as P;
 
-// The primitives 0 to 6: blank unless both are numbers.
+// The primitives on two numbers: blank unless both are.
 pub(crate) fn on_numbers(f: Operation, a: Value, b: Value) -> Value
     ensures { λ r. ⌜ r ≡ P.onNumbers (P.operation f) a b ⌝ }
 {

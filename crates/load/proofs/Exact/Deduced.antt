@@ -175,7 +175,7 @@ module _ (p : List ℕ) (r : ℕ) (u : ReactorRule p r) where
               (value-before i a (omega arith) (f .located .0), (shapeThere p r b, point-before i b (omega arith) (f .located .1), f .agreed));
           primitives = λ i x a b c h e.
               let f = fit i _ h e in (
-                f .ranged,
+                (f .ranged, f .remaining),
                 value-before i a (omega arith) (f .located .0),
                 ⊎-map (λ q. q) (value-before i b (omega arith)) (f .located .1),
                 ⊎-map (λ q. q) (value-before i c (omega arith)) (f .located .2),

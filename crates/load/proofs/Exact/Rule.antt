@@ -127,8 +127,7 @@ module _ (p : List ℕ) (r : ℕ) where
   right k (sink x a) few f = (values k a few .0 (f .located), f .agreed .0, f .agreed .1)
   right k (allocPoly a b) few f = (values k a few .0 (f .located .0), point-of k b few (f .located .1), f .agreed)
   right k (primitive x a b c) few f = (
-    f .ranged,
-    f .remaining,
+    (f .ranged, f .remaining),
     operands-of (commandLoc p r k) (rowOf x .takes) a b c .0 (
       values k a few .0 (f .located .0),
       ⊎-map (λ h. h) (values k b few .0) (f .located .1),
@@ -267,10 +266,10 @@ module _ (p : List ℕ) (r : ℕ) where
           let at = point-there k few (D-early k (R-late _ e refl)) b (g .1) in
           (tt, tt, (values k a few .1 (g .0), at), g .2, first (Allocates p r b) (t .0) (t .1) (a, e))
       fitted (primitive x a b c) e g =
-          let o = operands-of (commandLoc p r k) (rowOf x .takes) a b c .1 (g .2) in
+          let o = operands-of (commandLoc p r k) (rowOf x .takes) a b c .1 (g .1) in
           let bs = ⊎-map (λ h. h) (values k b few .1) (o .1) in
           let cs = ⊎-map (λ h. h) (values k c few .1) (o .2) in
-          (g .0, g .1, (values k a few .1 (o .0), bs, cs), o .3, tt)
+          (g .0 .0, g .0 .1, (values k a few .1 (o .0), bs, cs), o .3, tt)
       fitted none e g = absurd g
 
       fits : Fits p r k (cmdOf p r k)

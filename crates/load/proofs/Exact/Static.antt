@@ -4,9 +4,8 @@ use mathlib.Core.Path.{_≡_}
 use mathlib.Core.Bool.{true, false}
 use mathlib.Core.Logic.{_⊎_}
 use mathlib.Core.List.{List}
-use lib.ListN.{length}
 use Rattle.value.specs.Value.{reactorKind}
-use Rattle.value.specs.Primitive.{rowOf, table, operands, kindGiven}
+use Rattle.value.specs.Primitive.{rowOf, operands, kindGiven, Offered}
 use Rattle.program.specs.Bytes.{shapes, reactors, globals, globalKind, shapeOf, sourcesIn, sinksIn, declared, commandsIn}
 use Rattle.program.specs.Command.{cmdOf, sequenceOf, givesValue, D, R, allocMono, makePoly, constant, global, supply, react, consume, sink, allocPoly, primitive}
 use Rattle.program.specs.Location.{sources, sinks, commandLoc, sinkLoc, shapeThere}
@@ -49,7 +48,7 @@ module _ (p : List ℕ) (r : ℕ) where
     pub polys : (i a b : ℕ) → i < commandsIn p r → cmdOf p r i ≡ allocPoly a b →
         ValueBefore i a × ((s : ℕ) × PointBefore i s b × (kindOf p r a ≡ reactorKind s))
     pub primitives : (i x a b c : ℕ) → i < commandsIn p r → cmdOf p r i ≡ primitive x a b c →
-        (x < length table) × ValueBefore i a × ((operands x < 2) ⊎ ValueBefore i b) × ((operands x < 3) ⊎ ValueBefore i c)
+        Offered x × ValueBefore i a × ((operands x < 2) ⊎ ValueBefore i b) × ((operands x < 3) ⊎ ValueBefore i c)
         × KindsFit (rowOf x .takes) (kindOf p r a) (kindOf p r b) (kindOf p r c)
         × (kindOf p r (commandLoc p r i) ≡ kindGiven (rowOf x .gives) (kindOf p r b))
     -- a command that gives no value has kind 0, so no reactor's
