@@ -31,8 +31,8 @@ nest =
     ∷ command 2 0 0 0 0  -- 0 a branch point of shape 0
     ∷ command 3 2 0 0 0 ∷ command 9 0 1 0 0 ∷ command 6 0 0 2 0 ∷ command 7 0 0 2 0 ∷ command 8 0 4 0 0 ∷ [])
 
--- "Toggle program: plus and minus (reactors 0 and 1, size 13), main of size 39 chooses minus on odd time." Since 02 (x) it tells
--- odd from even by times and divide.
+-- The toggle program: reactors 0 and 1 of size 13, plus and minus; main, of size 39, takes minus where the time is odd, which it
+-- tells by times and divide: 02 (x).
 abbrev pub toggle : List ℕ
 toggle =
     joined (

@@ -52,9 +52,9 @@ module _ (p m : List ℕ) (ns : List Note) (o : ℕ) where
   abbrev pub Where : ℕ → (ℕ → Type 0) → Type 0
   Where b P = there p m o b ≡ true → P (content p m o b)
 
-  -- "A command can be carried out if a branch point it names heads a chain as in a sound image, and a deployment operand is .., at
-  -- Supply and Consume with port x. Where there is a deployment, at Supply its port isn't noted yet; at React all its sources are and
-  -- it isn't noted as run; at Consume it is. At Sink the own sink isn't noted yet." A primitive is one that programs may have.
+  -- What lets a command be carried out. A branch point: it heads a chain as in a sound image. A deployment operand: as `Operand`
+  -- says, and where there is one, it has the port; Supply comes to a source without a note, React when all sources have theirs and
+  -- it has not run, Consume when it has. An own sink has no note yet. A primitive is one that programs may have.
   abbrev pub Can : Cmd → Type 0
   Can (allocMono x) = Unit {0}
   Can (makePoly x) = Unit {0}
