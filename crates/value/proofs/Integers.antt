@@ -1,7 +1,7 @@
 -- Signed integers as the machine has them: bits, read by `toZ` and written by `ofZ`. What is read back, which results fit, and
 -- what the operations of specs/Primitive.antt are where they fit. All signed reasoning of the crate is here. Assumes nothing.
-use Prim.Native.Nat.{ℕ, zero, suc, _+_, _-_, _*_, _/_, _^_, _≤_, _<_}
-use native.Mathlib.Nat.{mul-le-mul, zero-add, div-one, div-le-self, div-lt-self}
+use Prim.Native.Nat.{ℕ, zero, suc, _+_, _-_, _*_, _/_, _%_, _^_, _≤_, _<_}
+use native.Mathlib.Nat.{mul-le-mul, zero-add, div-one, div-le-self, div-lt-self, mod-lt}
 use native.Mathlib.Omega.{arith}
 use mathlib.Core.Path.{_≡_, refl, sym, ap, subst, _∙_}
 use mathlib.Core.Bool.{Bool, true, false, cond}
@@ -11,10 +11,10 @@ use lib.IntN.{ℤ, pos, negsuc, negℤ, natAbs, _+ℤ_, _-ℤ_, _*ℤ_, +ℤ-idl
 use lib.Signed.{mag, natAbs-le, ltZ, quotZ}
 use mir.Syntax.{w32, w64}
 use mir.Val.{SFits, Fits, toZ, ofZ}
-use mir.Facts.{toZ-ofZ, ofZ-toZ, toZ-pos, sfits-widen, fits-lit}
+use mir.Facts.{toZ-ofZ, ofZ-toZ, toZ-pos, sfits-toZ, sfits-widen, fits-lit}
 use Rattle.value.specs.Test.{pick}
 use Rattle.value.specs.Value.{blank, number}
-use Rattle.value.specs.Primitive.{within, isZero, sameInt, quotient}
+use Rattle.value.specs.Primitive.{in32, within, isZero, sameInt, quotient, goesRound}
 
 -- ---- read back
 
@@ -174,10 +174,13 @@ in-fits : (z : ℤ) → ltZ z (negsuc 2147483647) ≡ false → ltZ (pos 2147483
 in-fits (pos n) e h = record { sfits = omega (arith, ltb-false 2147483647 n h) }
 in-fits (negsuc n) e h = record { sfits = omega (arith, ltb-false 2147483647 n e) }
 
+pub fits-in : (z : ℤ) → SFits w32 z → in32 z ≡ true
+fits-in (pos n) f = rw (le-ltb 2147483647 n (omega (arith, f .sfits)))
+fits-in (negsuc n) f = rw (le-ltb 2147483647 n (omega (arith, f .sfits)))
+
 is-within : (z : ℤ) → SFits w32 z → within z ≡ number z
 unfolding within pick
-is-within (pos n) f = rw (le-ltb 2147483647 n (omega (arith, f .sfits)))
-is-within (negsuc n) f = rw (le-ltb 2147483647 n (omega (arith, f .sfits)))
+is-within z f = rw (fits-in z f)
 
 -- `narrow`, on an integer of 64 bits: `read` is that integer as the machine reads it back
 module _ {z : ℤ} (f : SFits w64 z) where
@@ -270,3 +273,26 @@ module _ {x y : ℤ} (f : SFits w32 x) (g : SFits w32 y) (h : ofZ w32 y ≡ 0 �
     pub divided : number (back (quotZ (back x) (back y))) ≡ quotient x y
     unfolding quotient pick
     divided = rw (is-back f, is-back g, is-back quot-fits, nonzero y h) (sym (is-within (quotZ x y) quot-fits))
+
+-- ---- difference of ticks
+
+pub round-fits : (x y : ℤ) → SFits w32 (goesRound x y)
+unfolding goesRound
+round-fits x y = sfits-toZ (record { fits = mod-lt (ofZ w32 x + (2 ^ 32 - ofZ w32 y)) (omega arith) })
+
+-- r, the machine's wrapping difference of the words a and b of x and y
+pub rounds :
+    {x y : ℤ} {a b r : ℕ} →
+    SFits w32 x →
+    SFits w32 y →
+    a ≡ ofZ w32 (back x) →
+    b ≡ ofZ w32 (back y) →
+    a < 2 ^ 32 →
+    b < 2 ^ 32 →
+    r < 2 ^ 32 →
+    (r + b) % 2 ^ 32 ≡ a →
+    toZ w32 r ≡ goesRound x y
+unfolding goesRound
+rounds {a = a} {b = b} {r = r} f g d e ha hb hr h =
+    let q : r ≡ (a + (2 ^ 32 - b)) % 2 ^ 32 = omega arith in
+    rw (← is-back f, ← is-back g, ← d, ← e) (ap (toZ w32) q)

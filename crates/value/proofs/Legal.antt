@@ -11,17 +11,18 @@ use lib.ListN.{getD}
 use lib.IntN.{ℤ, pos, negsuc, _+ℤ_, _-ℤ_, _*ℤ_}
 use lib.Signed.{ltZ, quotZ}
 use borrow.Author.Tests.{ltb-false}
+use Rattle.value.proofs.Integers.{fits-in, round-fits}
 use Rattle.value.proofs.Tests.{pick-any, eq?, both?, not-true}
 use Rattle.value.specs.Test.{pick, _and_, _=?_}
 use Rattle.value.specs.Value.{numberKind, truthKind, markOf, blank, number, truth, isBlank, isNumber, isTruth, isTrue, intOf, OfKind}
-use Rattle.value.specs.Primitive.{in32, within, isZero, sameInt, quotient, operation, onNumbers, onTruth, onTruths, known, choose, instead, Row, row, numeric, table, none, rowOf, primitive, countOf, operands, kindsFit, kindGiven}
+use Rattle.value.specs.Primitive.{in32, within, isZero, sameInt, quotient, goesRound, operation, onNumbers, onTruth, onTruths, known, choose, instead, Row, row, numeric, table, none, rowOf, primitive, countOf, operands, kindsFit, kindGiven}
 use Rattle.value.specs.declared.Value.{Value}
 use Rattle.value.specs.declared.Takes.{Takes}
 use Rattle.value.specs.declared.Takes.the-variants.{TwoNumbers, OneTruth, TwoTruths, OneOfAny, TruthThenTwo, TwoAlike}
 use Rattle.value.specs.declared.Gives.{Gives}
 use Rattle.value.specs.declared.Gives.the-variants.{ANumber, ATruth, TheirKind}
 use Rattle.value.specs.declared.Operation.{Operation}
-use Rattle.value.specs.declared.Operation.the-variants.{Add, Subtract, Times, Divide, Less, Equal}
+use Rattle.value.specs.declared.Operation.the-variants.{Add, Subtract, Times, Divide, Less, Equal, TickDifference}
 
 -- ---- row by row
 
@@ -117,6 +118,7 @@ module _
         ◂ any
         ◂ choice
         ◂ alike
+        ◂ numbers TickDifference ANumber (λ k x y. is-number (goesRound x y) (fits-in (goesRound x y) (round-fits x y)))
         ◂ end
 
     pub primitive-is :

@@ -5,4 +5,5 @@ pub mod Integers
 pub mod Rows
 pub mod Legal
 pub mod Division
+pub mod Ticks
 pub mod Zeros

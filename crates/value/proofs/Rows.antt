@@ -27,6 +27,6 @@ missed k zero x low m = omega arith
 missed k (suc n) x low m = omega (arith, missed k n x low (m .0), m .1)
 
 -- a number past the table is no primitive's
-pub past : (x : ℕ) → 13 ≤ x → rowOf x ≡ none
+pub past : (x : ℕ) → 14 ≤ x → rowOf x ≡ none
 unfolding rowOf table
 past x h = List·getD-eq-default table none h

@@ -2,4 +2,5 @@ pub mod Test
 pub mod Value
 pub mod Division
 pub mod Primitive
+pub mod Ticks
 pub mod Cases

@@ -1,6 +1,6 @@
 -- The primitives of 01, "Primitives": ONE table, a row for each number from 0 on, with what it takes, what it gives and what it
 -- means.
-use Prim.Native.Nat.{ℕ, _<_}
+use Prim.Native.Nat.{ℕ, _+_, _-_, _%_, _^_, _<_}
 use mathlib.Core.Bool.{Bool, true, false, not, _&&_, _||_}
 use mathlib.Core.Logic.{_≢_}
 use mathlib.Core.List.{List, [], _∷_}
@@ -8,6 +8,8 @@ use lib.Dec.{eqb}
 use lib.ListN.{length, getD}
 use lib.IntN.{ℤ, pos, negsuc, _+ℤ_, _-ℤ_, _*ℤ_}
 use lib.Signed.{ltZ, quotZ}
+use mir.Syntax.{w32}
+use mir.Val.{toZ, ofZ}
 use Rattle.value.specs.Test.{pick, _<?_, _=?_, _and_}
 use Rattle.value.specs.Value.{blank, number, truth, isBlank, isNumber, isTruth, isTrue, intOf, numberKind, truthKind}
 use Rattle.value.specs.declared.Value.{Value}
@@ -16,7 +18,7 @@ use Rattle.value.specs.declared.Takes.the-variants.{TwoNumbers, OneTruth
 use Rattle.value.specs.declared.Gives.{Gives}
 use Rattle.value.specs.declared.Gives.the-variants.{ANumber, ATruth, TheirKind}
 use Rattle.value.specs.declared.Operation.{Operation}
-use Rattle.value.specs.declared.Operation.the-variants.{Add, Subtract, Times, Divide, Less, Equal}
+use Rattle.value.specs.declared.Operation.the-variants.{Add, Subtract, Times, Divide, Less, Equal, TickDifference}
 
 -- ---- integers
 
@@ -41,7 +43,11 @@ sameInt (negsuc m) (negsuc n) = eqb m n
 unfoldable pub quotient : ℤ → ℤ → Value
 quotient x y = pick (isZero y) blank (within (quotZ x y))
 
--- the primitives on two numbers, in their order: 0 to 3, 5 and 6
+-- x less y by their words, going round at 32 bits and read as signed, which is the difference of Ticks.antt: 02 (xii)
+unfoldable pub goesRound : ℤ → ℤ → ℤ
+goesRound x y = toZ w32 ((ofZ w32 x + (2 ^ 32 - ofZ w32 y)) % 2 ^ 32)
+
+-- the primitives on two numbers, in their order: 0 to 3, 5, 6 and 13
 unfoldable pub operation : Operation → ℤ → ℤ → Value
 operation Add x y = within (x +ℤ y)
 operation Subtract x y = within (x -ℤ y)
@@ -49,8 +55,10 @@ operation Times x y = within (x *ℤ y)
 operation Divide x y = quotient x y
 operation Less x y = truth (ltZ x y)
 operation Equal x y = truth (sameInt x y)
+operation TickDifference x y = number (goesRound x y)
 
--- ---- values. "Any blank operand of 0 to 9 gives blank." So does one of another kind, which no accepted program passes.
+-- ---- values. "Any blank operand of 0 to 9 gives blank.", and of 13: 02 (xii). So does one of another kind, which no accepted
+-- program passes.
 
 unfoldable pub onNumbers : (ℤ → ℤ → Value) → Value → Value → Value
 onNumbers f a b = pick (isNumber a and isNumber b) (f (intOf a) (intOf b)) blank
@@ -110,6 +118,7 @@ table =
     ∷ row OneOfAny ATruth (λ a b c. known a)  -- 10
     ∷ row TruthThenTwo TheirKind choose  -- 11
     ∷ row TwoAlike TheirKind (λ a b c. instead a b)  -- 12
+    ∷ numeric TickDifference ANumber  -- 13
     ∷ []
 
 -- the row of a number that is no primitive's
@@ -119,7 +128,7 @@ none = row OneOfAny ANumber (λ a b c. blank)
 unfoldable pub rowOf : ℕ → Row
 rowOf x = getD table x none
 
--- "x from 0 to 12"
+-- x from 0 to 13: 02 (xii)
 unfoldable pub isPrimitive : ℕ → Bool
 isPrimitive x = x <? length table
 

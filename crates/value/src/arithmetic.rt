@@ -2,9 +2,13 @@
 // brought back to 32.
 use crate::Operation;
 use crate::Value;
+use crate::integer::signed;
+use crate::integer::word;
+use std::num::wrapping_sub_u32;
 ghost use mathlib.Core.Path.{_≡_};
 ghost use lib.IntN.{negℤ, _+ℤ_, _-ℤ_, _*ℤ_};
-ghost use Rattle.value.specs.Primitive.{within, quotient, operation};
+ghost use Rattle.value.specs.Value.{number};
+ghost use Rattle.value.specs.Primitive.{within, quotient, goesRound, operation};
 
 // A result of 64 bits: blank where 32 bits do not hold it.
 pub(crate) fn narrow(z: i64) -> Value
@@ -61,6 +65,13 @@ pub(crate) fn divide(x: i32, y: i32) -> Value
     Value::number(x / y)
 }
 
+// The difference of two counters of 32 bits, which go round: that of their words.
+pub(crate) fn tick_difference(x: i32, y: i32) -> Value
+    ensures { λ r. ⌜ r ≡ number (goesRound x y) ⌝ }
+{
+    Value::number(signed(wrapping_sub_u32(word(x), word(y))))
+}
+
 pub(crate) fn operate(f: Operation, x: i32, y: i32) -> Value
     ensures { λ r. ⌜ r ≡ operation f x y ⌝ }
 {
@@ -71,5 +82,6 @@ pub(crate) fn operate(f: Operation, x: i32, y: i32) -> Value
         Operation::Divide => divide(x, y),
         Operation::Less => Value::truth(x < y),
         Operation::Equal => Value::truth(x == y),
+        Operation::TickDifference => tick_difference(x, y),
     }
 }

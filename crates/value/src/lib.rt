@@ -95,4 +95,5 @@ pub enum Operation {
     Divide,
     Less,
     Equal,
+    TickDifference,
 }

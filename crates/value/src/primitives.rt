@@ -97,6 +97,7 @@ pub fn primitive(op: u8, a: Value, b: Value, c: Value) -> Value
         10 => known(a),
         11 => choose(a, b, c),
         12 => instead(a, b),
+        13 => on_numbers(Operation::TickDifference, a, b),
         _ => Value::blank(),
     }
 }

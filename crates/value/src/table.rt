@@ -7,7 +7,7 @@ ghost use Rattle.value.specs.Primitive as P;
 pub fn is_primitive(op: u8) -> bool
     ensures { λ r. ⌜ r ≡ P.isPrimitive op ⌝ }
 {
-    op < 13
+    op < 14
 }
 
 // Whether the check refuses it by name.
@@ -27,6 +27,7 @@ pub(crate) fn takes_of(op: u8) -> Takes
         10 => Takes::OneOfAny,
         11 => Takes::TruthThenTwo,
         12 => Takes::TwoAlike,
+        13 => Takes::TwoNumbers,
         _ => Takes::OneOfAny,
     }
 }
@@ -38,6 +39,7 @@ pub(crate) fn gives_of(op: u8) -> Gives
         0..=4 => Gives::ANumber,
         5..=10 => Gives::ATruth,
         11..=12 => Gives::TheirKind,
+        13 => Gives::ANumber,
         _ => Gives::ANumber,
     }
 }

@@ -40,11 +40,18 @@ returns-6 c =
     let f = c .before .before .before .fits in
     rw (c .before .enum-told6 .given .1, ← same-bits _ _ (f .x) (f .y)) (c .truth2 .ensures)
 
+returns-7 : tie.Need-returns-7
+unfolding operation
+returns-7 c =
+    let f = c .before .before .before .fits in
+    rw (c .before .enum-told7 .given .1) (rw (is-back (f .x), is-back (f .y)) at (c .tick-difference .ensures))
+
 pub operate-spec : {M : Type 1} → statement M
 operate-spec =
     tie.close
     (tie.spec
     (λ c. search needs) (λ c κs. search needs) (λ c. search needs) (λ c κs. search needs)
     (λ c. search needs) (λ c κs. search needs) (λ c. search needs) (λ c κs. search needs)
-    (λ c. search needs) (λ c κs. search needs) (λ c. search needs) (λ c κs. search needs) returns
-    returns-2 returns-3 returns-4 returns-5 returns-6)
+    (λ c. search needs) (λ c κs. search needs) (λ c. search needs) (λ c κs. search needs)
+    (λ c. search needs) (λ c κs. search needs) returns returns-2 returns-3 returns-4 returns-5 returns-6
+    returns-7)

@@ -59,8 +59,12 @@ returns-13 c = rw (c .before .match .keys13) (c .instead .ensures)
 
 returns-14 : tie.Need-returns-14
 unfolding primitive rowOf table
-returns-14 c =
-    rw (past (c .before .before .args .op) (missed 0 13 (c .before .before .args .op) (omega arith) (c .before .match .rest))) (c .blank2 .ensures)
+returns-14 c = rw (c .before .match .keys14) (c .on-numbers7 .ensures)
+
+returns-15 : tie.Need-returns-15
+unfolding primitive rowOf table
+returns-15 c =
+    rw (past (c .before .before .args .op) (missed 0 14 (c .before .before .args .op) (omega arith) (c .before .match .rest))) (c .blank2 .ensures)
 
 pub primitive-spec : {M : Type 1} → statement M
 primitive-spec =
@@ -69,5 +73,6 @@ primitive-spec =
     (λ c κs. search needs) (λ c κs. search needs) (λ c κs. search needs) (λ c κs. search needs)
     (λ c κs. search needs) (λ c κs. search needs) (λ c κs. search needs) (λ c κs. search needs)
     (λ c κs. search needs) (λ c κs. search needs) (λ c κs. search needs) (λ c κs. search needs)
-    (λ c κs. search needs) (λ c κs. search needs) returns returns-2 returns-3 returns-4 returns-5
-    returns-6 returns-7 returns-8 returns-9 returns-10 returns-11 returns-12 returns-13 returns-14)
+    (λ c κs. search needs) (λ c κs. search needs) (λ c κs. search needs) returns returns-2 returns-3
+    returns-4 returns-5 returns-6 returns-7 returns-8 returns-9 returns-10 returns-11 returns-12
+    returns-13 returns-14 returns-15)

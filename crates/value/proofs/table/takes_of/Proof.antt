@@ -25,22 +25,26 @@ returns-4 c = rw (c .match .keys4)
 
 returns-5 : tie.Need-returns-5
 unfolding rowOf table
-returns-5 c =
-    each (λ (x : ℕ). TwoNumbers ≡ rowOf x .takes) 0 7 (refl, (refl, (refl, (refl, (refl, (refl, (refl, tt)))))))
-    (c .before .before .args .op) (omega arith) (omega arith)
+returns-5 c = rw (c .match .keys5)
 
 returns-6 : tie.Need-returns-6
 unfolding rowOf table
 returns-6 c =
-    each (λ (x : ℕ). TwoTruths ≡ rowOf x .takes) 8 2 (refl, (refl, tt))
-    (c .before .before .before .args .op) (omega (arith, c .before .before .match .rest .0 .0 .0 .1)) (omega arith)
+    each (λ (x : ℕ). TwoNumbers ≡ rowOf x .takes) 0 7 (refl, (refl, (refl, (refl, (refl, (refl, (refl, tt)))))))
+    (c .before .before .args .op) (omega arith) (omega arith)
 
 returns-7 : tie.Need-returns-7
 unfolding rowOf table
 returns-7 c =
+    each (λ (x : ℕ). TwoTruths ≡ rowOf x .takes) 8 2 (refl, (refl, tt))
+    (c .before .before .before .args .op) (omega (arith, c .before .before .match .rest .0 .0 .0 .0 .1)) (omega arith)
+
+returns-8 : tie.Need-returns-8
+unfolding rowOf table
+returns-8 c =
     let m = c .before .before .match in
     let op = c .before .before .before .args .op in
-    rw (past op (missed 10 3 op (omega arith) (((tt, m .rest .0 .0 .1), m .rest .0 .1), m .rest .1)))
+    rw (past op (missed 10 4 op (omega arith) ((((tt, m .rest .0 .0 .0 .1), m .rest .0 .0 .1), m .rest .0 .1), m .rest .1)))
 
 pub takes-of-spec : {M : Type 1} → statement M
-takes-of-spec = tie.close (tie.spec returns returns-2 returns-3 returns-4 returns-5 returns-6 returns-7)
+takes-of-spec = tie.close (tie.spec returns returns-2 returns-3 returns-4 returns-5 returns-6 returns-7 returns-8)

@@ -1,0 +1,121 @@
+-- The primitive's difference of ticks is the one of `Difference`: `exact-difference`. An integer is told by two naturals whose
+-- difference it is, so that each step is one of sums of naturals. Assumes nothing.
+use Prim.Native.Nat.{ℕ, zero, suc, _+_, _-_, _*_, _/_, _%_, _^_, _≤_, _<_}
+use native.Mathlib.Nat.{mod-lt, div-add-mod'}
+use native.Mathlib.Omega.{arith}
+use mathlib.Core.Path.{_≡_, refl, ap}
+use mathlib.Core.Bool.{true, false, false≢true}
+use mathlib.Core.Logic.{_↔_}
+use lib.Dec.{ltb}
+use lib.IntN.{ℤ, pos, negsuc, negℤ, subℕ, _+ℤ_, _-ℤ_, _*ℤ_}
+use borrow.Author.Tests.{ltb-true, ltb-false}
+use mir.Syntax.{w32}
+use mir.Val.{toZ, ofZ}
+use Rattle.value.specs.Primitive.{in32, goesRound}
+use Rattle.value.specs.Ticks.{ExactDifference}
+use Rattle.value.proofs.Tests.{cases, not-true}
+use Rattle.value.proofs.Integers.{fits-in, round-fits}
+
+-- ---- an integer as a difference
+
+abbrev over : ℤ → ℕ
+over (pos n) = n
+over (negsuc n) = 0
+
+abbrev under : ℤ → ℕ
+under (pos n) = 0
+under (negsuc n) = suc n
+
+same : (x y : ℤ) → over x + under y ≡ over y + under x → x ≡ y
+same (pos a) (pos b) e = ap pos (omega arith)
+same (pos a) (negsuc b) e = absurd (omega arith)
+same (negsuc a) (pos b) e = absurd (omega arith)
+same (negsuc a) (negsuc b) e = ap negsuc (omega arith)
+
+less : (a b : ℕ) → over (subℕ a b) + b ≡ a + under (subℕ a b)
+less a b = cases (ltb a b) below above
+  where
+    below : ltb a b ≡ true → over (subℕ a b) + b ≡ a + under (subℕ a b)
+    below e = let h : a < b = ltb-true a b e in rw e (omega arith)
+
+    above : ltb a b ≡ false → over (subℕ a b) + b ≡ a + under (subℕ a b)
+    above e = let h : b ≤ a = ltb-false a b e in rw e (omega arith)
+
+sum : (x y : ℤ) → over (x +ℤ y) + (under x + under y) ≡ over x + over y + under (x +ℤ y)
+sum (pos a) (pos b) = omega arith
+sum (pos a) (negsuc b) = omega (arith, less a (suc b))
+sum (negsuc a) (pos b) = omega (arith, less b (suc a))
+sum (negsuc a) (negsuc b) = omega arith
+
+over-neg : (x : ℤ) → over (negℤ x) ≡ under x
+over-neg (pos zero) = refl
+over-neg (pos (suc n)) = refl
+over-neg (negsuc n) = refl
+
+under-neg : (x : ℤ) → under (negℤ x) ≡ over x
+under-neg (pos zero) = refl
+under-neg (pos (suc n)) = refl
+under-neg (negsuc n) = refl
+
+scaled : (k : ℤ) → (over (k *ℤ pos (2 ^ 32)) ≡ over k * 2 ^ 32) × (under (k *ℤ pos (2 ^ 32)) ≡ under k * 2 ^ 32)
+scaled (pos n) = (refl, refl)
+scaled (negsuc n) = (over-neg (pos (suc n * 2 ^ 32)), under-neg (pos (suc n * 2 ^ 32)))
+
+-- x − y is d and k turns, with all that is subtracted brought to the other side
+abbrev Balanced : ℤ → ℤ → ℤ → ℤ → Type 0
+Balanced x y d k = over d + over k * 2 ^ 32 + (under x + over y) ≡ over x + under y + (under d + under k * 2 ^ 32)
+
+balances : (x y d k : ℤ) → (d +ℤ k *ℤ pos (2 ^ 32) ≡ x -ℤ y) ↔ Balanced x y d k
+balances x y d k =
+    let whole = sum d (k *ℤ pos (2 ^ 32)) in
+    let parts = sum x (negℤ y) in
+    let m = scaled k in (
+      λ e. omega (arith, whole, parts, m .0, m .1, over-neg y, under-neg y, ap over e, ap under e),
+      λ h. same _ _ (omega (arith, whole, parts, m .0, m .1, over-neg y, under-neg y, h)),
+    )
+
+-- ---- no other number
+
+inside : (z : ℤ) → in32 z ≡ true → (over z < 2 ^ 31) × (under z ≤ 2 ^ 31)
+inside (pos n) e = (omega (arith, ltb-false 2147483647 n (not-true (ltb 2147483647 n) e)), omega arith)
+inside (negsuc n) e =
+    cases (ltb 2147483647 n) (λ h. absurd (false≢true (rw h at e)))
+    (λ h. (omega arith, omega (arith, ltb-false 2147483647 n h)))
+
+only : (x y d e j k : ℤ) → in32 d ≡ true → in32 e ≡ true → Balanced x y d j → Balanced x y e k → d ≡ e
+only x y d e j k f g b c = same d e (omega (arith, inside d f, inside e g, b, c))
+
+-- ---- and this one
+
+-- a word is its integer but for one turn at most; so is what an integer is written as
+read : (r : ℕ) → r < 2 ^ 32 → (t : ℕ) × (over (toZ w32 r) + t * 2 ^ 32 ≡ r + under (toZ w32 r))
+read r h = cases (ltb r (2 ^ 31)) low high
+  where
+    low : ltb r (2 ^ 31) ≡ true → (t : ℕ) × (over (toZ w32 r) + t * 2 ^ 32 ≡ r + under (toZ w32 r))
+    low e = rw e (0, omega arith)
+
+    high : ltb r (2 ^ 31) ≡ false → (t : ℕ) × (over (toZ w32 r) + t * 2 ^ 32 ≡ r + under (toZ w32 r))
+    high e = rw e (1, omega arith)
+
+written : (z : ℤ) → in32 z ≡ true → (t : ℕ) × (ofZ w32 z + under z ≡ over z + t * 2 ^ 32) × (ofZ w32 z < 2 ^ 32)
+written (pos n) e = (0, omega arith, omega (arith, inside (pos n) e .0))
+written (negsuc n) e = (1, omega (arith, inside (negsuc n) e .1), omega arith)
+
+turned : (x y : ℤ) → in32 x ≡ true → in32 y ≡ true → (k : ℤ) × Balanced x y (goesRound x y) k
+unfolding goesRound
+turned x y f g =
+    let n = ofZ w32 x + (2 ^ 32 - ofZ w32 y) in
+    let s = written x f in
+    let t = written y g in
+    let u = read (n % 2 ^ 32) (mod-lt n (omega arith)) in
+    let up = u .0 + n / 2 ^ 32 + t .0 in
+    let down = s .0 + 1 in
+    (subℕ up down, omega (arith, less up down, s .1, t .1, t .2, u .1, div-add-mod' n (2 ^ 32)))
+
+pub exact-difference : ExactDifference
+exact-difference x y d f g =
+    let k = turned x y f g in
+    let fits = fits-in (goesRound x y) (round-fits x y) in (
+      λ e. rw e (record { inside = fits; turns = (k .0, balances x y (goesRound x y) (k .0) .1 (k .1)) }),
+      λ h. only x y d (goesRound x y) (h .turns .0) (k .0) (h .inside) fits (balances x y d (h .turns .0) .0 (h .turns .1)) (k .1),
+    )
