@@ -1,4 +1,5 @@
-// The cases of 01 about primitives: the starred ones first, then its rules on bounds and blanks.
+// The cases of 01 about primitives: the starred ones first, then its rules on bounds and blanks; and those of
+// 02 (xii).
 use crate::text::put;
 use crate::text::put_value;
 use value::Value;
@@ -26,6 +27,8 @@ const KNOWN: u8 = 10;
 const CHOOSE: u8 = 11;
 
 const INSTEAD: u8 = 12;
+
+const TICK_DIFFERENCE: u8 = 13;
 
 const LOWEST: i32 = -2147483648;
 
@@ -102,8 +105,21 @@ fn blanks() {
     infix(Value::blank(), INSTEAD, b" instead ", Value::number(9));
 }
 
+// The difference of ticks goes round at 32 bits.
+fn ticks() {
+    let since = b" since ";
+    numbers(LOWEST, TICK_DIFFERENCE, since, HIGHEST);
+    numbers(HIGHEST, TICK_DIFFERENCE, since, LOWEST);
+    numbers(0, TICK_DIFFERENCE, since, LOWEST);
+    numbers(-5, TICK_DIFFERENCE, since, -5);
+    numbers(5, TICK_DIFFERENCE, since, 7);
+    infix(Value::blank(), TICK_DIFFERENCE, since, Value::number(5));
+    infix(Value::number(5), TICK_DIFFERENCE, since, Value::blank());
+}
+
 pub fn print_all() {
     starred();
     bounds();
     blanks();
+    ticks();
 }

@@ -479,6 +479,14 @@ pub fn print_checks() {
     let mut stocked = TOGGLE;
     stocked[127] = 4;
     put_check(b"toggle with a remainder where it divides", &stocked);
+    let mut ticking = TOGGLE;
+    ticking[71] = 13;
+    put_check(
+        b"toggle with a tick difference where it subtracts",
+        &ticking,
+    );
+    ticking[71] = 14;
+    put_check(b"toggle with no primitive where it subtracts", &ticking);
 }
 
 // A line `name, n words: start number, place`.

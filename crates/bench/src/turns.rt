@@ -83,6 +83,19 @@ fn toggle(name: &[u8], memory: &mut [u32]) {
     put_turn(name, &TOGGLE, memory, &[1, 7, 1, 5]);
 }
 
+// It has a tick difference where it subtracts: the readings are one past the highest number, and that number.
+fn ticking(memory: &mut [u32]) {
+    let mut program = TOGGLE;
+    program[71] = 13;
+    image::start(&program, memory);
+    put_turn(
+        b"toggle of ticks",
+        &program,
+        memory,
+        &[1, 2147483648, 1, 2147483647],
+    );
+}
+
 fn nest(name: &[u8], memory: &mut [u32]) {
     image::start(&NEST, memory);
     put_turn(name, &NEST, memory, &[]);
@@ -97,6 +110,7 @@ pub fn print_all() {
     clock(&mut [77u32; 11]);
     toggle(b"toggle", &mut [77u32; 67]);
     toggle(b"toggle in 66 words", &mut [77u32; 66]);
+    ticking(&mut [77u32; 67]);
     nest(b"nest in 1089 words", &mut [77u32; 1089]);
     nest(b"nest in 1090 words", &mut [77u32; 1090]);
     average(&mut [77u32; 23], &[1, 10, 1, 20, 1, 30]);

@@ -53,6 +53,10 @@ toggle =
 abbrev pub stocked : List ℕ
 stocked = set toggle 127 4
 
+-- the toggle with a tick difference where it subtracts: 02 (xii)
+abbrev pub ticking : List ℕ
+ticking = set toggle 71 13
+
 -- a program, and the number and place that its check gives
 pub record Case : Type 0 where
   pub program : List ℕ
@@ -72,6 +76,8 @@ starred =
     ∷ case stocked 25 126  -- refused by name, at the command's byte
     ∷ case (set stocked 130 1) 3 126  -- with a third operand, which it never took: 3 comes first
     ∷ case (set stocked 128 29) 25 126  -- with an operand that names no location: 4 comes later
+    ∷ case ticking 0 39
+    ∷ case (set toggle 71 14) 3 70  -- no primitive has this number
     ∷ []
 
 abbrev pub answers : List Case → List Case

@@ -1,8 +1,8 @@
 // A signal value in two words, and the primitives on values: document 01, "Primitives".
 //
 // Every function is total: it is proved equal to a definition of specs/ for every pair of words
-// that can come, so no caller has to know that a word is legal. To primitives 0 to 9 an operand of
-// the wrong kind, which no accepted program passes, counts as blank.
+// that can come, so no caller has to know that a word is legal. To primitives 0 to 9 and 13 an operand
+// of the wrong kind, which no accepted program passes, counts as blank.
 mod arithmetic;
 mod integer;
 mod primitives;
