@@ -107,7 +107,7 @@ starred =
     ((0 ∷ 54 ∷ 1 ∷ 1 ∷ 2 ∷ []) ++ ((0 ∷ 67 ∷ 2 ∷ 1 ∷ 12 ∷ []) ++ (0 ∷ 67 ∷ 3 ∷ 1 ∷ 2 ∷ [])))
     ∷ row (turns 3 toggle 66 (1 ∷ 7 ∷ 1 ∷ 5 ∷ []) (9 ∷ 9 ∷ []))  -- "With n 66 the second turn gives 14, 0 and word 1 stays 1, however often tried."
     ((0 ∷ 54 ∷ 1 ∷ 1 ∷ 2 ∷ []) ++ ((14 ∷ 0 ∷ 1 ∷ 9 ∷ 9 ∷ []) ++ (14 ∷ 0 ∷ 1 ∷ 9 ∷ 9 ∷ [])))
-    ∷ row (turns 1 ticking 67 (1 ∷ 2147483648 ∷ 1 ∷ 2147483647 ∷ []) (9 ∷ 9 ∷ []))  -- one past the highest, less the highest: 02 (xii)
+    ∷ row (turns 1 ticking 67 (1 ∷ 2147483648 ∷ 1 ∷ 2147483647 ∷ []) (9 ∷ 9 ∷ []))  -- as in `value`: 02 (xii)
     (0 ∷ 54 ∷ 1 ∷ 1 ∷ 1 ∷ [])
     ∷ row (undoes 0 nest 200 [] (9 ∷ 9 ∷ [])) (1 ∷ [])  -- "A refused call leaves memory .. as at entry", in place
     ∷ row (undoes 1 toggle 66 (1 ∷ 7 ∷ 1 ∷ 5 ∷ []) (9 ∷ 9 ∷ [])) (1 ∷ [])

@@ -1,5 +1,5 @@
--- The primitive's difference of ticks is the one of `Difference`: `exact-difference`. An integer is told by two naturals whose
--- difference it is, so that each step is one of sums of naturals. Assumes nothing.
+-- `goesRound` is the difference of `Difference`: `exact-difference`. An integer z is told by two naturals, as
+-- `over z` less `under z`, so that each equation becomes one of sums of naturals. Assumes nothing.
 use Prim.Native.Nat.{ℕ, zero, suc, _+_, _-_, _*_, _/_, _%_, _^_, _≤_, _<_}
 use native.Mathlib.Nat.{mod-lt, div-add-mod'}
 use native.Mathlib.Omega.{arith}
@@ -16,7 +16,7 @@ use Rattle.value.specs.Ticks.{ExactDifference}
 use Rattle.value.proofs.Tests.{cases, not-true}
 use Rattle.value.proofs.Integers.{fits-in, round-fits}
 
--- ---- an integer as a difference
+-- ---- an integer as the difference of two naturals
 
 abbrev over : ℤ → ℕ
 over (pos n) = n
@@ -87,7 +87,7 @@ only x y d e j k f g b c = same d e (omega (arith, inside d f, inside e g, b, c)
 
 -- ---- and this one
 
--- a word is its integer but for one turn at most; so is what an integer is written as
+-- a word and its integer differ by one turn at most
 read : (r : ℕ) → r < 2 ^ 32 → (t : ℕ) × (over (toZ w32 r) + t * 2 ^ 32 ≡ r + under (toZ w32 r))
 read r h = cases (ltb r (2 ^ 31)) low high
   where
@@ -117,5 +117,7 @@ exact-difference x y d f g =
     let k = turned x y f g in
     let fits = fits-in (goesRound x y) (round-fits x y) in (
       λ e. rw e (record { inside = fits; turns = (k .0, balances x y (goesRound x y) (k .0) .1 (k .1)) }),
-      λ h. only x y d (goesRound x y) (h .turns .0) (k .0) (h .inside) fits (balances x y d (h .turns .0) .0 (h .turns .1)) (k .1),
+      λ h.
+          let j = h .turns in
+          only x y d (goesRound x y) (j .0) (k .0) (h .inside) fits (balances x y d (j .0) .0 (j .1)) (k .1),
     )

@@ -1,5 +1,5 @@
--- The starred bench cases of 01 that are about primitives, then those of 02 (xii), as one table with one claim: each row's
--- primitive of its operands is its answer. The table of all starred cases is in crate remus.
+-- The starred bench cases of 01 that are about primitives, then those of 02 (xii), as one table with one claim: each
+-- row's primitive of its operands is its answer. The table of all starred cases is in crate remus.
 use Prim.Native.Nat.{ℕ}
 use mathlib.Core.Bool.{Bool, true, _&&_}
 use mathlib.Core.List.{List, [], _∷_}
@@ -32,7 +32,7 @@ starred =
     case 3 (number (negsuc 2147483647)) (number (negsuc 0)) blank  -- -2,147,483,648 divided by -1
     ∷ case 3 (number (negsuc 6)) (number (pos 2)) (number (negsuc 2))  -- -7 by 2
     ∷ case 5 blank (number (pos 5)) blank  -- less of blank and 5
-    ∷ case 13 (number (negsuc 2147483647)) (number (pos 2147483647)) (number (pos 1))  -- one past the highest, less the highest
+    ∷ case 13 (number (negsuc 2147483647)) (number (pos 2147483647)) (number (pos 1))  -- one past the highest, less it
     ∷ case 13 (number (pos 2147483647)) (number (negsuc 2147483647)) (number (negsuc 0))  -- and the other way
     ∷ case 13 (number (pos 0)) (number (negsuc 2147483647)) (number (negsuc 2147483647))  -- half a turn
     ∷ case 13 (number (negsuc 4)) (number (negsuc 4)) (number (pos 0))  -- equal ticks

@@ -43,7 +43,7 @@ sameInt (negsuc m) (negsuc n) = eqb m n
 unfoldable pub quotient : ℤ → ℤ → Value
 quotient x y = pick (isZero y) blank (within (quotZ x y))
 
--- x less y by their words, going round at 32 bits and read as signed, which is the difference of Ticks.antt: 02 (xii)
+-- the words of x and y subtracted modulo 2^32, and read as an integer again: the difference of Ticks.antt, 02 (xii)
 unfoldable pub goesRound : ℤ → ℤ → ℤ
 goesRound x y = toZ w32 ((ofZ w32 x + (2 ^ 32 - ofZ w32 y)) % 2 ^ 32)
 
@@ -57,8 +57,8 @@ operation Less x y = truth (ltZ x y)
 operation Equal x y = truth (sameInt x y)
 operation TickDifference x y = number (goesRound x y)
 
--- ---- values. "Any blank operand of 0 to 9 gives blank.", and of 13: 02 (xii). So does one of another kind, which no accepted
--- program passes.
+-- ---- values. A blank operand of 0 to 9, and of 13, makes the result blank: 01, 02 (xii). So does one of another kind,
+-- which no accepted program passes.
 
 unfoldable pub onNumbers : (ℤ → ℤ → Value) → Value → Value → Value
 onNumbers f a b = pick (isNumber a and isNumber b) (f (intOf a) (intOf b)) blank

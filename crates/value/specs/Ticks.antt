@@ -1,5 +1,5 @@
--- What the difference of two tick counts is, said without their words: of the numbers in 32 bits the one that lacks nothing of
--- x − y but whole turns of 2^32. 02 (xii).
+-- What the difference of two tick counts is, said without their words: the number in 32 bits from which x − y is whole
+-- turns of 2^32 away. 02 (xii).
 use Prim.Native.Nat.{_^_}
 use mathlib.Core.Path.{_≡_}
 use mathlib.Core.Bool.{true}

@@ -64,7 +64,8 @@ returns-14 c = rw (c .before .match .keys14) (c .on-numbers7 .ensures)
 returns-15 : tie.Need-returns-15
 unfolding primitive rowOf table
 returns-15 c =
-    rw (past (c .before .before .args .op) (missed 0 14 (c .before .before .args .op) (omega arith) (c .before .match .rest))) (c .blank2 .ensures)
+    let op = c .before .before .args .op in
+    rw (past op (missed 0 14 op (omega arith) (c .before .match .rest))) (c .blank2 .ensures)
 
 pub primitive-spec : {M : Type 1} → statement M
 primitive-spec =

@@ -14,21 +14,25 @@ returns c = rw (c .match .keys1)
 returns-2 : tie.Need-returns-2
 unfolding rowOf table
 returns-2 c =
-    each (λ (x : ℕ). ANumber ≡ rowOf x .gives) 0 5 (refl, (refl, (refl, (refl, (refl, tt))))) (c .before .before .args .op) (omega arith) (omega arith)
+    each (λ (x : ℕ). ANumber ≡ rowOf x .gives) 0 5 (refl, (refl, (refl, (refl, (refl, tt)))))
+    (c .before .before .args .op) (omega arith) (omega arith)
 
 returns-3 : tie.Need-returns-3
 unfolding rowOf table
 returns-3 c =
-    each (λ (x : ℕ). ATruth ≡ rowOf x .gives) 5 6 (refl, (refl, (refl, (refl, (refl, (refl, tt)))))) (c .before .before .before .args .op) (omega arith) (omega arith)
+    each (λ (x : ℕ). ATruth ≡ rowOf x .gives) 5 6 (refl, (refl, (refl, (refl, (refl, (refl, tt))))))
+    (c .before .before .before .args .op) (omega arith) (omega arith)
 
 returns-4 : tie.Need-returns-4
 unfolding rowOf table
 returns-4 c =
-    each (λ (x : ℕ). TheirKind ≡ rowOf x .gives) 11 2 (refl, (refl, tt)) (c .before .before .before .before .args .op) (omega arith) (omega arith)
+    each (λ (x : ℕ). TheirKind ≡ rowOf x .gives) 11 2 (refl, (refl, tt))
+    (c .before .before .before .before .args .op) (omega arith) (omega arith)
 
 returns-5 : tie.Need-returns-5
 unfolding rowOf table
-returns-5 c = rw (past (c .before .before .before .before .args .op) (omega (arith, c .before .before .before .match .rest .1)))
+returns-5 c =
+    rw (past (c .before .before .before .before .args .op) (omega (arith, c .before .before .before .match .rest .1)))
 
 pub gives-of-spec : {M : Type 1} → statement M
 gives-of-spec = tie.close (tie.spec returns returns-2 returns-3 returns-4 returns-5)

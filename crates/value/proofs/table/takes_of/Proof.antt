@@ -42,9 +42,9 @@ returns-7 c =
 returns-8 : tie.Need-returns-8
 unfolding rowOf table
 returns-8 c =
-    let m = c .before .before .match in
     let op = c .before .before .before .args .op in
-    rw (past op (missed 10 4 op (omega arith) ((((tt, m .rest .0 .0 .0 .1), m .rest .0 .0 .1), m .rest .0 .1), m .rest .1)))
+    let r = c .before .before .match .rest in
+    rw (past op (missed 10 4 op (omega arith) ((((tt, r .0 .0 .0 .1), r .0 .0 .1), r .0 .1), r .1)))
 
 pub takes-of-spec : {M : Type 1} → statement M
 takes-of-spec = tie.close (tie.spec returns returns-2 returns-3 returns-4 returns-5 returns-6 returns-7 returns-8)
