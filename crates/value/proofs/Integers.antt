@@ -4,7 +4,7 @@ use Prim.Native.Nat.{ℕ, zero, suc, _+_, _-_, _*_, _/_, _%_, _^_, _≤_, _<_}
 use native.Mathlib.Nat.{mul-le-mul, zero-add, div-one, div-le-self, div-lt-self, mod-lt}
 use native.Mathlib.Omega.{arith}
 use mathlib.Core.Path.{_≡_, refl, sym, ap, subst, _∙_}
-use mathlib.Core.Bool.{Bool, true, false, cond}
+use mathlib.Core.Bool.{Bool, true, false, not, cond}
 use lib.Dec.{T, ltb, eqb}
 use borrow.Author.Tests.{le-ltb, ltb-true, ltb-false, eq-eqb, ne-eqb, eqb-true, eqb-false}
 use lib.IntN.{ℤ, pos, negsuc, negℤ, natAbs, _+ℤ_, _-ℤ_, _*ℤ_, +ℤ-idl}
@@ -12,6 +12,7 @@ use lib.Signed.{mag, natAbs-le, ltZ, quotZ}
 use mir.Syntax.{w32, w64}
 use mir.Val.{SFits, Fits, toZ, ofZ}
 use mir.Facts.{toZ-ofZ, ofZ-toZ, toZ-pos, sfits-toZ, sfits-widen, fits-lit}
+use Rattle.value.proofs.Tests.{both?, flags, not-true}
 use Rattle.value.specs.Test.{pick}
 use Rattle.value.specs.Value.{blank, number}
 use Rattle.value.specs.Primitive.{in32, within, isZero, sameInt, quotient, goesRound}
@@ -173,6 +174,11 @@ module _ {x y : ℤ} (f : SFits w32 x) (g : SFits w32 y) where
 in-fits : (z : ℤ) → ltZ z (negsuc 2147483647) ≡ false → ltZ (pos 2147483647) z ≡ false → SFits w32 z
 in-fits (pos n) e h = record { sfits = omega (arith, ltb-false 2147483647 n h) }
 in-fits (negsuc n) e h = record { sfits = omega (arith, ltb-false 2147483647 n e) }
+
+pub in32-fits : (z : ℤ) → in32 z ≡ true → SFits w32 z
+in32-fits z e =
+    let b = both? (sym (flags (not (ltZ z (negsuc 2147483647))) (not (ltZ (pos 2147483647) z))) ∙ e) in
+    in-fits z (not-true _ (b .0)) (not-true _ (b .1))
 
 pub fits-in : (z : ℤ) → SFits w32 z → in32 z ≡ true
 fits-in (pos n) f = rw (le-ltb 2147483647 n (omega (arith, f .sfits)))

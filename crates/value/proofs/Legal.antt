@@ -6,13 +6,11 @@ use mathlib.Core.Path.{_≡_, refl, sym, subst}
 use mathlib.Core.Bool.{Bool, true, false, not, _&&_, _||_}
 use mathlib.Core.Logic.{inl, inr}
 use mathlib.Core.List.{List, [], _∷_}
-use lib.Dec.{ltb}
 use lib.ListN.{getD}
 use lib.IntN.{ℤ, pos, negsuc, _+ℤ_, _-ℤ_, _*ℤ_}
 use lib.Signed.{ltZ, quotZ}
-use borrow.Author.Tests.{ltb-false}
-use Rattle.value.proofs.Integers.{fits-in, round-fits}
-use Rattle.value.proofs.Tests.{pick-any, eq?, both?, not-true}
+use Rattle.value.proofs.Integers.{fits-in, in32-fits, round-fits}
+use Rattle.value.proofs.Tests.{pick-any, eq?, both?}
 use Rattle.value.specs.Test.{pick, _and_, _=?_}
 use Rattle.value.specs.Value.{numberKind, truthKind, markOf, blank, number, truth, isBlank, isNumber, isTruth, isTrue, intOf, OfKind}
 use Rattle.value.specs.Primitive.{in32, within, isZero, sameInt, quotient, goesRound, operation, onNumbers, onTruth, onTruths, known, choose, instead, Row, row, numeric, table, none, rowOf, primitive, countOf, operands, kindsFit, kindGiven}
@@ -154,7 +152,7 @@ abbrev pub Word : Value → Type 0
 Word v = v .content < 2 ^ 32
 
 number-word : (z : ℤ) → in32 z ≡ true → Word (number z)
-number-word (pos n) e = omega (arith, ltb-false 2147483647 n (not-true (ltb 2147483647 n) e))
+number-word (pos n) e = omega (arith, in32-fits (pos n) e .sfits)
 number-word (negsuc n) e = omega arith
 
 truth-word : (t : Bool) → Word (truth t)

@@ -4,7 +4,7 @@ use Prim.Native.Nat.{ℕ, zero, suc, _+_, _-_, _*_, _/_, _%_, _^_, _≤_, _<_}
 use native.Mathlib.Nat.{mod-lt, div-add-mod'}
 use native.Mathlib.Omega.{arith}
 use mathlib.Core.Path.{_≡_, refl, ap}
-use mathlib.Core.Bool.{true, false, false≢true}
+use mathlib.Core.Bool.{true, false}
 use mathlib.Core.Logic.{_↔_}
 use lib.Dec.{ltb}
 use lib.IntN.{ℤ, pos, negsuc, negℤ, subℕ, _+ℤ_, _-ℤ_, _*ℤ_}
@@ -13,8 +13,8 @@ use mir.Syntax.{w32}
 use mir.Val.{toZ, ofZ}
 use Rattle.value.specs.Primitive.{in32, goesRound}
 use Rattle.value.specs.Ticks.{ExactDifference}
-use Rattle.value.proofs.Tests.{cases, not-true}
-use Rattle.value.proofs.Integers.{fits-in, round-fits}
+use Rattle.value.proofs.Tests.{cases}
+use Rattle.value.proofs.Integers.{fits-in, in32-fits, round-fits}
 
 -- ---- an integer as the difference of two naturals
 
@@ -77,10 +77,8 @@ balances x y d k =
 -- ---- no other number
 
 inside : (z : ℤ) → in32 z ≡ true → (over z < 2 ^ 31) × (under z ≤ 2 ^ 31)
-inside (pos n) e = (omega (arith, ltb-false 2147483647 n (not-true (ltb 2147483647 n) e)), omega arith)
-inside (negsuc n) e =
-    cases (ltb 2147483647 n) (λ h. absurd (false≢true (rw h at e)))
-    (λ h. (omega arith, omega (arith, ltb-false 2147483647 n h)))
+inside (pos n) e = (omega (arith, in32-fits (pos n) e .sfits), omega arith)
+inside (negsuc n) e = (omega arith, omega (arith, in32-fits (negsuc n) e .sfits))
 
 only : (x y d e j k : ℤ) → in32 d ≡ true → in32 e ≡ true → Balanced x y d j → Balanced x y e k → d ≡ e
 only x y d e j k f g b c = same d e (omega (arith, inside d f, inside e g, b, c))
