@@ -1,7 +1,7 @@
 -- Signed integers as the machine has them: bits, read by `toZ` and written by `ofZ`. What is read back, which results fit, and
 -- what the operations of specs/Primitive.antt are where they fit. All signed reasoning of the crate is here. Assumes nothing.
 use Prim.Native.Nat.{ℕ, zero, suc, _+_, _-_, _*_, _/_, _%_, _^_, _≤_, _<_}
-use native.Mathlib.Nat.{mul-le-mul, zero-add, div-one, div-le-self, div-lt-self, mod-lt}
+use native.Mathlib.Nat.{mul-le-mul, zero-add, div-one, div-le-self, div-lt-self}
 use native.Mathlib.Omega.{arith}
 use mathlib.Core.Path.{_≡_, refl, sym, ap, subst, _∙_}
 use mathlib.Core.Bool.{Bool, true, false, not, cond}
@@ -11,8 +11,8 @@ use lib.IntN.{ℤ, pos, negsuc, negℤ, natAbs, _+ℤ_, _-ℤ_, _*ℤ_, +ℤ-idl
 use lib.Signed.{mag, natAbs-le, ltZ, quotZ}
 use mir.Syntax.{w32, w64}
 use mir.Val.{SFits, Fits, toZ, ofZ}
-use mir.Facts.{toZ-ofZ, ofZ-toZ, toZ-pos, sfits-toZ, sfits-widen, fits-lit}
-use Rattle.value.proofs.Tests.{both?, flags, not-true}
+use mir.Facts.{toZ-ofZ, ofZ-toZ, toZ-pos, sfits-widen, fits-lit}
+use Rattle.value.proofs.Tests.{cases, both?, flags, not-true}
 use Rattle.value.specs.Test.{pick}
 use Rattle.value.specs.Value.{blank, number}
 use Rattle.value.specs.Primitive.{in32, within, isZero, sameInt, quotient, goesRound}
@@ -180,9 +180,18 @@ in32-fits z e =
     let b = both? (sym (flags (not (ltZ z (negsuc 2147483647))) (not (ltZ (pos 2147483647) z))) ∙ e) in
     in-fits z (not-true _ (b .0)) (not-true _ (b .1))
 
-pub fits-in : (z : ℤ) → SFits w32 z → in32 z ≡ true
+fits-in : (z : ℤ) → SFits w32 z → in32 z ≡ true
 fits-in (pos n) f = rw (le-ltb 2147483647 n (omega (arith, f .sfits)))
 fits-in (negsuc n) f = rw (le-ltb 2147483647 n (omega (arith, f .sfits)))
+
+-- what is read from bits is in range
+pub signed-in : (n : ℕ) → in32 (toZ w32 n) ≡ true
+signed-in n =
+    cases (ltb n (2 ^ 31))
+    (λ e. let h : n < 2 ^ 31 = ltb-true n (2 ^ 31) e in rw e (fits-in (pos n) (record { sfits = h })))
+    (λ e.
+    let h : 2 ^ 31 ≤ n = ltb-false n (2 ^ 31) e in
+    rw e (fits-in (negsuc (2 ^ 32 - suc n)) (record { sfits = omega arith })))
 
 is-within : (z : ℤ) → SFits w32 z → within z ≡ number z
 unfolding within pick
@@ -282,9 +291,9 @@ module _ {x y : ℤ} (f : SFits w32 x) (g : SFits w32 y) (h : ofZ w32 y ≡ 0 �
 
 -- ---- difference of ticks
 
-pub round-fits : (x y : ℤ) → SFits w32 (goesRound x y)
+pub round-in : (x y : ℤ) → in32 (goesRound x y) ≡ true
 unfolding goesRound
-round-fits x y = sfits-toZ (record { fits = mod-lt (ofZ w32 x + (2 ^ 32 - ofZ w32 y)) (omega arith) })
+round-in x y = signed-in ((ofZ w32 x + (2 ^ 32 - ofZ w32 y)) % 2 ^ 32)
 
 -- r, the machine's wrapping difference of the words a and b of x and y
 pub rounds :

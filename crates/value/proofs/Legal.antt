@@ -9,7 +9,7 @@ use mathlib.Core.List.{List, [], _∷_}
 use lib.ListN.{getD}
 use lib.IntN.{ℤ, pos, negsuc, _+ℤ_, _-ℤ_, _*ℤ_}
 use lib.Signed.{ltZ, quotZ}
-use Rattle.value.proofs.Integers.{fits-in, in32-fits, round-fits}
+use Rattle.value.proofs.Integers.{in32-fits, round-in}
 use Rattle.value.proofs.Tests.{pick-any, eq?, both?}
 use Rattle.value.specs.Test.{pick, _and_, _=?_}
 use Rattle.value.specs.Value.{numberKind, truthKind, markOf, blank, number, truth, isBlank, isNumber, isTruth, isTrue, intOf, OfKind}
@@ -116,7 +116,7 @@ module _
         ◂ any
         ◂ choice
         ◂ alike
-        ◂ numbers TickDifference ANumber (λ k x y. is-number (goesRound x y) (fits-in (goesRound x y) (round-fits x y)))
+        ◂ numbers TickDifference ANumber (λ k x y. is-number (goesRound x y) (round-in x y))
         ◂ end
 
     pub primitive-is :

@@ -1,9 +1,9 @@
--- `goesRound` is the difference of `Difference`: `exact-difference`. An integer z is told by two naturals, as
+-- Primitive 13 is the difference of specs/Ticks.antt: `exact-difference`. An integer z is told by two naturals, as
 -- `over z` less `under z`, so that each equation becomes one of sums of naturals. Assumes nothing.
 use Prim.Native.Nat.{ℕ, zero, suc, _+_, _-_, _*_, _/_, _%_, _^_, _≤_, _<_}
 use native.Mathlib.Nat.{mod-lt, div-add-mod'}
 use native.Mathlib.Omega.{arith}
-use mathlib.Core.Path.{_≡_, refl, ap}
+use mathlib.Core.Path.{_≡_, refl, sym, ap, _∙_}
 use mathlib.Core.Bool.{true, false}
 use mathlib.Core.Logic.{_↔_}
 use lib.Dec.{ltb}
@@ -11,10 +11,12 @@ use lib.IntN.{ℤ, pos, negsuc, negℤ, subℕ, _+ℤ_, _-ℤ_, _*ℤ_}
 use borrow.Author.Tests.{ltb-true, ltb-false}
 use mir.Syntax.{w32}
 use mir.Val.{toZ, ofZ}
-use Rattle.value.specs.Primitive.{in32, goesRound}
-use Rattle.value.specs.Ticks.{ExactDifference}
-use Rattle.value.proofs.Tests.{cases}
-use Rattle.value.proofs.Integers.{fits-in, in32-fits, round-fits}
+use Rattle.value.specs.Value.{blank, number, isNumber, intOf}
+use Rattle.value.specs.Primitive.{in32, goesRound, operation, onNumbers, table, rowOf, primitive}
+use Rattle.value.specs.Ticks.{Congruent, ExactDifference}
+use Rattle.value.specs.declared.Value.{Value}
+use Rattle.value.proofs.Tests.{cases, both!, yes}
+use Rattle.value.proofs.Integers.{is-back, in32-fits, signed-in, round-in}
 
 -- ---- an integer as the difference of two naturals
 
@@ -33,13 +35,10 @@ same (negsuc a) (pos b) e = absurd (omega arith)
 same (negsuc a) (negsuc b) e = ap negsuc (omega arith)
 
 less : (a b : ℕ) → over (subℕ a b) + b ≡ a + under (subℕ a b)
-less a b = cases (ltb a b) below above
-  where
-    below : ltb a b ≡ true → over (subℕ a b) + b ≡ a + under (subℕ a b)
-    below e = let h : a < b = ltb-true a b e in rw e (omega arith)
-
-    above : ltb a b ≡ false → over (subℕ a b) + b ≡ a + under (subℕ a b)
-    above e = let h : b ≤ a = ltb-false a b e in rw e (omega arith)
+less a b =
+    cases (ltb a b)
+    (λ e. let h : a < b = ltb-true a b e in rw e (omega arith))
+    (λ e. let h : b ≤ a = ltb-false a b e in rw e (omega arith))
 
 sum : (x y : ℤ) → over (x +ℤ y) + (under x + under y) ≡ over x + over y + under (x +ℤ y)
 sum (pos a) (pos b) = omega arith
@@ -87,13 +86,7 @@ only x y d e j k f g b c = same d e (omega (arith, inside d f, inside e g, b, c)
 
 -- a word and its integer differ by one turn at most
 read : (r : ℕ) → r < 2 ^ 32 → (t : ℕ) × (over (toZ w32 r) + t * 2 ^ 32 ≡ r + under (toZ w32 r))
-read r h = cases (ltb r (2 ^ 31)) low high
-  where
-    low : ltb r (2 ^ 31) ≡ true → (t : ℕ) × (over (toZ w32 r) + t * 2 ^ 32 ≡ r + under (toZ w32 r))
-    low e = rw e (0, omega arith)
-
-    high : ltb r (2 ^ 31) ≡ false → (t : ℕ) × (over (toZ w32 r) + t * 2 ^ 32 ≡ r + under (toZ w32 r))
-    high e = rw e (1, omega arith)
+read r h = cases (ltb r (2 ^ 31)) (λ e. rw e (0, omega arith)) (λ e. rw e (1, omega arith))
 
 written : (z : ℤ) → in32 z ≡ true → (t : ℕ) × (ofZ w32 z + under z ≡ over z + t * 2 ^ 32) × (ofZ w32 z < 2 ^ 32)
 written (pos n) e = (0, omega arith, omega (arith, inside (pos n) e .0))
@@ -110,12 +103,33 @@ turned x y f g =
     let down = s .0 + 1 in
     (subℕ up down, omega (arith, less up down, s .1, t .1, t .2, u .1, div-add-mod' n (2 ^ 32)))
 
+-- ---- primitive 13
+
+exact : (x y d : ℤ) → in32 x ≡ true → in32 y ≡ true → in32 d ≡ true → (d ≡ goesRound x y) ↔ Congruent d (x -ℤ y)
+exact x y d f g h =
+    let k = turned x y f g in (
+      λ e. rw e (k .0, balances x y (goesRound x y) (k .0) .1 (k .1)),
+      λ j. only x y d (goesRound x y) (j .0) (k .0) h (round-in x y) (balances x y d (j .0) .0 (j .1)) (k .1),
+    )
+
+same-number : (d e : ℤ) → in32 d ≡ true → in32 e ≡ true → number d ≡ number e → d ≡ e
+same-number d e f g h =
+    sym (is-back (in32-fits d f)) ∙ ap (λ (v : Value). intOf v) h ∙ is-back (in32-fits e g)
+
+thirteen :
+    (a b c : Value) →
+    isNumber a ≡ true →
+    isNumber b ≡ true →
+    number (goesRound (intOf a) (intOf b)) ≡ primitive 13 a b c
+unfolding primitive rowOf table onNumbers operation
+thirteen a b c f g = yes blank (both! f g) refl
+
 pub exact-difference : ExactDifference
-exact-difference x y d f g =
-    let k = turned x y f g in
-    let fits = fits-in (goesRound x y) (round-fits x y) in (
-      λ e. rw e (record { inside = fits; turns = (k .0, balances x y (goesRound x y) (k .0) .1 (k .1)) }),
-      λ h.
-          let j = h .turns in
-          only x y d (goesRound x y) (j .0) (k .0) (h .inside) fits (balances x y d (j .0) .0 (j .1)) (k .1),
+exact-difference a b c d f g h =
+    let x = intOf a in
+    let y = intOf b in
+    let w = exact x y d (signed-in (a .content)) (signed-in (b .content)) h in
+    let is = thirteen a b c f g in (
+      λ e. w .0 (same-number d (goesRound x y) h (round-in x y) (sym (is ∙ e))),
+      λ j. sym (ap number (w .1 j) ∙ is),
     )
