@@ -1,5 +1,5 @@
 // The cases of 01 about primitives: the starred ones first, then its rules on bounds and blanks; and those of
-// 02 (xii).
+// 02 (iv) and (xii).
 use crate::text::put;
 use crate::text::put_value;
 use value::Value;
@@ -88,14 +88,12 @@ fn bounds() {
     numbers(5, EQUAL, b" == ", 5);
 }
 
-// "Any blank operand of 0 to 9 gives blank"; known, choose and instead have rules of their own.
+// A blank operand of 0 to 7 gives blank; known, choose and instead have rules of their own.
 fn blanks() {
     infix(Value::blank(), EQUAL, b" == ", Value::blank());
     infix(Value::number(7), ADD, b" + ", Value::blank());
     prefix(NOT, b"not ", Value::truth(true));
     prefix(NOT, b"not ", Value::blank());
-    infix(Value::truth(false), AND, b" and ", Value::blank());
-    infix(Value::truth(true), OR, b" or ", Value::blank());
     prefix(KNOWN, b"known ", Value::number(0));
     prefix(KNOWN, b"known ", Value::blank());
     choice(Value::truth(true), Value::number(1), Value::blank());
@@ -103,6 +101,17 @@ fn blanks() {
     choice(Value::blank(), Value::number(3), Value::number(3));
     infix(Value::number(7), INSTEAD, b" instead ", Value::number(9));
     infix(Value::blank(), INSTEAD, b" instead ", Value::number(9));
+}
+
+// On either side false settles an and, true an or.
+fn settled() {
+    let blank = Value::blank();
+    infix(Value::truth(false), AND, b" and ", blank);
+    infix(blank, AND, b" and ", Value::truth(false));
+    infix(Value::truth(true), AND, b" and ", blank);
+    infix(Value::truth(true), OR, b" or ", blank);
+    infix(blank, OR, b" or ", Value::truth(true));
+    infix(Value::truth(false), OR, b" or ", blank);
 }
 
 // The difference of ticks goes round at 32 bits.
@@ -121,5 +130,6 @@ pub fn print_all() {
     starred();
     bounds();
     blanks();
+    settled();
     ticks();
 }

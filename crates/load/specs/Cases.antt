@@ -57,6 +57,17 @@ stocked = set toggle 127 4
 abbrev pub ticking : List ℕ
 ticking = set toggle 71 13
 
+-- whether a card passes, both its counts being below their limits, 100 and 8: 02 (iv)
+abbrev pub graded : List ℕ
+graded =
+    joined (
+    (1 ∷ 1 ∷ 1 ∷ 2 ∷ zeros 4) ∷ (0 ∷ 0 ∷ [])
+    ∷ (0 ∷ 1 ∷ zeros 7) ∷ (1 ∷ zeros 6)  -- its sink is a truth
+    ∷ (0 ∷ 0 ∷ 8 ∷ 0 ∷ [])
+    ∷ command 4 1 0 0 0 ∷ command 3 0 0 0 100 ∷ command 10 5 0 1 0  -- 2 whether the first count is below its limit
+    ∷ command 4 2 0 0 0 ∷ command 3 0 0 0 8 ∷ command 10 5 3 4 0  -- 5 whether the second is
+    ∷ command 10 8 2 5 0 ∷ command 8 0 6 0 0 ∷ [])
+
 -- a program, and the number and place that its check gives
 pub record Case : Type 0 where
   pub program : List ℕ
@@ -78,6 +89,7 @@ starred =
     ∷ case (set stocked 128 29) 25 126  -- with an operand that names no location: 4 comes later
     ∷ case ticking 0 39
     ∷ case (set toggle 71 14) 3 70  -- no primitive has this number
+    ∷ case graded 0 21
     ∷ []
 
 abbrev pub answers : List Case → List Case

@@ -3,7 +3,7 @@
 use Prim.Native.Nat.{ℕ, zero, suc, _^_, _≤_, _<_}
 use native.Mathlib.Omega.{arith}
 use mathlib.Core.Path.{_≡_, refl, sym, subst}
-use mathlib.Core.Bool.{Bool, true, false, not, _&&_, _||_}
+use mathlib.Core.Bool.{Bool, true, false, not, _&&_}
 use mathlib.Core.Logic.{inl, inr}
 use mathlib.Core.List.{List, [], _∷_}
 use lib.ListN.{getD}
@@ -11,9 +11,9 @@ use lib.IntN.{ℤ, pos, negsuc, _+ℤ_, _-ℤ_, _*ℤ_}
 use lib.Signed.{ltZ, quotZ}
 use Rattle.value.proofs.Integers.{in32-fits, round-in}
 use Rattle.value.proofs.Tests.{pick-any, eq?, both?}
-use Rattle.value.specs.Test.{pick, _and_, _=?_}
+use Rattle.value.specs.Test.{pick, _and_, _or_, _=?_}
 use Rattle.value.specs.Value.{numberKind, truthKind, markOf, blank, number, truth, isBlank, isNumber, isTruth, isTrue, intOf, OfKind}
-use Rattle.value.specs.Primitive.{in32, within, isZero, sameInt, quotient, goesRound, operation, onNumbers, onTruth, onTruths, known, choose, instead, Row, row, numeric, table, none, rowOf, primitive, countOf, operands, kindsFit, kindGiven}
+use Rattle.value.specs.Primitive.{in32, within, isZero, sameInt, quotient, goesRound, operation, onNumbers, onTruth, settles, settledBy, known, choose, instead, Row, row, numeric, table, none, rowOf, primitive, countOf, operands, kindsFit, kindGiven}
 use Rattle.value.specs.declared.Value.{Value}
 use Rattle.value.specs.declared.Takes.{Takes}
 use Rattle.value.specs.declared.Takes.the-variants.{TwoNumbers, OneTruth, TwoTruths, OneOfAny, TruthThenTwo, TwoAlike}
@@ -77,9 +77,12 @@ module _
     unfolding onNumbers
     numbers f g h j k l a b c fit ia ib ic = unless-blank (kindGiven g k) (isNumber a and isNumber b) (λ e. h k (intOf a) (intOf b))
 
-    truths : (f : Bool → Bool → Bool) → Kept (row TwoTruths ATruth (λ a b c. onTruths f a b))
-    unfolding onTruths kindGiven
-    truths f j k l a b c fit ia ib ic = unless-blank truthKind (isTruth a and isTruth b) (λ e. is-truth (f (isTrue a) (isTrue b)))
+    settled : (t : Bool) → Kept (row TwoTruths ATruth (λ a b c. settledBy t a b))
+    unfolding settledBy kindGiven
+    settled t j k l a b c fit ia ib ic =
+        pick-any (Is truthKind) (settles t a or settles t b)
+        (λ e. is-truth t)
+        (λ e. unless-blank truthKind (isTruth a and isTruth b) (λ f. is-truth (not t)))
 
     one-truth : (f : Bool → Bool) → Kept (row OneTruth ATruth (λ a b c. onTruth f a))
     unfolding onTruth kindGiven
@@ -111,8 +114,8 @@ module _
         ◂ numbers Less ATruth (λ k x y. is-truth (ltZ x y))
         ◂ numbers Equal ATruth (λ k x y. is-truth (sameInt x y))
         ◂ one-truth not
-        ◂ truths _&&_
-        ◂ truths _||_
+        ◂ settled false
+        ◂ settled true
         ◂ any
         ◂ choice
         ◂ alike

@@ -1,13 +1,14 @@
 -- The starred bench cases of 01 that are about primitives, then those of 02 (xii), as one table with one claim: each
--- row's primitive of its operands is its answer. The table of all starred cases is in crate remus.
+-- row's primitive of its operands is its answer. Then the whole tables of `and` and `or`. The table of all starred cases is in
+-- crate remus.
 use Prim.Native.Nat.{ℕ}
-use mathlib.Core.Bool.{Bool, true, _&&_}
-use mathlib.Core.List.{List, [], _∷_}
+use mathlib.Core.Bool.{Bool, true, false, _&&_}
+use mathlib.Core.List.{List, [], _∷_, _++_}
 use lib.Dec.{T, eqb}
 use lib.IntN.{pos, negsuc}
-use Rattle.value.specs.Test.{pick, _=?_, _and_}
-use Rattle.value.specs.Value.{blank, number, isNumber}
-use Rattle.value.specs.Primitive.{within, quotient, goesRound, operation, onNumbers, table, rowOf, primitive}
+use Rattle.value.specs.Test.{pick, _=?_, _and_, _or_}
+use Rattle.value.specs.Value.{blank, number, truth, isNumber, isTruth, isTrue}
+use Rattle.value.specs.Primitive.{within, quotient, goesRound, operation, onNumbers, settles, settledBy, table, rowOf, primitive}
 use Rattle.value.specs.declared.Value.{Value}
 
 pub record Case : Type 0 where
@@ -44,3 +45,28 @@ starred =
 pub starred-hold : T (holds starred)
 unfolding primitive rowOf table onNumbers operation quotient goesRound within isNumber pick _and_ _=?_
 starred-hold = tt
+
+-- ---- 02 (iv): `and` and `or` of every two truths that can come, blank among them
+
+abbrev yes : Value
+yes = truth true
+
+abbrev no : Value
+no = truth false
+
+-- a line of primitive x's table: its answers for a and, from left to right, yes, no, blank
+abbrev across : ℕ → Value → Value → Value → Value → List Case
+across x a y n b = case x a yes y ∷ case x a no n ∷ case x a blank b ∷ []
+
+abbrev pub pairs : List Case
+pairs =
+    across 8 yes yes no blank
+    ++ across 8 no no no no
+    ++ across 8 blank blank no blank
+    ++ across 9 yes yes yes yes
+    ++ across 9 no yes no blank
+    ++ across 9 blank yes blank blank
+
+pub pairs-hold : T (holds pairs)
+unfolding primitive rowOf table settledBy settles isTruth isTrue pick _and_ _or_ _=?_
+pairs-hold = tt

@@ -1,7 +1,7 @@
 -- The primitives of 01, "Primitives": ONE table, a row for each number from 0 on, with what it takes, what it gives and what it
 -- means.
 use Prim.Native.Nat.{ℕ, _+_, _-_, _%_, _^_, _<_}
-use mathlib.Core.Bool.{Bool, true, false, not, _&&_, _||_}
+use mathlib.Core.Bool.{Bool, true, false, not, _&&_, Bool·beq}
 use mathlib.Core.Logic.{_≢_}
 use mathlib.Core.List.{List, [], _∷_}
 use lib.Dec.{eqb}
@@ -10,7 +10,7 @@ use lib.IntN.{ℤ, pos, negsuc, _+ℤ_, _-ℤ_, _*ℤ_}
 use lib.Signed.{ltZ, quotZ}
 use mir.Syntax.{w32}
 use mir.Val.{toZ, ofZ}
-use Rattle.value.specs.Test.{pick, _<?_, _=?_, _and_}
+use Rattle.value.specs.Test.{pick, _<?_, _=?_, _and_, _or_}
 use Rattle.value.specs.Value.{blank, number, truth, isBlank, isNumber, isTruth, isTrue, intOf, numberKind, truthKind}
 use Rattle.value.specs.declared.Value.{Value}
 use Rattle.value.specs.declared.Takes.{Takes}
@@ -57,8 +57,8 @@ operation Less x y = truth (ltZ x y)
 operation Equal x y = truth (sameInt x y)
 operation TickDifference x y = number (goesRound x y)
 
--- ---- values. A blank operand of 0 to 9, and of 13, makes the result blank: 01, 02 (xii). So does one of another kind,
--- which no accepted program passes.
+-- ---- values. A blank operand of 0 to 7, and of 13, makes the result blank: 01, 02 (xii). To these, and to 8 and 9, an operand
+-- of another kind, which no accepted program passes, is as a blank one.
 
 unfoldable pub onNumbers : (ℤ → ℤ → Value) → Value → Value → Value
 onNumbers f a b = pick (isNumber a and isNumber b) (f (intOf a) (intOf b)) blank
@@ -66,8 +66,14 @@ onNumbers f a b = pick (isNumber a and isNumber b) (f (intOf a) (intOf b)) blank
 unfoldable pub onTruth : (Bool → Bool) → Value → Value
 onTruth f a = pick (isTruth a) (truth (f (isTrue a))) blank
 
-unfoldable pub onTruths : (Bool → Bool → Bool) → Value → Value → Value
-onTruths f a b = pick (isTruth a and isTruth b) (truth (f (isTrue a) (isTrue b))) blank
+-- whether v is the truth t
+unfoldable pub settles : Bool → Value → Bool
+settles t v = isTruth v and Bool·beq (isTrue v) t
+
+-- 8 and 9, 02 (iv): t where an operand is the truth t, whatever the other is; of two that are the other truth, that one; else
+-- blank
+unfoldable pub settledBy : Bool → Value → Value → Value
+settledBy t a b = pick (settles t a or settles t b) (truth t) (pick (isTruth a and isTruth b) (truth (not t)) blank)
 
 -- "10 known: one operand of any kind; a truth, never blank."
 unfoldable pub known : Value → Value
@@ -113,8 +119,8 @@ table =
     ∷ numeric Less ATruth  -- 5
     ∷ numeric Equal ATruth  -- 6
     ∷ row OneTruth ATruth (λ a b c. onTruth not a)  -- 7 not
-    ∷ row TwoTruths ATruth (λ a b c. onTruths _&&_ a b)  -- 8 and
-    ∷ row TwoTruths ATruth (λ a b c. onTruths _||_ a b)  -- 9 or
+    ∷ row TwoTruths ATruth (λ a b c. settledBy false a b)  -- 8 and
+    ∷ row TwoTruths ATruth (λ a b c. settledBy true a b)  -- 9 or
     ∷ row OneOfAny ATruth (λ a b c. known a)  -- 10
     ∷ row TruthThenTwo TheirKind choose  -- 11
     ∷ row TwoAlike TheirKind (λ a b c. instead a b)  -- 12

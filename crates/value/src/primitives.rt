@@ -4,10 +4,7 @@ use crate::Value;
 use crate::arithmetic::operate;
 use crate::integer::signed;
 ghost use mathlib.Core.Path.{_≡_};
-ghost use mathlib.Core.Bool.{_&&_, _||_};
 ghost use mathlib.Core.Bool as Bool;
-ghost use Rattle.value.specs.Test.{pick, _and_};
-ghost use Rattle.value.specs.Value.{blank, truth, isTruth};
 ghost use Rattle.value.specs.Primitive as P;
 
 // The primitives on two numbers: blank unless both are.
@@ -32,29 +29,24 @@ pub(crate) fn not(a: Value) -> Value
     Value::truth(a.content != 1)
 }
 
-// The truth t, of two truths; blank unless both are.
-pub(crate) fn on_truths(a: Value, b: Value, t: bool) -> Value
-    ensures { λ r. ⌜ r ≡ pick (isTruth a and isTruth b) (truth t) blank ⌝ }
+// Whether v is the truth t.
+fn settles(t: bool, v: Value) -> bool
+    ensures { λ r. ⌜ r ≡ P.settles t v ⌝ }
 {
-    if a.mark != Value::TRUTH {
-        return Value::blank();
-    }
-    if b.mark != Value::TRUTH {
-        return Value::blank();
-    }
-    Value::truth(t)
+    (v.mark == Value::TRUTH) & ((v.content == 1) == t)
 }
 
-pub(crate) fn and(a: Value, b: Value) -> Value
-    ensures { λ r. ⌜ r ≡ P.onTruths _&&_ a b ⌝ }
+// `and` is settled by false, `or` by true; of two other truths they are the other one.
+pub(crate) fn settled_by(t: bool, a: Value, b: Value) -> Value
+    ensures { λ r. ⌜ r ≡ P.settledBy t a b ⌝ }
 {
-    on_truths(a, b, (a.content == 1) & (b.content == 1))
-}
-
-pub(crate) fn or(a: Value, b: Value) -> Value
-    ensures { λ r. ⌜ r ≡ P.onTruths _||_ a b ⌝ }
-{
-    on_truths(a, b, (a.content == 1) | (b.content == 1))
+    if settles(t, a) | settles(t, b) {
+        return Value::truth(t);
+    }
+    if (a.mark == Value::TRUTH) & (b.mark == Value::TRUTH) {
+        return Value::truth(!t);
+    }
+    Value::blank()
 }
 
 pub(crate) fn known(a: Value) -> Value
@@ -92,8 +84,8 @@ pub fn primitive(op: u8, a: Value, b: Value, c: Value) -> Value
         5 => on_numbers(Operation::Less, a, b),
         6 => on_numbers(Operation::Equal, a, b),
         7 => not(a),
-        8 => and(a, b),
-        9 => or(a, b),
+        8 => settled_by(false, a, b),
+        9 => settled_by(true, a, b),
         10 => known(a),
         11 => choose(a, b, c),
         12 => instead(a, b),

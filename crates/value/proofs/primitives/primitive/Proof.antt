@@ -39,11 +39,11 @@ returns-8 c = rw (c .before .match .keys8) (c .not .ensures)
 
 returns-9 : tie.Need-returns-9
 unfolding primitive rowOf table
-returns-9 c = rw (c .before .match .keys9) (c .and .ensures)
+returns-9 c = rw (c .before .match .keys9) (c .settled-by .ensures)
 
 returns-10 : tie.Need-returns-10
 unfolding primitive rowOf table
-returns-10 c = rw (c .before .match .keys10) (c .or .ensures)
+returns-10 c = rw (c .before .match .keys10) (c .settled-by2 .ensures)
 
 returns-11 : tie.Need-returns-11
 unfolding primitive rowOf table
