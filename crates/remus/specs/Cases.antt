@@ -109,9 +109,9 @@ starred =
     ((0 ∷ 54 ∷ 1 ∷ 1 ∷ 2 ∷ []) ++ ((14 ∷ 0 ∷ 1 ∷ 9 ∷ 9 ∷ []) ++ (14 ∷ 0 ∷ 1 ∷ 9 ∷ 9 ∷ [])))
     ∷ row (turns 1 ticking 67 (1 ∷ 2147483648 ∷ 1 ∷ 2147483647 ∷ []) (9 ∷ 9 ∷ []))  -- as in `value`: 02 (xii)
     (0 ∷ 54 ∷ 1 ∷ 1 ∷ 1 ∷ [])
-    ∷ row (turns 1 graded 23 (1 ∷ 100 ∷ 0 ∷ 0 ∷ []) (9 ∷ 9 ∷ [])) (0 ∷ 23 ∷ 1 ∷ 2 ∷ 0 ∷ [])  -- the first count settles it: 02 (iv)
-    ∷ row (turns 1 graded 23 (0 ∷ 0 ∷ 1 ∷ 8 ∷ []) (9 ∷ 9 ∷ [])) (0 ∷ 23 ∷ 1 ∷ 2 ∷ 0 ∷ [])  -- and so does the second
-    ∷ row (turns 1 graded 23 (1 ∷ 99 ∷ 0 ∷ 0 ∷ []) (9 ∷ 9 ∷ [])) (0 ∷ 23 ∷ 1 ∷ 0 ∷ 0 ∷ [])  -- neither count does
+    ∷ row (turns 1 graded 23 (1 ∷ 100 ∷ 0 ∷ 0 ∷ []) (9 ∷ 9 ∷ [])) (0 ∷ 23 ∷ 1 ∷ 2 ∷ 0 ∷ [])  -- the first count: 02 (iv)
+    ∷ row (turns 1 graded 23 (0 ∷ 0 ∷ 1 ∷ 8 ∷ []) (9 ∷ 9 ∷ [])) (0 ∷ 23 ∷ 1 ∷ 2 ∷ 0 ∷ [])  -- the second
+    ∷ row (turns 1 graded 23 (1 ∷ 99 ∷ 0 ∷ 0 ∷ []) (9 ∷ 9 ∷ [])) (0 ∷ 23 ∷ 1 ∷ 0 ∷ 0 ∷ [])  -- neither settles it
     ∷ row (undoes 0 nest 200 [] (9 ∷ 9 ∷ [])) (1 ∷ [])  -- "A refused call leaves memory .. as at entry", in place
     ∷ row (undoes 1 toggle 66 (1 ∷ 7 ∷ 1 ∷ 5 ∷ []) (9 ∷ 9 ∷ [])) (1 ∷ [])
     ∷ []

@@ -1,6 +1,6 @@
 -- The starred bench cases of 01 that are about primitives, then those of 02 (xii), as one table with one claim: each
--- row's primitive of its operands is its answer. Then the whole tables of `and` and `or`. The table of all starred cases is in
--- crate remus.
+-- row's primitive of its operands is its answer. Then the whole tables of `and` and `or`. The table of all starred
+-- cases is in crate remus.
 use Prim.Native.Nat.{ℕ}
 use mathlib.Core.Bool.{Bool, true, false, _&&_}
 use mathlib.Core.List.{List, [], _∷_, _++_}

@@ -57,8 +57,8 @@ operation Less x y = truth (ltZ x y)
 operation Equal x y = truth (sameInt x y)
 operation TickDifference x y = number (goesRound x y)
 
--- ---- values. A blank operand of 0 to 7, and of 13, makes the result blank: 01, 02 (xii). To these, and to 8 and 9, an operand
--- of another kind, which no accepted program passes, is as a blank one.
+-- ---- values. A blank operand of 0 to 7, and of 13, makes the result blank: 01, 02 (xii). To these, and to 8 and 9, an
+-- operand of another kind, which no accepted program passes, is as a blank one.
 
 unfoldable pub onNumbers : (ℤ → ℤ → Value) → Value → Value → Value
 onNumbers f a b = pick (isNumber a and isNumber b) (f (intOf a) (intOf b)) blank
@@ -70,8 +70,8 @@ onTruth f a = pick (isTruth a) (truth (f (isTrue a))) blank
 unfoldable pub settles : Bool → Value → Bool
 settles t v = isTruth v and Bool·beq (isTrue v) t
 
--- 8 and 9, 02 (iv): t where an operand is the truth t, whatever the other is; of two that are the other truth, that one; else
--- blank
+-- 8 and 9, 02 (iv): t where an operand is the truth t, whatever the other is; of two that are the other truth, that one;
+-- else blank
 unfoldable pub settledBy : Bool → Value → Value → Value
 settledBy t a b = pick (settles t a or settles t b) (truth t) (pick (isTruth a and isTruth b) (truth (not t)) blank)
 
