@@ -1,6 +1,5 @@
-// The bench cases of document 01, run through the proved code and printed, and vectors from another
-// implementation. The file stdout beside src/ holds what 01 says they come to, and the gate compares
-// the two.
+// The bench cases of documents 01 and 02, run through the proved code and printed, and vectors. The
+// file stdout beside src/ holds what the documents say they come to, and the gate compares the two.
 mod line;
 mod primitives;
 mod programs;
