@@ -3,6 +3,7 @@ pub mod Sweeps
 pub mod Below
 pub mod Integers
 pub mod Rows
+pub mod Formulas
 pub mod Legal
 pub mod Division
 pub mod Ticks

@@ -4,6 +4,7 @@
 // that can come, so no caller has to know that a word is legal. To primitives 0 to 9 and 13 an operand
 // of the wrong kind, which no accepted program passes, counts as blank.
 mod arithmetic;
+mod formula;
 mod integer;
 mod primitives;
 mod table;

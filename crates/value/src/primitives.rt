@@ -2,6 +2,8 @@
 use crate::Operation;
 use crate::Value;
 use crate::arithmetic::operate;
+use crate::formula::mix;
+use crate::formula::one_minus;
 use crate::integer::signed;
 ghost use mathlib.Core.Path.{_≡_};
 ghost use mathlib.Core.Bool as Bool;
@@ -23,10 +25,11 @@ pub(crate) fn on_numbers(f: Operation, a: Value, b: Value) -> Value
 pub(crate) fn not(a: Value) -> Value
     ensures { λ r. ⌜ r ≡ P.onTruth Bool.not a ⌝ }
 {
-    if a.mark != Value::TRUTH {
-        return Value::blank();
+    let known = (a.mark == Value::TRUTH) as u32;
+    Value {
+        mark: known * Value::TRUTH,
+        content: known * one_minus(a.content == 1),
     }
-    Value::truth(a.content != 1)
 }
 
 // Whether v is the truth t.
@@ -58,10 +61,12 @@ pub(crate) fn known(a: Value) -> Value
 pub(crate) fn choose(t: Value, a: Value, b: Value) -> Value
     ensures { λ r. ⌜ r ≡ P.choose t a b ⌝ }
 {
-    if t.mark != Value::TRUTH {
-        return Value::blank();
+    let known = t.mark == Value::TRUTH;
+    let first = t.content == 1;
+    Value {
+        mark: mix(known, first, a.mark, b.mark),
+        content: mix(known, first, a.content, b.content),
     }
-    if t.content == 1 { a } else { b }
 }
 
 pub(crate) fn instead(a: Value, b: Value) -> Value

@@ -1,18 +1,30 @@
-use Rattle.value.proofs.Tests.{yes, no, eq!, eq×}
+use mathlib.Core.Path.{sym}
+use mathlib.Core.Bool.{true}
+use native.Mathlib.Omega.{arith}
+use Rattle.value.proofs.Formulas.{not-formula, formula-fits}
 use Rattle.value.specs.Test.{_=?_}
-use Rattle.value.specs.Value.{isTruth, isTrue}
-use Rattle.value.specs.Primitive.{onTruth}
+use Rattle.value.specs.Value.{blank, isTruth, isTrue}
+use Rattle.value.specs.Primitive.{table, rowOf, primitive}
 use borrow.Author.Needs.{needs}
 use Rattle.value.proofs.primitives.not.Statement.{statement}
 use Rattle.value.proofs.primitives.not.Tie as tie
 
-returns : tie.Need-returns
-unfolding onTruth isTruth isTrue _=?_
-returns c = no _ (eq× (c .before .if1 .taken)) (c .blank .ensures)
+mul-t4 : tie.Need-mul-t4
+unfolding isTruth _=?_
+mul-t4 c =
+    let stays = formula-fits true (isTruth (c .before .args .a)) 0 0 (omega arith) (omega arith) in
+    record { fits = omega (arith, stays .minus) }
 
-returns-2 : tie.Need-returns-2
-unfolding onTruth isTruth isTrue _=?_
-returns-2 c = yes _ (eq! (c .before .before .if1 .left)) (c .truth .ensures)
+mul-t6 : tie.Need-mul-t6
+unfolding isTruth isTrue _=?_
+mul-t6 c =
+    let a = c .before .before .before .args .a in
+    let stays = formula-fits (isTruth a) (isTrue a) 0 0 (omega arith) (omega arith) in
+    record { fits = rw (c .one-minus .ensures) (omega (arith, stays .weights)) }
+
+returns : tie.Need-returns
+unfolding primitive rowOf table isTruth isTrue _=?_
+returns c = rw (c .one-minus .ensures) (sym (not-formula (c .before .before .before .args .a) blank blank))
 
 pub not-spec : {M : Type 1} → statement M
-not-spec = tie.close (tie.spec (λ c κs. search needs) returns (λ c κs. search needs) returns-2)
+not-spec = tie.close (tie.spec (λ c. search needs) mul-t4 (λ c κs. search needs) mul-t6 returns)
