@@ -1,7 +1,7 @@
 -- The formulas of specs/Formula.antt are what primitives 7 and 11 mean, and stay in 32 bits. Assumes nothing.
 use Prim.Native.Nat.{ℕ, _*_}
 use native.Mathlib.Omega.{arith}
-use mathlib.Core.Path.{_≡_, refl, sym}
+use mathlib.Core.Path.{_≡_, refl}
 use mathlib.Core.Bool.{Bool, true, false, not}
 use mir.Val.{boolByte}
 use Rattle.value.specs.Test.{pick}
@@ -10,7 +10,9 @@ use Rattle.value.specs.Primitive.{onTruth, choose, table, rowOf, primiti
 use Rattle.value.specs.Formula.{oneMinus, mixed, NotFormula, ChooseFormula, FormulaFits}
 use Rattle.value.specs.declared.Value.{Value}
 
-opposite : (known t : Bool) → pick known (truth (not t)) blank ≡ value (boolByte known * truthMark) (boolByte known * oneMinus t)
+opposite :
+    (known t : Bool) →
+    pick known (truth (not t)) blank ≡ value (boolByte known * truthMark) (boolByte known * oneMinus t)
 unfolding pick
 opposite true true = refl
 opposite true false = refl

@@ -31,8 +31,8 @@ ChooseFormula =
     let mix = mixed (isTruth t) (isTrue t) in
     primitive 11 t a b ≡ value (mix (a .mark) (b .mark)) (mix (a .content) (b .content))
 
--- No step leaves 32 bits: the difference is not below 0, the weights of a and b are 1 together at most, and the sum is a
--- word, and so is each product in it.
+-- No step leaves 32 bits: the difference is not below 0, the weights of a and b are together 1 at most, and the sum is
+-- a word, and so is each product in it.
 pub record StaysWord (known t : Bool) (a b : ℕ) : Type 0 where
   pub minus : boolByte t ≤ 1
   pub weights : boolByte known * boolByte t + boolByte known * oneMinus t ≤ 1

@@ -22,6 +22,7 @@ pub(crate) fn on_numbers(f: Operation, a: Value, b: Value) -> Value
     operate(f, signed(a.content), signed(b.content))
 }
 
+// Without a test: where a is no truth, both words are 0, and that is blank.
 pub(crate) fn not(a: Value) -> Value
     ensures { λ r. ⌜ r ≡ P.onTruth Bool.not a ⌝ }
 {
@@ -58,6 +59,7 @@ pub(crate) fn known(a: Value) -> Value
     Value::truth(a.mark != Value::BLANK)
 }
 
+// Without a test, as `not`.
 pub(crate) fn choose(t: Value, a: Value, b: Value) -> Value
     ensures { λ r. ⌜ r ≡ P.choose t a b ⌝ }
 {
