@@ -1,5 +1,6 @@
 // The bench cases of documents 01 and 02, run through the proved code and printed, and vectors. The
 // file stdout beside src/ holds what the documents say they come to, and the gate compares the two.
+mod faults;
 mod line;
 mod primitives;
 mod programs;
@@ -14,5 +15,6 @@ fn main() {
     programs::print_checks();
     programs::print_starts();
     turns::print_all();
+    faults::print_all();
     vectors::run();
 }

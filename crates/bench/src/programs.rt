@@ -1,6 +1,7 @@
 // The bench programs of document 01, and what the check and start say of them.
 use crate::text::put;
 use crate::text::put_decimal;
+ghost use Prim.Native.Nat.{_+_, _≤_};
 
 // The time to its one sink.
 pub const CLOCK: [u8; 44] = [
@@ -487,6 +488,51 @@ pub fn print_checks() {
     );
     ticking[71] = 14;
     put_check(b"toggle with no primitive where it subtracts", &ticking);
+    print_disorder();
+}
+
+// The toggle with another command at byte `at`: code, x, a and b.
+fn with_command(at: usize, command: [u8; 4]) -> [u8; 222]
+    requires { ⌜ at + 4 ≤ 222 ⌝ }
+{
+    let mut program = TOGGLE;
+    program[at] = command[0];
+    program[at + 1] = command[1];
+    program[at + 2] = command[2];
+    program[at + 3] = command[3];
+    program
+}
+
+// One command out of order among those that deploy, supply, run and read at location 11.
+fn print_disorder() {
+    put_check(
+        b"toggle, source 0 supplied twice",
+        &with_command(190, [5, 0, 3, 11]),
+    );
+    put_check(
+        b"toggle, React before source 1 is supplied",
+        &with_command(190, [6, 0, 0, 11]),
+    );
+    put_check(
+        b"toggle, Consume before React",
+        &with_command(198, [7, 0, 0, 11]),
+    );
+    put_check(b"toggle, a second React", &with_command(206, [6, 0, 0, 11]));
+    put_check(
+        b"toggle, Supply after React",
+        &with_command(206, [5, 0, 2, 11]),
+    );
+    put_check(
+        b"toggle, a second AllocPoly",
+        &with_command(182, [9, 0, 10, 0]),
+    );
+    put_check(
+        b"toggle, AllocMono of its own reactor",
+        &with_command(86, [1, 2, 0, 0]),
+    );
+    let mut twice = with_command(206, [8, 0, 1, 0]);
+    twice[216] = 1;
+    put_check(b"toggle, its sink set twice", &twice);
 }
 
 // A line `name, n words: start number, place`.

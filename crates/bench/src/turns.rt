@@ -57,7 +57,7 @@ fn put_refused(why: Refusal, memory: &[u32]) {
 }
 
 // One turn, with space for one sink that is not zero before it, and the line of it.
-fn put_turn(name: &[u8], program: &[u8], memory: &mut [u32], readings: &[u32]) {
+pub(crate) fn put_turn(name: &[u8], program: &[u8], memory: &mut [u32], readings: &[u32]) {
     let mut sinks = [77u32; 2];
     put(name);
     put(b", turn ");

@@ -1,4 +1,4 @@
--- Tests joined by `and`, one after the other; and a ladder of guards as one test.
+-- Tests joined by `and`, one after the other; and a guard that stops at false as one of them.
 -- Assumes nothing.
 use mathlib.Core.Path.{_≡_, refl, sym, _∙_}
 use mathlib.Core.Bool.{Bool, true, false}
@@ -25,8 +25,3 @@ pub as-and : (t u : Bool) → guard t false (λ _. u) ≡ (t and u)
 unfolding _and_ guard
 as-and true u = refl
 as-and false u = refl
-
-pub guard-and : {A : Type 0} (s t : Bool) (bad : A) (more : Unit {0} → A) → guard (s and t) bad more ≡ guard s bad (λ _. guard t bad more)
-unfolding _and_ guard
-guard-and true t bad more = refl
-guard-and false t bad more = refl

@@ -1,24 +1,21 @@
 -- A D command by its two bytes, a deployment's children, a pass, and the ladder of soundness as the code climbs it.
 -- Assumes nothing.
-use Prim.Native.Nat.{ℕ, _-_}
+use Prim.Native.Nat.{ℕ, _+_, _-_}
 use mathlib.Core.Path.{_≡_, refl, sym, ap, _∙_}
 use mathlib.Core.Bool.{Bool, true, false}
 use mathlib.Core.List.{List}
 use native.Mathlib.Omega.{arith}
-use lib.ListN.{length, replicate}
-use Rattle.value.specs.Test.{_and_, _<?_, _≤?_, _=?_, guard}
+use lib.ListN.{replicate}
+use Rattle.value.specs.Test.{_and_, _=?_}
 use Rattle.value.proofs.Tests.{goes, stops, eq!, eq×, le?, both?}
 use Rattle.program.specs.Bytes.{reactors, declared, mainOf}
 use Rattle.program.specs.Command.{Made, madeBy, cmdOf}
-use Rattle.program.specs.Location.{commandLoc}
-use Rattle.image.specs.Answer.{verdict}
-use Rattle.image.specs.Memory.{mainAt, mostTurns, used, turns, reactor, next, content, zeroAt, startsBelow}
-use Rattle.image.specs.Passes.{Judged, unsound, tableBytes, lowest, over, withEntry, blankTable, visit, tableAfter, fits, membersFrom, namedBy, childrenFrom, childrenOf, lowestUnfit, freshSound, grownSound, byTurns, soundOf, tilesFrom}
-use Rattle.image.specs.Cut.{madeOf, SlotOf, Tiling, framedOf, freshOf, grownOf}
+use Rattle.program.specs.Location.{commandLoc, sizeOf}
+use Rattle.image.specs.Memory.{mainAt, used, turns, reactor, wired, next, content, zeroAt, startsBelow}
+use Rattle.image.specs.Passes.{sound, unsound, tableBytes, lowest, over, withEntry, blankTable, visit, tableAfter, fits, membersFrom, namedBy, childrenFrom, childrenOf, lowestUnfit, freshSound, grownSound, byTurns, framed, soundOf}
+use Rattle.image.specs.Cut.{madeOf, SlotOf, Tiling, startsOn}
 use Rattle.image.specs.declared.DSlot.{DSlot}
 use Rattle.image.specs.declared.Pass.{Pass}
-use Rattle.image.specs.declared.Pass.the-variants.{Starts}
-use Rattle.image.proofs.Ands.{and-assoc, guard-and}
 use Rattle.image.proofs.Made.{made-mono, made-point, made-other}
 
 module _ (p m : List ℕ) (f : List ℕ → ℕ → List ℕ) (t : List ℕ) (o l code x c : ℕ) (holds : c ≡ content p m o l) where
@@ -51,45 +48,50 @@ unfolding lowestUnfit tableAfter blankTable
 pass-run p m pass t t₁ s a b h = h ∙ ap (λ (t : List ℕ). lowest (fits p m pass t) s) (b ∙ ap (λ (t : List ℕ). over (visit p m pass) t s) a)
 
 module _ (p m : List ℕ) where
-  framed-as : guard (framedOf p m) (unsound 0) (λ _. byTurns p m (turns m =? 0)) ≡ soundOf p m
-  unfolding framedOf soundOf
-  framed-as =
-      guard-and _ _ _ _
-      ∙ ap (λ (j : Judged). guard (used m ≤? length m) (unsound 0) (λ _. j))
-      (guard-and _ _ _ _
-      ∙ ap (λ (j : Judged). guard (turns m ≤? mostTurns) (unsound 0) (λ _. j))
-      (ap (λ (t : Bool). guard t (unsound 0) (λ _. byTurns p m (turns m =? 0))) (sym (and-assoc _ _ _) ∙ ap (λ (t : Bool). t and (zeroAt m (used m) (length m - used m) and (next m mainAt =? 0))) (and-assoc _ _ _))
-      ∙ guard-and _ _ _ _
-      ∙ ap
-      (λ (j : Judged). guard ((mainAt <? used m) and (reactor m mainAt =? mainOf p) and tilesFrom p m (length m) (used m) mainAt) (unsound 0) (λ _. j))
-      (guard-and _ _ _ _)))
+  -- with turns 0, by main's size
+  module _ (size : ℕ) (sized : size ≡ sizeOf p (mainOf p)) where
+    abbrev Clear : Bool
+    Clear = (wired m mainAt =? 0) and zeroAt m (mainAt + 3) (size - 3)
 
-  pub unframed : framedOf p m ≡ false → verdict false ≡ soundOf p m
-  unfolding verdict guard
-  unframed e = stops _ e refl ∙ framed-as
+    pub main-unfresh : Clear ≡ false → unsound mainAt ≡ freshSound p m
+    unfolding freshSound
+    main-unfresh e = rw (← sized) (stops _ e refl)
 
-  fresh-as : verdict (freshOf p m) ≡ freshSound p m
-  unfolding verdict freshOf freshSound
-  fresh-as = refl
+    pub main-followed : Clear ≡ true → (used m ≡ mainAt + size → ⊥) → unsound (mainAt + size) ≡ freshSound p m
+    unfolding freshSound
+    main-followed e d = rw (← sized) (goes _ _ e (stops _ (eq× d) refl))
 
-  grown-as : verdict (grownOf p m (used m)) ≡ byTurns p m false
-  unfolding verdict grownOf byTurns grownSound startsBelow
-  grown-as =
-      guard-and _ _ _ _
-      ∙ ap (λ (j : Judged). guard (lowestUnfit p m Starts (startsBelow p m (used m)) =? 0) (unsound 0) (λ _. j)) (guard-and _ _ _ _)
+    pub main-alone : Clear ≡ true → used m ≡ mainAt + size → sound ≡ freshSound p m
+    unfolding freshSound
+    main-alone e f = rw (← sized) (goes _ _ e (goes _ _ (eq! f) refl))
 
-  module _ (framed : framedOf p m ≡ true) where
-    pub fresh-verdict : turns m ≡ 0 → verdict (freshOf p m) ≡ soundOf p m
-    unfolding byTurns
-    fresh-verdict e = fresh-as ∙ ap (byTurns p m) (sym (eq! e)) ∙ goes _ _ framed refl ∙ framed-as
+  -- the ladder
+  pub unframed : framed p m ≡ false → unsound 0 ≡ soundOf p m
+  unfolding soundOf
+  unframed e = stops _ e refl
 
-    pub grown-verdict : (turns m ≡ 0 → ⊥) → verdict (grownOf p m (used m)) ≡ soundOf p m
-    grown-verdict d = grown-as ∙ ap (byTurns p m) (sym (eq× d)) ∙ goes _ _ framed refl ∙ framed-as
+  module _ (right : framed p m ≡ true) where
+    pub chained : (next m mainAt ≡ 0 → ⊥) → unsound mainAt ≡ soundOf p m
+    unfolding soundOf
+    chained d = goes _ _ right (stops _ (eq× d) refl)
+
+    module _ (alone : next m mainAt ≡ 0) where
+      by-turns : (t : Bool) → (turns m =? 0) ≡ t → byTurns p m t ≡ soundOf p m
+      unfolding soundOf
+      by-turns t e = goes _ _ right (goes _ _ (eq! alone) (ap (byTurns p m) (sym e)))
+
+      pub fresh-judged : turns m ≡ 0 → freshSound p m ≡ soundOf p m
+      unfolding byTurns
+      fresh-judged e = by-turns true (eq! e)
+
+      pub grown-judged : (turns m ≡ 0 → ⊥) → grownSound p m (startsOn p m (used m) mainAt) ≡ soundOf p m
+      unfolding byTurns startsBelow
+      grown-judged d = by-turns false (eq× d)
 
     pub framed-tiling : Tiling p m (used m) mainAt
-    unfolding framedOf
+    unfolding framed
     framed-tiling =
         record {
-          fits = le? (both? framed .0);
-          tiled = both? (both? (both? (both? framed .1) .1) .1) .0;
+          fits = le? (both? right .0);
+          tiled = both? (both? (both? (both? right .1) .1) .1) .0;
         }

@@ -1,17 +1,16 @@
 -- Definitions cut as the code is: those of Passes.antt into what each function of soundness answers, and `place` where u fits a word.
-use Prim.Native.Nat.{ℕ, _+_, _-_, _≤_, _<_}
+use Prim.Native.Nat.{ℕ, _+_, _≤_, _<_}
 use mathlib.Core.Path.{_≡_}
 use mathlib.Core.Bool.{Bool, true}
 use mathlib.Core.List.{List, _∷_}
 use lib.ListN.{length, getD}
-use Rattle.value.specs.Test.{pick, _and_, _<?_, _≤?_, _=?_}
-use Rattle.program.specs.Bytes.{reactors, mainOf, commandsAt}
+use Rattle.value.specs.Test.{pick, _≤?_, _=?_}
+use Rattle.program.specs.Bytes.{reactors, commandsAt}
 use Rattle.program.specs.Command.{Made, deployment, point, nothing, madeBy, cmdOf}
 use Rattle.program.specs.Location.{commandLoc, sizeOf}
-use Rattle.image.specs.Memory.{mostTurns, mainAt, used, turns, reactor, wired, next, zeroAt, place, startsFrom}
-use Rattle.image.specs.Passes.{name, deepen, tilesFrom, slotSound, namedBy, lowestUnfit}
+use Rattle.image.specs.Memory.{used, reactor, place, startsFrom}
+use Rattle.image.specs.Passes.{name, deepen, tilesFrom, slotSound, namedBy}
 use Rattle.image.specs.declared.DSlot.{DSlot}
-use Rattle.image.specs.declared.Pass.the-variants.{Starts, Names, Depths}
 use Rattle.image.specs.declared.Step.{Step}
 use Rattle.image.specs.declared.Step.the-variants.{Name, Deepen}
 
@@ -63,17 +62,3 @@ module _ (p m : List ℕ) where
   pub record SlotOf (o j : ℕ) (s : DSlot) : Type 0 where
     pub located : s .location ≡ commandLoc p (reactor m o) j
     pub makes : madeOf (s .code) (s .x) ≡ madeBy (cmdOf p (reactor m o) j)
-
-  -- what word 0, word 1, the tiling and the words from u say, and main's next
-  unfoldable pub framedOf : Bool
-  framedOf =
-      (used m ≤? length m) and (turns m ≤? mostTurns) and ((mainAt <? used m) and (reactor m mainAt =? mainOf p)) and tilesFrom p m (length m) (used m) mainAt
-      and zeroAt m (used m) (length m - used m) and (next m mainAt =? 0)
-
-  unfoldable pub freshOf : Bool
-  freshOf = (used m =? mainAt + sizeOf p (mainOf p)) and (wired m mainAt =? 0) and zeroAt m (mainAt + 3) (sizeOf p (mainOf p) - 3)
-
-  unfoldable pub grownOf : ℕ → Bool
-  grownOf u =
-      let starts = startsOn p m u mainAt in
-      (lowestUnfit p m Starts starts =? 0) and (lowestUnfit p m Names starts =? 0) and (lowestUnfit p m Depths starts =? 0)

@@ -146,30 +146,38 @@ module _ (p : List ℕ) (m : List ℕ) where
   unfoldable pub lowestUnfit : Pass → List ℕ → ℕ
   lowestUnfit pass starts = let t = tableAfter pass starts in lowest (fits pass t) starts
 
-  -- "With turns 0, main stands alone, unwired, its slots zero."
+  -- with turns 0: main is unwired and its slots are zero; then, no deployment follows it
   unfoldable pub freshSound : Judged
   freshSound =
-      guard ((used m =? mainAt + sizeOf p (mainOf p)) and (wired m mainAt =? 0) and zeroAt m (mainAt + 3) (sizeOf p (mainOf p) - 3)) (unsound 0) (λ _. sound)
+      let end = mainAt + sizeOf p (mainOf p) in
+      guard ((wired m mainAt =? 0) and zeroAt m (mainAt + 3) (sizeOf p (mainOf p) - 3)) (unsound mainAt) (λ _.
+      guard (used m =? end) (unsound end) (λ _. sound))
 
-  -- "Otherwise .."
+  -- with turns above 0: each deployment's own words, then how often each is named, then how deep each is
   unfoldable pub grownSound : List ℕ → Judged
   grownSound starts =
-      guard (lowestUnfit Starts starts =? 0) (unsound 0) (λ _.
-      guard (lowestUnfit Names starts =? 0) (unsound 0) (λ _.
+      let own = lowestUnfit Starts starts in
+      guard (own =? 0) (unsound own) (λ _.
+      let named = lowestUnfit Names starts in
+      guard (named =? 0) (unsound named) (λ _.
       guard (lowestUnfit Depths starts =? 0) (unsound 0) (λ _. sound)))
 
   unfoldable pub byTurns : Bool → Judged
   byTurns true = freshSound
   byTurns false = grownSound (startsBelow p m (used m))
 
+  -- words 0 and 1, the tiling with main first, and the words from u on
+  unfoldable pub framed : Bool
+  framed =
+      (used m ≤? length m) and (turns m ≤? mostTurns) and ((mainAt <? used m) and (reactor m mainAt =? mainOf p))
+      and tilesFrom (length m) (used m) mainAt and zeroAt m (used m) (length m - used m)
+
+  -- main is the lowest deployment, so that its next comes before all that is asked of others
   unfoldable pub soundOf : Judged
   soundOf =
-      guard (used m ≤? length m) (unsound 0) (λ _.
-      guard (turns m ≤? mostTurns) (unsound 0) (λ _.
-      guard ((mainAt <? used m) and (reactor m mainAt =? mainOf p) and tilesFrom (length m) (used m) mainAt) (unsound 0) (λ _.
-      guard (zeroAt m (used m) (length m - used m)) (unsound 0) (λ _.
-      guard (next m mainAt =? 0) (unsound 0) (λ _.
-      byTurns (turns m =? 0))))))
+      guard framed (unsound 0) (λ _.
+      guard (next m mainAt =? 0) (unsound mainAt) (λ _.
+      byTurns (turns m =? 0)))
 
 -- Exact soundness, for a program of no more reactors than the check accepts. Proved in proofs/Exact.antt.
 abbrev pub ExactSoundness : List ℕ → Type 0

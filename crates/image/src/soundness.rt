@@ -29,9 +29,9 @@ fn main_first(program: &[u8], memory: &[u32], u: u32) -> bool
     (MAIN_AT < u) & (reactor(memory, MAIN_AT) == main_of(program) as u32)
 }
 
-// Whether words 0 and 1, the tiling with main first and next 0, and the words from u on are right.
+// Whether words 0 and 1, the tiling with main first, and the words from u on are right.
 fn framed(program: &[u8], memory: &[u32]) -> bool
-    ensures { λ r. ⌜ r ≡ W.framedOf (now (program .entry)) (now (memory .entry)) ⌝ }
+    ensures { λ r. ⌜ r ≡ P.framed (now (program .entry)) (now (memory .entry)) ⌝ }
 {
     let u = used(memory);
     if memory.len() < u as usize {
@@ -46,61 +46,62 @@ fn framed(program: &[u8], memory: &[u32]) -> bool
     if !tiles(program, memory, u) {
         return false;
     }
-    if !zero_at(memory, u as usize, memory.len() - u as usize) {
-        return false;
-    }
-    next(memory, MAIN_AT) == 0
+    zero_at(memory, u as usize, memory.len() - u as usize)
 }
 
-// With turns 0: whether main stands alone, unwired, its slots zero.
-fn fresh_sound(program: &[u8], memory: &[u32]) -> bool
-    ensures { λ r. ⌜ r ≡ W.freshOf (now (program .entry)) (now (memory .entry)) ⌝ }
+// With turns 0: main is unwired and its slots are zero, and no deployment follows it.
+fn fresh(program: &[u8], memory: &[u32]) -> Judged
+    ensures { λ r. ⌜ N.judged r ≡ P.freshSound (now (program .entry)) (now (memory .entry)) ⌝ }
 {
     let main = main_of(program);
     let size = size_of(program, main as u32);
-    (used(memory) == MAIN_AT + size)
-        & (wired(memory, MAIN_AT) == 0)
-        & zero_at(memory, MAIN_AT as usize + 3, (size - 3) as usize)
+    let clear = (wired(memory, MAIN_AT) == 0)
+        & zero_at(memory, MAIN_AT as usize + 3, (size - 3) as usize);
+    if !clear {
+        return Judged::Unsound(MAIN_AT as usize);
+    }
+    let end = MAIN_AT + size;
+    if used(memory) != end {
+        return Judged::Unsound(end as usize);
+    }
+    Judged::Sound
 }
 
-// With turns above 0: whether all deployments are wired, right, named once and no deeper than 64.
-fn grown_sound(program: &[u8], memory: &[u32], u: u32) -> bool
+// With turns above 0: every deployment's own words are right, each is named once, none is too deep.
+fn grown(program: &[u8], memory: &[u32], u: u32) -> Judged
     requires { ⌜ W.Tiling (now program) (now memory) u M.mainAt ⌝ }
-    ensures { λ r. ⌜ r ≡ W.grownOf (now (program .entry)) (now (memory .entry)) u ⌝ }
+    ensures { λ r. ⌜ N.judged r ≡ P.grownSound (now (program .entry)) (now (memory .entry)) (W.startsOn (now (program .entry)) (now (memory .entry)) u M.mainAt) ⌝ }
 {
     let mut places = [0u32; 256];
     fill_positions(program, &mut places);
-    if run_pass(Pass::Starts, program, &places, memory, u) != 0 {
-        return false;
+    let own = run_pass(Pass::Starts, program, &places, memory, u);
+    if own != 0 {
+        return Judged::Unsound(own as usize);
     }
-    if run_pass(Pass::Names, program, &places, memory, u) != 0 {
-        return false;
+    let named = run_pass(Pass::Names, program, &places, memory, u);
+    if named != 0 {
+        return Judged::Unsound(named as usize);
     }
-    run_pass(Pass::Depths, program, &places, memory, u) == 0
+    if run_pass(Pass::Depths, program, &places, memory, u) != 0 {
+        return Judged::Unsound(0);
+    }
+    Judged::Sound
 }
 
-// The verdict; every fault's place is 0.
-fn judge(ok: bool) -> Judged
-    ensures { λ r. ⌜ N.judged r ≡ N.verdict ok ⌝ }
-{
-    if ok {
-        Judged::Sound
-    } else {
-        Judged::Unsound(0)
-    }
-}
-
-// Whether an image is sound for a program: exactly so for up to 64 reactors and 16,384 words, which
-// is all that check and length let pass (exact-soundness).
+// Whether an image is sound for a program, and if not, where it is at fault: exactly so for up to 64
+// reactors and 16,384 words, which is all that check and length let pass (exact-soundness, exact-place).
 pub fn sound(program: &[u8], memory: &[u32]) -> Judged
     ensures { λ r. ⌜ N.judged r ≡ P.soundOf (now (program .entry)) (now (memory .entry)) ⌝ }
 {
     if !framed(program, memory) {
-        return judge(false);
+        return Judged::Unsound(0);
+    }
+    if next(memory, MAIN_AT) != 0 {
+        return Judged::Unsound(MAIN_AT as usize);
     }
     if turns(memory) == 0 {
-        return judge(fresh_sound(program, memory));
+        return fresh(program, memory);
     }
     let u = used(memory);
-    judge(grown_sound(program, memory, u))
+    grown(program, memory, u)
 }

@@ -158,8 +158,9 @@ module _ (p : List ℕ) (r : ℕ) (s : Scan) (c : Command) where
         let k = deployment-shape (c .b) (both? (n .located) .1) in
         let f = legal .few-sources _ k in
         let l = lt? (both? (n .agreed) .0) in
-        let o = needed _ 6 0 (omega arith) (n .ordered) in
-        (omega arith, not-true _ (both? (o .0) .1))
+        let o = needed _ 20 _ (omega arith) (n .ordered) in
+        let u = needed _ 6 0 (omega arith) (o .1) in
+        (omega arith, not-true _ (u .0))
 
     pub free-source : c .code ≡ 5 → refusalOf p r s c (decode c) ≡ 0 → FreeSource s c
     free-source q e = supply-free (not-refused _ (rw (sym (as-supply (λ (d : Cmd). d) c q refl)) at e))

@@ -1,9 +1,9 @@
 -- The bench programs of 01, and its cases about the check, starred and others, as one table with one claim: each row's check answers as it says.
 -- The table of all starred cases is in crate remus.
-use Prim.Native.Nat.{ℕ}
+use Prim.Native.Nat.{ℕ, _+_}
 use mathlib.Core.Path.{_≡_, refl}
 use mathlib.Core.List.{List, [], _∷_, _++_}
-use lib.ListN.{replicate, take, set}
+use lib.ListN.{replicate, take, drop, set}
 use Rattle.load.specs.Check.{checkOf, numberOf, placeOf}
 use Rattle.load.specs.Open.{opened}
 
@@ -68,6 +68,10 @@ graded =
     ∷ command 4 2 0 0 0 ∷ command 3 0 0 0 8 ∷ command 10 5 3 4 0  -- 5 whether the second is
     ∷ command 10 8 2 5 0 ∷ command 8 0 6 0 0 ∷ [])
 
+-- the program with another command at byte q
+abbrev pub withCommand : List ℕ → ℕ → List ℕ → List ℕ
+withCommand p q c = take q p ++ (c ++ drop (q + 8) p)
+
 -- a program, and the number and place that its check gives
 pub record Case : Type 0 where
   pub program : List ℕ
@@ -90,6 +94,16 @@ starred =
     ∷ case ticking 0 39
     ∷ case (set toggle 71 14) 3 70  -- no primitive has this number
     ∷ case graded 0 21
+    -- 02 (vi): the toggle with one command out of order among those that deploy, supply, run and read at location 11
+    ∷ case (withCommand toggle 190 (command 5 0 3 11 0)) 6 190  -- source 0 again
+    ∷ case (withCommand (withCommand toggle 206 (command 8 0 1 0 0)) 214 (command 8 0 1 0 0)) 6 214  -- the sink again
+    ∷ case (withCommand toggle 190 (command 6 0 0 11 0)) 19 190  -- React before source 1 is supplied
+    ∷ case (withCommand toggle 198 (command 7 0 0 11 0)) 19 198  -- Consume before React
+    ∷ case (withCommand toggle 206 (command 6 0 0 11 0)) 20 206  -- a second React
+    ∷ case (withCommand toggle 206 (command 5 0 2 11 0)) 20 206  -- Supply after React, which would be source 0 again too
+    ∷ case (withCommand toggle 182 (command 9 0 10 0 0)) 20 182  -- a second AllocPoly
+    ∷ case (withCommand toggle 86 (command 1 2 0 0 0)) 21 86  -- AllocMono of its own reactor
+    ∷ case (withCommand toggle 206 (command 5 2 2 11 0)) 5 206  -- a late Supply to no source: 5 comes first
     ∷ []
 
 abbrev pub answers : List Case → List Case

@@ -15,7 +15,7 @@ impl Refusal {
             Refusal::Command(_) => 3,
             Refusal::Operand(_) => 4,
             Refusal::PortOrKind(_) => 5,
-            Refusal::Order(_) => 6,
+            Refusal::SetTwice(_) => 6,
             Refusal::Missing(_) => 7,
             Refusal::MemoryLength(_) => 8,
             Refusal::UnsoundImage(_) => 9,
@@ -25,6 +25,9 @@ impl Refusal {
             Refusal::Clock => 13,
             Refusal::NoRoom(_) => 14,
             Refusal::TooDeep(_) => 15,
+            Refusal::TooEarly(_) => 19,
+            Refusal::TooLate(_) => 20,
+            Refusal::NotLower(_) => 21,
             Refusal::Withdrawn(_) => 25,
         }
     }
@@ -38,7 +41,7 @@ impl Refusal {
             Refusal::Command(q) => q,
             Refusal::Operand(q) => q,
             Refusal::PortOrKind(q) => q,
-            Refusal::Order(q) => q,
+            Refusal::SetTwice(q) => q,
             Refusal::Missing(q) => q,
             Refusal::MemoryLength(q) => q,
             Refusal::UnsoundImage(q) => q,
@@ -48,6 +51,9 @@ impl Refusal {
             Refusal::Clock => 0,
             Refusal::NoRoom(q) => q,
             Refusal::TooDeep(q) => q,
+            Refusal::TooEarly(q) => q,
+            Refusal::TooLate(q) => q,
+            Refusal::NotLower(q) => q,
             Refusal::Withdrawn(q) => q,
         }
     }

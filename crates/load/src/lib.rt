@@ -36,7 +36,7 @@ pub enum Refusal {
     Command(usize),
     Operand(usize),
     PortOrKind(usize),
-    Order(usize),
+    SetTwice(usize),
     Missing(usize),
     MemoryLength(usize),
     UnsoundImage(usize),
@@ -46,6 +46,9 @@ pub enum Refusal {
     Clock,
     NoRoom(usize),
     TooDeep(usize),
+    TooEarly(usize),
+    TooLate(usize),
+    NotLower(usize),
     Withdrawn(usize),
 }
 

@@ -1,4 +1,4 @@
-// Whether a command is refused: a test for each of the numbers 3 to 6, and 25, by the command's code.
+// Whether a command is refused: a test for each of the numbers 3 to 6, 19 to 21 and 25, by the command's code.
 use crate::Scan;
 use crate::standing::is_ready;
 use program::Command;
@@ -79,6 +79,13 @@ pub(crate) fn remaining(c: Command) -> bool
         return true;
     }
     !is_withdrawn(c.x)
+}
+
+// 0 where all is well, else the number.
+fn unless(ok: bool, number: u8) -> u8
+    ensures { λ n. ⌜ n ≡ need ok number 0 ⌝ }
+{
+    if ok { 0 } else { number }
 }
 
 impl Scan {
@@ -171,47 +178,54 @@ impl Scan {
         }
     }
 
-    // 6 for Supply: no React yet, and source x not supplied.
-    fn supply_ordered(self, c: Command) -> bool
-        ensures { λ t. ⌜ ((p : List ℕ) (r : ℕ) → need t 6 0 ≡ S.disorder p r self (C.supply (c .x) (c .a) (c .b))) ⌝ }
+    // 20 for a Supply after React, 6 for a source that is supplied.
+    fn supply_disorder(self, c: Command) -> u8
+        ensures { λ n. ⌜ ((p : List ℕ) (r : ℕ) → n ≡ S.disorder p r self (C.supply (c .x) (c .a) (c .b))) ⌝ }
     {
-        (Scan::WAITING <= self.standing_at(c.b as usize)) & !self.is_supplied(c.b, c.x)
+        if self.standing_at(c.b as usize) < Scan::WAITING {
+            return 20;
+        }
+        unless(!self.is_supplied(c.b, c.x), 6)
     }
 
-    // 6 for React: every source supplied, and no React yet.
-    fn react_ordered(self, program: &[u8], c: Command) -> bool
-        ensures { λ t. ⌜ ((r : ℕ) → need t 6 0 ≡ S.disorder (now (program .entry)) r self (C.react (c .b))) ⌝ }
+    // 20 for a second React, 19 for one before every source is supplied.
+    fn react_disorder(self, program: &[u8], c: Command) -> u8
+        ensures { λ n. ⌜ ((r : ℕ) → n ≡ S.disorder (now (program .entry)) r self (C.react (c .b))) ⌝ }
     {
+        let standing = self.standing_at(c.b as usize);
+        if standing < Scan::WAITING {
+            return 20;
+        }
         let k = self.kind_at(c.b as usize);
         let n = sources_in(program, k);
-        is_ready(self.standing_at(c.b as usize), n)
+        unless(is_ready(standing, n), 19)
     }
 
-    // 6 for Sink: own sink x not set.
-    fn sink_ordered(self, program: &[u8], r: u8, c: Command) -> bool
-        ensures { λ t. ⌜ need t 6 0 ≡ S.disorder (now (program .entry)) r self (C.sink (c .x) (c .a)) ⌝ }
+    // 6 for an own sink that is set.
+    fn sink_disorder(self, program: &[u8], r: u8, c: Command) -> u8
+        ensures { λ n. ⌜ n ≡ S.disorder (now (program .entry)) r self (C.sink (c .x) (c .a)) ⌝ }
     {
         let l = sink_loc(program, r as u32, c.x);
-        self.standing_at(l as usize) == Scan::UNSET_SINK
+        unless(self.standing_at(l as usize) == Scan::UNSET_SINK, 6)
     }
 
-    // 6: neither too early, nor twice, nor too late; AllocMono of a lower reactor.
-    pub(crate) fn ordered(self, program: &[u8], r: u8, c: Command) -> bool
-        ensures { λ t. ⌜ need t 6 0 ≡ S.disorder (now (program .entry)) r self (C.decode c) ⌝ }
+    // 6 set twice, 19 too early, 20 too late, 21 AllocMono of a reactor that is not lower; or 0.
+    pub(crate) fn disorder(self, program: &[u8], r: u8, c: Command) -> u8
+        ensures { λ n. ⌜ n ≡ S.disorder (now (program .entry)) r self (C.decode c) ⌝ }
     {
         let code = c.code;
         match code {
-            Command::ALLOC_MONO => c.x < r,
-            Command::SUPPLY => self.supply_ordered(c),
-            Command::REACT => self.react_ordered(program, c),
-            Command::CONSUME => self.standing_at(c.b as usize) == Scan::REACTED,
-            Command::SINK => self.sink_ordered(program, r, c),
-            Command::ALLOC_POLY => self.standing_at(c.b as usize) == Scan::FREE_POINT,
-            _ => true,
+            Command::ALLOC_MONO => unless(c.x < r, 21),
+            Command::SUPPLY => self.supply_disorder(c),
+            Command::REACT => self.react_disorder(program, c),
+            Command::CONSUME => unless(self.standing_at(c.b as usize) == Scan::REACTED, 19),
+            Command::SINK => self.sink_disorder(program, r, c),
+            Command::ALLOC_POLY => unless(self.standing_at(c.b as usize) == Scan::FREE_POINT, 20),
+            _ => 0,
         }
     }
 
-    // The refusal of a command as the next of reactor r, 3 to 6 or 25, or 0.
+    // The refusal of a command as the next of reactor r, or 0. Order comes last, once all else is right.
     pub(crate) fn refuse(self, program: &[u8], r: u8, c: Command) -> u8
         ensures { λ n. ⌜ n ≡ S.refusalOf (now (program .entry)) r self c (C.decode c) ⌝ }
     {
@@ -230,9 +244,6 @@ impl Scan {
         if !self.agreed(program, r, c) {
             return 5;
         }
-        if !self.ordered(program, r, c) {
-            return 6;
-        }
-        0
+        self.disorder(program, r, c)
     }
 }

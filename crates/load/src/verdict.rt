@@ -30,8 +30,11 @@ fn at_command(number: u8, at: usize) -> Refusal
         3 => Refusal::Command(at),
         4 => Refusal::Operand(at),
         5 => Refusal::PortOrKind(at),
+        6 => Refusal::SetTwice(at),
+        19 => Refusal::TooEarly(at),
+        20 => Refusal::TooLate(at),
         25 => Refusal::Withdrawn(at),
-        _ => Refusal::Order(at),
+        _ => Refusal::NotLower(at),
     }
 }
 

@@ -1,6 +1,6 @@
 -- All starred bench cases of 01, the toggle's and a few others, as one table with a single claim: what each row asks, the definitions
 -- answer as the row says.
-use Prim.Native.Nat.{ℕ, zero, suc}
+use Prim.Native.Nat.{ℕ, zero, suc, _+_, _*_}
 use mathlib.Core.Path.{_≡_, refl}
 use mathlib.Core.List.{List, [], _∷_, _++_}
 use lib.ListN.{replicate, take, set}
@@ -9,7 +9,7 @@ use Rattle.value.specs.Test.{pick, _=?_}
 use Rattle.value.specs.Value.{blank, number}
 use Rattle.value.specs.Primitive.{primitive}
 use Rattle.value.specs.declared.Value.{Value}
-use Rattle.load.specs.Cases.{clock, nest, toggle, stocked, ticking, graded}
+use Rattle.load.specs.Cases.{zeros, joined, clock, nest, toggle, stocked, ticking, graded}
 use Rattle.load.specs.Check as Check
 use Rattle.image.specs.Memory.{word, used}
 use Rattle.image.specs.Start as Start
@@ -28,6 +28,7 @@ pub data Ask : Type 0 where
   starts : (p : List ℕ) (n : ℕ) → Ask  -- number, place
   turns : (count : ℕ) (p : List ℕ) (n : ℕ) (readings sinks : List ℕ) → Ask  -- after a start with n words, of each turn: number, place, word 1, sink words
   walks : (p : List ℕ) (n : ℕ) (readings : List ℕ) → Ask  -- after a start, how the walk's first turn ends: number, place
+  resumes : (p memory readings : List ℕ) → Ask  -- a turn on this memory: number, place
   undoes : (count : ℕ) (p : List ℕ) (n : ℕ) (readings sinks : List ℕ) → Ask  -- after that many turns, a run that stops: 1 if undoOf brings every word back
   primitive-of : (x : ℕ) (a b : Value) → Ask  -- mark, content
 
@@ -70,6 +71,7 @@ unfoldable pub answerOf : Ask → List ℕ
 answerOf (checks p) = let c = Check.checkOf p in Check.numberOf c ∷ Check.placeOf c ∷ []
 answerOf (starts p n) = let s = startOf p (replicate n 7) in Start.numberOf (s .answer) ∷ Start.placeOf (s .answer) ∷ []
 answerOf (turns k p n rd sk) = after k p (startOf p (replicate n 7) .memory) rd sk
+answerOf (resumes p m rd) = let t = turnOf p m rd (9 ∷ 9 ∷ []) in numberOf (t .answer) ∷ placeOf (t .answer) ∷ []
 answerOf (walks p n rd) = ended (steps p rd 1000 (begun p (startOf p (replicate n 7) .memory)))
 answerOf (undoes k p n rd sk) = undoneFrom p rd (memoryOf k p (startOf p (replicate n 7) .memory) rd sk)
 answerOf (primitive-of x a b) = let v = primitive x a b blank in v .mark ∷ v .content ∷ []
@@ -79,6 +81,33 @@ row a l = record { ask = a; answer = l }
 
 abbrev int : ℤ → List ℕ
 int z = let v = number z in v .mark ∷ v .content ∷ []
+
+-- the toggle's image after two turns, in 68 words: main, whose branch point heads plus at 54, chained to minus at 41
+abbrev twoTurns : List ℕ
+twoTurns =
+    joined (
+    (67 ∷ 2 ∷ [])
+    ∷ (2 ∷ 1 ∷ 0 ∷ 5 ∷ 54 ∷ zeros 34)
+    ∷ (1 ∷ 1 ∷ 0 ∷ zeros 10)
+    ∷ (0 ∷ 1 ∷ 41 ∷ zeros 10)
+    ∷ zeros 1 ∷ [])
+
+-- a fresh image with a second deployment behind main, whose wired word nothing judges
+abbrev twoFresh : List ℕ
+twoFresh = joined ((54 ∷ 0 ∷ []) ∷ (2 ∷ zeros 38) ∷ (1 ∷ 7 ∷ zeros 11) ∷ [])
+
+-- k deployments of the nest from a on, each named by the one before
+unfoldable pub deeper : ℕ → ℕ → List ℕ
+deeper zero a = []
+deeper (suc zero) a = 0 ∷ 1 ∷ 0 ∷ 5 ∷ zeros 13
+deeper (suc (suc k)) a = (0 ∷ 1 ∷ 0 ∷ 5 ∷ (a + 17) ∷ zeros 12) ++ deeper (suc k) (a + 17)
+
+-- the nest's image, k deep
+abbrev nested : ℕ → List ℕ
+nested k = (2 + 17 * k) ∷ 1 ∷ deeper k 2
+
+abbrev faulty : List ℕ → ℕ → Row
+faulty m q = row (resumes toggle m (1 ∷ 7 ∷ 1 ∷ 5 ∷ [])) (9 ∷ q ∷ [])
 
 -- `negsuc n` is -(n + 1)
 abbrev pub starred : List Row
@@ -112,6 +141,24 @@ starred =
     ∷ row (turns 1 graded 23 (1 ∷ 100 ∷ 0 ∷ 0 ∷ []) (9 ∷ 9 ∷ [])) (0 ∷ 23 ∷ 1 ∷ 2 ∷ 0 ∷ [])  -- the first count: 02 (iv)
     ∷ row (turns 1 graded 23 (0 ∷ 0 ∷ 1 ∷ 8 ∷ []) (9 ∷ 9 ∷ [])) (0 ∷ 23 ∷ 1 ∷ 2 ∷ 0 ∷ [])  -- the second
     ∷ row (turns 1 graded 23 (1 ∷ 99 ∷ 0 ∷ 0 ∷ []) (9 ∷ 9 ∷ [])) (0 ∷ 23 ∷ 1 ∷ 0 ∷ 0 ∷ [])  -- neither settles it
+    ∷ row (resumes toggle twoTurns (1 ∷ 7 ∷ 1 ∷ 5 ∷ [])) (0 ∷ 67 ∷ [])
+    -- the places of 9: 02 (vi)
+    ∷ faulty (set twoTurns 0 66) 0  -- u inside a deployment
+    ∷ faulty (set twoTurns 1 2147483648) 0  -- the turns
+    ∷ faulty (set twoTurns 41 3) 0  -- no such reactor, so no tiling
+    ∷ faulty (set twoTurns 67 1) 0  -- a word from u on
+    ∷ faulty (set twoTurns 4 41) 2  -- main's next
+    ∷ faulty (set twoTurns 56 54) 2  -- a chain that does not fall is its owner's fault
+    ∷ faulty (set twoTurns 42 0) 41  -- minus not wired
+    ∷ faulty (set twoTurns 57 1) 54  -- a slot of plus
+    ∷ faulty (set (set twoTurns 57 1) 42 0) 41  -- both: the lowest
+    ∷ faulty (set twoTurns 6 41) 54  -- nothing names plus
+    ∷ faulty (set twoTurns 56 0) 41  -- nothing names minus
+    ∷ faulty (set (set twoTurns 56 0) 57 1) 54  -- own words come before names
+    ∷ faulty (set twoTurns 1 0) 2  -- turns 0, and main is wired
+    ∷ faulty twoFresh 41  -- the second deployment
+    ∷ row (resumes nest (nested 64) []) (15 ∷ 0 ∷ [])  -- depth 64 is sound
+    ∷ row (resumes nest (nested 65) []) (9 ∷ 0 ∷ [])  -- and 65 is not: a depth has no place
     ∷ row (undoes 0 nest 200 [] (9 ∷ 9 ∷ [])) (1 ∷ [])  -- "A refused call leaves memory .. as at entry", in place
     ∷ row (undoes 1 toggle 66 (1 ∷ 7 ∷ 1 ∷ 5 ∷ []) (9 ∷ 9 ∷ [])) (1 ∷ [])
     ∷ []
@@ -125,5 +172,5 @@ expected [] = []
 expected (r ∷ rs) = r .answer ∷ expected rs
 
 pub starred-hold : answers starred ≡ expected starred
-unfolding opened after memoryOf same undoneFrom answerOf
+unfolding opened after memoryOf same undoneFrom answerOf deeper
 starred-hold = refl

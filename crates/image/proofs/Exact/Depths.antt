@@ -11,13 +11,13 @@ use Rattle.value.specs.Test.{pick, _≤?_}
 use Rattle.value.proofs.Tests.{cases, le!, le?, yes, no}
 use Rattle.image.specs.Memory.{mostDepth, mainAt}
 use Rattle.image.specs.Sound.{Deployed, Owner, NamedOnce, Depth, top, child}
+use Rattle.image.specs.Fault.{SlotsRight}
 use Rattle.image.specs.Passes.{over, entry, blankTable, below, deepen, childrenOf, visit, tableAfter, fits}
 use Rattle.image.specs.declared.Pass.the-variants.{Depths}
 use Rattle.image.proofs.Exact.Lists.{_∈_, same, Rising, rises, rising-from}
 use Rattle.image.proofs.Exact.Tables.{over-keeps, entry-other, blank-main, writes, writes-length, writes-keep, writes-set}
 use Rattle.image.proofs.Exact.Tiling.{Laid, starts, tableOf, start-in, start-rising, main-deployed, deployed-one, deployed-entry}
 use Rattle.image.proofs.Memory.Tiles.{in-ge}
-use Rattle.image.proofs.Exact.SlotTests.{SlotsRight}
 use Rattle.image.proofs.Exact.Names.{owner-above, owner-child, child-owner, child-above}
 
 -- ---- one deeper

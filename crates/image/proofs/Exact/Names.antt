@@ -13,6 +13,7 @@ use Rattle.program.specs.Command.{allocMono, makePoly, nothing, madeBy, cmdOf}
 use Rattle.program.specs.Location.{commandLoc}
 use Rattle.image.specs.Memory.{mainAt, reactor, content}
 use Rattle.image.specs.Sound.{Deployed, Names as NamedBy, by-mono, by-point, Owner, NamedOnce}
+use Rattle.image.specs.Fault.{SlotsRight}
 use Rattle.image.specs.Passes.{over, entry, blankTable, name, membersFrom, namedBy, childrenFrom, childrenOf, visit, tableAfter, fits}
 use Rattle.image.specs.declared.Pass.the-variants.{Names}
 use Rattle.image.proofs.Exact.Lists.{_∈_, same, from, from-in, from-rising, total, OneOf, total-one, is, is-same, is-other, count, count-none, count-in, count-most, flat, flat-in, count-flat}
@@ -21,7 +22,7 @@ use Rattle.image.proofs.Exact.Tiling.{Laid, starts, tableOf, start-in, 
 use Rattle.image.proofs.Memory.Tiles.{in-ge}
 use Rattle.image.proofs.Exact.Chains.{members, members-once}
 use Rattle.image.proofs.Memory.Slots.{names-above}
-use Rattle.image.proofs.Exact.SlotTests.{Makes, a-deployment, a-point, neither, makes, made-mono, made-point, SlotsRight}
+use Rattle.image.proofs.Exact.SlotTests.{Makes, a-deployment, a-point, neither, makes, made-mono, made-point}
 
 module _ (p m : List ℕ) where
   -- what D command j of o names, as a list

@@ -5,14 +5,14 @@ use mathlib.Core.Bool.{true}
 use mathlib.Core.Logic.{_↔_}
 use mathlib.Core.List.{List}
 use native.Mathlib.Omega.{arith}
-use Rattle.value.specs.Value.{blank}
 use Rattle.value.proofs.Tests.{lt!, lt?, eq!, eq?, both!, both?}
 use Rattle.value.proofs.Sweeps.{sweeps?}
 use Rattle.program.specs.Bytes.{declared}
 use Rattle.program.specs.Command.{Cmd, allocMono, makePoly, constant, global, supply, react, consume, sink, allocPoly, primitive, none, Made, deployment, point, nothing, madeBy, cmdOf}
-use Rattle.program.specs.Location.{commandLoc, locations}
-use Rattle.image.specs.Memory.{used, reactor, wired, content, valueAt}
-use Rattle.image.specs.Sound.{Deployed, InD, MonoSlot, PointSlot}
+use Rattle.program.specs.Location.{commandLoc}
+use Rattle.image.specs.Memory.{mainAt, used, reactor, next, content}
+use Rattle.image.specs.Sound.{Deployed, MonoSlot, PointSlot}
+use Rattle.image.specs.Fault.{SlotsRight, Own}
 use Rattle.image.specs.Passes.{slotSound, ownSound, fits}
 use Rattle.image.specs.declared.Pass.the-variants.{Starts}
 use Rattle.image.proofs.Exact.Tiling.{Laid, tableOf, start-test}
@@ -56,20 +56,8 @@ module _ (p m : List ℕ) where
   SlotRight o l nothing = Unit {0}
 
   -- the same of all D slots, by commands
-  pub record SlotsRight (o : ℕ) : Type 0 where
-    pub monos : (j x : ℕ) → j < declared p (reactor m o) → cmdOf p (reactor m o) j ≡ allocMono x →
-        MonoSlot p m o (commandLoc p (reactor m o) j) x
-    pub points : (j x : ℕ) → j < declared p (reactor m o) → cmdOf p (reactor m o) j ≡ makePoly x →
-        PointSlot p m o (commandLoc p (reactor m o) j) x
-
-  -- a deployment's own words are right
-  pub record Own (o : ℕ) : Type 0 where
-    pub is-wired : wired m o ≡ 1
-    pub empty : (l : ℕ) → l < locations p (reactor m o) → (InD p m (reactor m o) l → ⊥) → valueAt p m o l ≡ blank
-    pub slots : SlotsRight o
-
   slots-right : (o : ℕ) →
-      ((j : ℕ) → j < declared p (reactor m o) → SlotRight o (commandLoc p (reactor m o) j) (madeBy (cmdOf p (reactor m o) j))) ↔ SlotsRight o
+      ((j : ℕ) → j < declared p (reactor m o) → SlotRight o (commandLoc p (reactor m o) j) (madeBy (cmdOf p (reactor m o) j))) ↔ SlotsRight p m o
   slots-right o = (
     λ h.
         record {
@@ -79,7 +67,7 @@ module _ (p m : List ℕ) where
     λ r j l. by r j l (cmdOf p (reactor m o) j) refl (makes (cmdOf p (reactor m o) j)),
   )
     where
-      by : SlotsRight o → (j : ℕ) → j < declared p (reactor m o) → (c : Cmd) → cmdOf p (reactor m o) j ≡ c → Makes c →
+      by : SlotsRight p m o → (j : ℕ) → j < declared p (reactor m o) → (c : Cmd) → cmdOf p (reactor m o) j ≡ c → Makes c →
           SlotRight o (commandLoc p (reactor m o) j) (madeBy c)
       by r j l c q (a-deployment x e) = subst (SlotRight o (commandLoc p (reactor m o) j)) (sym (made-mono e)) (r .monos j x l (q ∙ e))
       by r j l c q (a-point x e) = subst (SlotRight o (commandLoc p (reactor m o) j)) (sym (made-point e)) (r .points j x l (q ∙ e))
@@ -106,9 +94,11 @@ module _ (p m : List ℕ) where
         )
     slot-test o l nothing h = (λ e. tt, λ r. refl)
 
-    pub own-test : {o : ℕ} → Deployed p m o → (fits p m Starts (tableOf p m Starts) o ≡ true) ↔ Own o
+    -- main's next is asked before the passes
+    pub own-test : {o : ℕ} → next m mainAt ≡ 0 → Deployed p m o →
+        (fits p m Starts (tableOf p m Starts) o ≡ true) ↔ Own p m o
     unfolding fits ownSound
-    own-test {o} i =
+    own-test {o} z i =
         let r = reactor m o in
         let some : 0 < used m = omega (arith, in-to p i) in
         let w = sweeps? (λ j. slotSound p m (tableOf p m Starts) o (commandLoc p r j) (madeBy (cmdOf p r j))) 0 (declared p r) (declared p r) (omega arith) in (
@@ -119,6 +109,7 @@ module _ (p m : List ℕ) where
                 is-wired = eq? (a .0);
                 empty = clear p m o .0 (b .0);
                 slots = slots-right o .0 (λ j l. slot-test o _ (madeBy (cmdOf p r j)) some .0 (w .0 (b .1) j (omega arith) l));
+                last = λ q. subst (λ (a : ℕ). next m a ≡ 0) (sym q) z;
               },
           λ h.
               both! (eq! (h .is-wired))

@@ -62,7 +62,7 @@ same-value v w e f = ap₂ value e f
 
 module _ (p m : List ℕ) where
   -- the slots from location x to before y are blank
-  pub slots-blank : (a r x y : ℕ) → reactor m a ≡ r → x ≤ y →
+  slots-blank : (a r x y : ℕ) → reactor m a ≡ r → x ≤ y →
       (zeroAt m (a + slotAt p r x) (slotAt p r y - slotAt p r x) ≡ true) ↔ ((l : ℕ) → x ≤ l → l < y → valueAt p m a l ≡ blank)
   unfolding slotAt slot mark content valueAt
   slots-blank a r x y q g =
@@ -76,6 +76,14 @@ module _ (p m : List ℕ) where
             (λ e. ap (word m) e ∙ ap (λ (w : Value). w .mark) b)
             (λ e. ap (word m) (omega arith) ∙ ap (λ (w : Value). w .content) b)),
       )
+
+  -- all slots of a deployment are blank
+  pub all-blank : (a r : ℕ) → reactor m a ≡ r →
+      (zeroAt m (a + 3) (sizeOf p r - 3) ≡ true) ↔ ((l : ℕ) → l < locations p r → valueAt p m a l ≡ blank)
+  unfolding sizeOf slotAt
+  all-blank a r e =
+      let w = slots-blank a r 0 (locations p r) e (omega arith) in
+      (λ h l k. w .0 h l (omega arith) k, λ h. w .1 (λ l j k. h l k))
 
   -- "all slots but D slots are zero"
   pub clear : (a : ℕ) → (clearAt p m a ≡ true) ↔

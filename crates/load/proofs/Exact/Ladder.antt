@@ -18,7 +18,7 @@ use Rattle.load.specs.Accepted.{ReactorAccepted}
 use Rattle.load.proofs.Exact.Bytes.{header-first}
 use Rattle.load.specs.declared.Scanned.{Scanned}
 use Rattle.load.specs.declared.Refusal.{Refusal}
-use Rattle.load.specs.declared.Refusal.the-variants.{ProgramLength, TableByte, Command, Operand, PortOrKind, Order, Missing, MemoryLength, UnsoundImage, ReadingsLength, Reading, SinkSpace, Clock, NoRoom, TooDeep, Withdrawn}
+use Rattle.load.specs.declared.Refusal.the-variants.{ProgramLength, TableByte, Command, Operand, PortOrKind, SetTwice, Missing, MemoryLength, UnsoundImage, ReadingsLength, Reading, SinkSpace, Clock, NoRoom, TooDeep, TooEarly, TooLate, NotLower, Withdrawn}
 use Rattle.load.specs.declared.Checked.{Checked}
 use Rattle.load.specs.declared.Checked.the-variants.{Accepted, Refused}
 
@@ -111,7 +111,7 @@ refusal-counts (TableByte q) = omega arith
 refusal-counts (Command q) = omega arith
 refusal-counts (Operand q) = omega arith
 refusal-counts (PortOrKind q) = omega arith
-refusal-counts (Order q) = omega arith
+refusal-counts (SetTwice q) = omega arith
 refusal-counts (Missing q) = omega arith
 refusal-counts (MemoryLength q) = omega arith
 refusal-counts (UnsoundImage q) = omega arith
@@ -121,6 +121,9 @@ refusal-counts (SinkSpace q) = omega arith
 refusal-counts Clock = omega arith
 refusal-counts (NoRoom q) = omega arith
 refusal-counts (TooDeep q) = omega arith
+refusal-counts (TooEarly q) = omega arith
+refusal-counts (TooLate q) = omega arith
+refusal-counts (NotLower q) = omega arith
 refusal-counts (Withdrawn q) = omega arith
 
 module _ (p : List ℕ) where

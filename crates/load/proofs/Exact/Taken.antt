@@ -1,5 +1,5 @@
 -- The check of one command, where the tables hold what they should: it refuses nothing exactly where the command fits.
-use Prim.Native.Nat.{ℕ, _≤_, _<_}
+use Prim.Native.Nat.{ℕ, suc, _≤_, _<_}
 use mathlib.Core.Path.{_≡_, refl, sym, subst, subst₂, subst₃}
 use mathlib.Core.Bool.{Bool}
 use mathlib.Core.Logic.{_↔_, _⊎_, ⊎-map, Iff·trans}
@@ -14,7 +14,7 @@ use Rattle.value.proofs.Tests.{remains, Says, says-lt, says-le, says-eq, says-t
 use Rattle.program.specs.Bytes.{declared, sourcesIn, sinksIn, sourceKind, sinkKind, shapeOf}
 use Rattle.program.specs.Command.{Cmd, Sequence, D, R, neither, cmdOf, decode, bytesOf, sequenceOf, allocMono, makePoly, constant, global, supply, react, consume, sink, allocPoly, primitive, none}
 use Rattle.program.specs.Location.{sinks, sinkLoc, shapeThere}
-use Rattle.load.specs.Scan.{standingAt, kindAt, isSupplied, readyAt, inSequence, remaining, located, agreed, disorder, refusalOf, unsetSink, setSink}
+use Rattle.load.specs.Scan.{standingAt, kindAt, isSupplied, readyAt, inSequence, remaining, located, agreed, disorder, refusalOf, waiting, unsetSink, setSink}
 use Rattle.load.specs.Rules.{Sets}
 use Rattle.load.specs.Accepted.{TablesRight}
 use Rattle.load.specs.declared.Scan.{Scan}
@@ -29,8 +29,8 @@ nothing-asked : (_≡_ {A = ℕ} 0 0) ↔ Unit {0}
 nothing-asked = ((λ e. tt), (λ u. refl))
 
 -- one test and no more
-asks : {t : Bool} {A : Type 0} → Says t A → (need t 6 0 ≡ 0) ↔ A
-asks f = let h = says-need 5 f (λ a. nothing-asked) in ((λ e. h .0 e .0), (λ a. h .1 (a, tt)))
+asks : {t : Bool} (n : ℕ) {A : Type 0} → Says t A → (need t (suc n) 0 ≡ 0) ↔ A
+asks n f = let h = says-need n f (λ a. nothing-asked) in ((λ e. h .0 e .0), (λ a. h .1 (a, tt)))
 
 flat : {A B C : Type 0} → (A × (B × C)) ↔ (A × B × C)
 flat = ((λ h. (h .0, h .1 .0, h .1 .1)), (λ h. (h .0, (h .1, h .2))))
@@ -123,20 +123,23 @@ module _ {p : List ℕ} {r k : ℕ} {s : Scan} (g : Holding p r k s) where
 
     disorder-says : (c : Cmd) → Located p r k c → Agreed p r c → (disorder p r s c ≡ 0) ↔ Timely p r k c
     unfolding disorder isSupplied
-    disorder-says (allocMono x) h a = asks says-lt
+    disorder-says (allocMono x) h a = asks 20 says-lt
     disorder-says (makePoly x) h a = nothing-asked
     disorder-says (constant x v) h a = nothing-asked
     disorder-says (global x) h a = nothing-asked
     disorder-says (supply x v b) h a =
-        asks (Iff·trans (says-and says-le (says-not says-eq)) (deployment-open g b x (h .1) (a .0)))
+        Iff·trans (says-need 19 says-le (λ l. asks 5 (says-not says-eq))) (deployment-open g b x (h .1) (a .0))
     disorder-says (react b) h a =
+        let n = readyAt (sourcesIn p (shapeThere p r b)) in
         let t = standingAt s b =? readyAt (sourcesIn p (kindAt s b)) in
-        asks (Iff·trans
-        (subst (λ m. Says t (standingAt s b ≡ readyAt (sourcesIn p m))) (shape-of-deployment g b h) says-eq)
-        (deployment-ready g b (few-sources b h) h))
-    disorder-says (consume x b) h a = asks (Iff·trans says-eq (deployment-reacted g b h))
-    disorder-says (sink x v) h a = asks (Iff·trans says-eq (sink-open x (a .0)))
-    disorder-says (allocPoly v b) h a = asks (Iff·trans says-eq (point-free g b (h .1)))
+        let ready =
+        subst (λ m. Says t (standingAt s b ≡ readyAt (sourcesIn p m))) (shape-of-deployment g b h) says-eq in
+        let above : standingAt s b ≡ n → waiting ≤ standingAt s b = (λ e. unfold readyAt in omega arith) in
+        Iff·trans (says-need 19 says-le (λ l. asks 18 ready))
+        (Iff·trans ((λ q. q .1), (λ e. (above e, e))) (deployment-ready g b (few-sources b h) h))
+    disorder-says (consume x b) h a = asks 18 (Iff·trans says-eq (deployment-reacted g b h))
+    disorder-says (sink x v) h a = asks 5 (Iff·trans says-eq (sink-open x (a .0)))
+    disorder-says (allocPoly v b) h a = asks 19 (Iff·trans says-eq (point-free g b (h .1)))
     disorder-says (primitive x d b c) h a = nothing-asked
     disorder-says none h a = nothing-asked
 

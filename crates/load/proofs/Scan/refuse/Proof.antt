@@ -1,8 +1,8 @@
 -- A return after so many tests. `at-..` is what is known where that test was made: its result, and that it passed.
 use Rattle.load.specs.Scan.{refusalOf}
-use Rattle.value.proofs.Tests.{no, not-false, not-true, passed, refused, yes}
+use Rattle.value.proofs.Tests.{no, passed, refused, yes}
 use borrow.Author.Needs.{needs}
-use mathlib.Core.Path.{_∙_, refl}
+use mathlib.Core.Path.{refl}
 use Rattle.load.proofs.Scan.refuse.Statement.{statement}
 use Rattle.load.proofs.Scan.refuse.Tie as tie
 
@@ -54,7 +54,7 @@ returns-5 c =
 returns-6 : tie.Need-returns-6
 unfolding refusalOf
 returns-6 c =
-    let at-agreed = c .before .before in
+    let at-agreed = c .before in
     let at-located = at-agreed .before .before in
     let at-remaining = at-located .before .before in
     let at-formed = at-remaining .before .before in
@@ -64,27 +64,11 @@ returns-6 c =
     (yes _ (passed (at-remaining .before .remaining .ensures) (at-remaining .if3 .left))
     (yes _ (passed (at-located .before .located .ensures) (at-located .if4 .left))
     (yes _ (passed (at-agreed .before .agreed .ensures) (at-agreed .if5 .left))
-    (no _ (not-true _ (c .if6 .taken)) refl ∙ c .before .ordered .ensures)))))
-
-returns-7 : tie.Need-returns-7
-unfolding refusalOf
-returns-7 c =
-    let at-agreed = c .before .before in
-    let at-located = at-agreed .before .before in
-    let at-remaining = at-located .before .before in
-    let at-formed = at-remaining .before .before in
-    let at-in-sequence = at-formed .before .before in
-    yes _ (passed (at-in-sequence .before .in-sequence .ensures) (at-in-sequence .if1 .left))
-    (yes _ (passed (at-formed .before .formed .ensures) (at-formed .if2 .left))
-    (yes _ (passed (at-remaining .before .remaining .ensures) (at-remaining .if3 .left))
-    (yes _ (passed (at-located .before .located .ensures) (at-located .if4 .left))
-    (yes _ (passed (at-agreed .before .agreed .ensures) (at-agreed .if5 .left))
-    (yes _ (not-false _ (c .if6 .left)) refl ∙ c .before .ordered .ensures)))))
+    (c .disorder .ensures)))))
 
 pub refuse-spec : {M : Type 1} → statement M
 refuse-spec =
     tie.close
     (tie.spec
     (λ c κs. search needs) returns (λ c κs. search needs) returns-2 (λ c κs. search needs) returns-3
-    (λ c κs. search needs) returns-4 (λ c κs. search needs) returns-5 (λ c κs. search needs) returns-6
-    returns-7)
+    (λ c κs. search needs) returns-4 (λ c κs. search needs) returns-5 (λ c κs. search needs) returns-6)
