@@ -19,10 +19,10 @@ use lib.ListN.{length}
 use Rattle.value.specs.Test.{guard, _=?_}
 use Rattle.value.specs.Value.{blank}
 use Rattle.value.proofs.Tests.{eq!, eq?, eq×?, guards}
-use Rattle.program.specs.Bytes.{reactors, mostReactors, mainOf}
+use Rattle.program.specs.Bytes.{mainOf}
 use Rattle.program.specs.Location.{locations, sizeOf}
 use Rattle.load.specs.Rules.{Rules}
-use Rattle.image.specs.Memory.{mostWords, mainAt, used, turns, reactor, next, valueAt, sizeAt}
+use Rattle.image.specs.Memory.{mostWords, mainAt, turns, reactor, next, valueAt, sizeAt}
 use Rattle.image.specs.Sound.{Deployed, InD, Fresh, Grown, Sound}
 use Rattle.image.specs.Passes.{Judged, sound, unsound, freshSound, grownSound, byTurns, soundOf, ExactSoundness}
 use Rattle.image.specs.Fault.{Framed, Own, FreshMain, All}

@@ -298,6 +298,10 @@ pub says-not : {t : Bool} {A : Type 0} → Says t A → Says (not t) (A → ⊥)
 says-not {t = true} f = ((λ e a. false≢true e), (λ h. absurd (h (f .0 refl))))
 says-not {t = false} f = ((λ e a. false≢true (f .1 a)), (λ h. refl))
 
+-- a test fails exactly where what it says does not hold
+pub says× : {t : Bool} {A : Type 0} → Says t A → (t ≡ false) ↔ (A → ⊥)
+says× f = ((λ e a. clash (f .1 a) e), (λ n. not-true _ (says-not f .1 n)))
+
 -- A ladder refuses nothing exactly where each test holds; what a later one says may rest on the earlier.
 pub says-need : {t : Bool} (n : ℕ) {rest : ℕ} {A B : Type 0} → Says t A → (A → (rest ≡ 0) ↔ B) → (need t (suc n) rest ≡ 0) ↔ (A × B)
 unfolding pick

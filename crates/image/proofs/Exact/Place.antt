@@ -7,13 +7,13 @@ use mathlib.Core.List.{List}
 use native.Mathlib.Omega.{arith}
 use lib.ListN.{length}
 use Rattle.value.specs.Test.{guard, _=?_}
-use Rattle.value.proofs.Tests.{cases, clash, eq!, eq×, eq?, eq×?, not-true, Says, says-not}
+use Rattle.value.proofs.Tests.{cases, eq!, eq×, eq?, eq×?, says×}
 use Rattle.program.specs.Bytes.{reactors, mostReactors, mainOf}
 use Rattle.program.specs.Location.{sizeOf}
 use Rattle.image.specs.Memory.{mostWords, mainAt, used, turns, reactor, next, sizeAt}
 use Rattle.image.specs.Sound.{Tiles, done, more, In, here, there, Deployed}
-use Rattle.image.specs.Passes.{Judged, sound, unsound, freshSound, grownSound, byTurns, framed, soundOf}
-use Rattle.image.specs.Fault.{Framed, Own, Named, Shallow, All, Lowest, FreshFault, main, second, GrownFault, own, named, depth, FaultAt, frame, fresh, grown, ExactPlace}
+use Rattle.image.specs.Passes.{Judged, sound, unsound, freshSound, grownSound, byTurns, soundOf}
+use Rattle.image.specs.Fault.{Framed, Own, Lowest, FreshFault, main, second, GrownFault, own, named, depth, FaultAt, frame, fresh, grown, ExactPlace}
 use Rattle.image.proofs.Memory.Tiles.{in-ge, in-to}
 use Rattle.image.proofs.Exact.Tiling.{Laid, starts}
 use Rattle.image.proofs.Exact.Rungs.{unsound-not, framed-says, framed-laid, main-says, lowest-one, own-says, own-stops, named-says, named-stops, depth-says}
@@ -32,10 +32,6 @@ last-rung t n q =
     let w = rung t n q (λ _. sound) in
     (λ e. elim (w .0 e) [ inl k ↦ k | inr k ↦ absurd (unsound-not q (sym (k .1))) ], λ h. w .1 (inl h))
 
--- a test fails exactly where what it says does not hold
-fails : {t : Bool} {A : Type 0} → Says t A → (t ≡ false) ↔ (A → ⊥)
-fails f = (λ e a. clash (f .1 a) e, λ n. not-true _ (says-not f .1 n))
-
 module _ (p m : List ℕ) where
   -- ---- turns above 0
 
@@ -52,7 +48,7 @@ module _ (p m : List ℕ) where
                 | inr k ↦
                     let n = named-says p m laid o .0 (k .0) in
                     let l = last-rung _ _ q .0 (k .1) in
-                    subst (GrownFault p m) (l .1) (depth o n (fails (depth-says p m laid o n) .0 (l .0)))
+                    subst (GrownFault p m) (l .1) (depth o n (says× (depth-says p m laid o n) .0 (l .0)))
               ]
         ]
 
@@ -62,7 +58,7 @@ module _ (p m : List ℕ) where
     grown-stops {q} (named o l) =
         rung _ _ q _ .1 (inr (own-says p m laid z .1 o, rung _ _ q _ .1 (inl (named-stops p m laid o q .1 l))))
     grown-stops (depth o n d) =
-        let deep = last-rung _ 0 0 .1 (fails (depth-says p m laid o n) .1 d, refl) in
+        let deep = last-rung _ 0 0 .1 (says× (depth-says p m laid o n) .1 d, refl) in
         rung _ _ 0 _ .1 (inr (own-says p m laid z .1 o, rung _ _ 0 _ .1 (inr (named-says p m laid o .1 n, deep))))
 
   -- ---- turns 0
@@ -86,7 +82,7 @@ module _ (p m : List ℕ) where
     fresh-fault q e =
         let says = main-says p m (f .first) z in
         elim (rung _ _ q _ .0 e) [
-          | inl h ↦ subst (FreshFault p m) (h .1) (main (fails says .0 (h .0)))
+          | inl h ↦ subst (FreshFault p m) (h .1) (main (says× says .0 (h .0)))
           | inr h ↦
               let l = last-rung _ _ q .0 (h .1) in
               subst (FreshFault p m) (l .1) (second (says .0 (h .0)) (second-at f (eq×? (l .0))))
@@ -94,7 +90,7 @@ module _ (p m : List ℕ) where
 
     fresh-stops : {q : ℕ} → FreshFault p m q → freshSound p m ≡ unsound q
     unfolding freshSound
-    fresh-stops (main n) = rung _ _ mainAt _ .1 (inl (fails (main-says p m (f .first) z) .1 n, refl))
+    fresh-stops (main n) = rung _ _ mainAt _ .1 (inl (says× (main-says p m (f .first) z) .1 n, refl))
     fresh-stops {q} (second g d) =
         let longer : (used m =? mainAt + sizeOf p (mainOf p)) ≡ false = eq× (λ e. omega (arith, in-to p d)) in
         rung _ _ q _ .1 (inr (main-says p m (f .first) z .1 g, last-rung _ _ q .1 (longer, refl)))
@@ -137,7 +133,7 @@ module _ (p m : List ℕ) where
     unfolding soundOf
     fault-at q e =
         elim (rung _ _ q _ .0 e) [
-          | inl h ↦ subst (FaultAt p m) (h .1) (frame (fails (framed-says p m) .0 (h .0)))
+          | inl h ↦ subst (FaultAt p m) (h .1) (frame (says× (framed-says p m) .0 (h .0)))
           | inr h ↦
               let f = framed-says p m .0 (h .0) in
               elim (rung _ _ q _ .0 (h .1)) [
@@ -158,7 +154,7 @@ module _ (p m : List ℕ) where
 
     fault-stops : {q : ℕ} → FaultAt p m q → soundOf p m ≡ unsound q
     unfolding soundOf byTurns
-    fault-stops (frame n) = rung _ _ 0 _ .1 (inl (fails (framed-says p m) .1 n, refl))
+    fault-stops (frame n) = rung _ _ 0 _ .1 (inl (says× (framed-says p m) .1 n, refl))
     fault-stops {q} (fresh f t g) =
         stops-at q f (λ n. next-fresh n g) (λ z. ap (byTurns p m) (eq! t) ∙ fresh-stops f z g)
     fault-stops {q} (grown f t g) =
