@@ -70,7 +70,10 @@ fn fresh(program: &[u8], memory: &[u32]) -> Judged
 // With turns above 0: every deployment's own words are right, each is named once, none is too deep.
 fn grown(program: &[u8], memory: &[u32], u: u32) -> Judged
     requires { ⌜ W.Tiling (now program) (now memory) u M.mainAt ⌝ }
-    ensures { λ r. ⌜ N.judged r ≡ P.grownSound (now (program .entry)) (now (memory .entry)) (W.startsOn (now (program .entry)) (now (memory .entry)) u M.mainAt) ⌝ }
+    ensures { λ r.
+        let p = now (program .entry) in
+        let m = now (memory .entry) in
+        ⌜ N.judged r ≡ P.grownSound p m (W.startsOn p m u M.mainAt) ⌝ }
 {
     let mut places = [0u32; 256];
     fill_positions(program, &mut places);

@@ -100,7 +100,7 @@ starred =
     ∷ case (withCommand toggle 190 (command 6 0 0 11 0)) 19 190  -- React before source 1 is supplied
     ∷ case (withCommand toggle 198 (command 7 0 0 11 0)) 19 198  -- Consume before React
     ∷ case (withCommand toggle 206 (command 6 0 0 11 0)) 20 206  -- a second React
-    ∷ case (withCommand toggle 206 (command 5 0 2 11 0)) 20 206  -- Supply after React, which would be source 0 again too
+    ∷ case (withCommand toggle 206 (command 5 0 2 11 0)) 20 206  -- Supply after React, and source 0 again
     ∷ case (withCommand toggle 182 (command 9 0 10 0 0)) 20 182  -- a second AllocPoly
     ∷ case (withCommand toggle 86 (command 1 2 0 0 0)) 21 86  -- AllocMono of its own reactor
     ∷ case (withCommand toggle 206 (command 5 2 2 11 0)) 5 206  -- a late Supply to no source: 5 comes first

@@ -6,5 +6,6 @@ pub mod Rules
 pub mod Bits
 pub mod Legal
 pub mod Accepted
+pub mod Order
 pub mod Open
 pub mod Cases

@@ -13,7 +13,7 @@ use Rattle.program.specs.Command.{Cmd, Sequence, cmdOf, bytesOf, sequenceOf, D,
 use Rattle.program.specs.Location.{sinks, shapeThere}
 use Rattle.program.specs.Kind.{kindOf, Content}
 use Rattle.load.specs.Rules.{ZeroBytes, Supplies, Reacts, Allocates, Sets}
-use Rattle.load.proofs.Exact.Seen.{Never, Already}
+use Rattle.load.specs.Order.{Never, Already}
 use Rattle.load.proofs.Exact.Class.{Class, a-value, a-point, a-deployment, a-sink, nothing}
 use Rattle.load.proofs.Exact.Places.{classAt}
 

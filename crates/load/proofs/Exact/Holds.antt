@@ -13,7 +13,8 @@ use Rattle.load.specs.Scan.{standingAt, kindAt, isValue, isPoint, isDepl
 use Rattle.load.specs.Rules.{Supplies, Reacts, Allocates, Sets}
 use Rattle.load.specs.declared.Scan.{Scan}
 use Rattle.load.proofs.Exact.Bits.{bit, ready-exact}
-use Rattle.load.proofs.Exact.Seen.{Never, Already, Tells, tells-lo, tells-hi}
+use Rattle.load.specs.Order.{Never, Already}
+use Rattle.load.proofs.Exact.Seen.{Tells, tells-lo, tells-hi}
 use Rattle.load.proofs.Exact.Class.{Class, a-value, a-point, a-deployment, a-sink, nothing, rank, clash}
 use Rattle.load.proofs.Exact.Places.{classAt}
 use Rattle.load.proofs.Exact.Stand.{Sized, Reads}
@@ -97,7 +98,7 @@ module _ (p : List ℕ) (r : ℕ) where
     deployed-reacted (inr h) = ((λ q. absurd (let w = h .0 in omega arith)), (λ a. absurd (h .2 (a .0) (a .1) (a .2))))
 
     -- bit x tells whether source x is supplied
-    supplied : (x : ℕ) → x < n → ((i : ℕ) → i < n → Tells p r 0 1 (Supplies p r i l) k (bit st i)) →
+    pub supplied : (x : ℕ) → x < n → ((i : ℕ) → i < n → Tells p r 0 1 (Supplies p r i l) k (bit st i)) →
         (bit st x ≡ 1) ↔ Already p r (Supplies p r x l) k
     supplied x i h = tells-hi p r (Supplies p r x l) 0 1 k (bit st x) (omega arith) (h x i)
 

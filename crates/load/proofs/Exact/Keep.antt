@@ -14,7 +14,8 @@ use Rattle.load.specs.Rules.{Supplies, Reacts, Allocates, Sets}
 use Rattle.load.specs.Accepted.{TablesRight}
 use Rattle.load.specs.declared.Scan.{Scan}
 use Rattle.load.proofs.Exact.Bits.{bit, none-yet, some-room}
-use Rattle.load.proofs.Exact.Seen.{never-more, already-more, tells-more, Never, never-narrow}
+use Rattle.load.specs.Order.{Never}
+use Rattle.load.proofs.Exact.Seen.{never-more, already-more, tells-more, never-narrow}
 use Rattle.load.proofs.Exact.Class.{Class, a-value, a-point, a-deployment, a-sink, nothing, rank, clash}
 use Rattle.load.proofs.Exact.Holds.{Touches, Deployed, Holds, Shaped, Holding, holds-as}
 use Rattle.load.proofs.Exact.Places.{classAt, class-ahead, class-sink}

@@ -16,7 +16,8 @@ use Rattle.load.specs.Rules.{Supplies, Reacts, Allocates, Sets}
 use Rattle.load.specs.Accepted.{TablesRight}
 use Rattle.load.specs.declared.Scan.{Scan}
 use Rattle.load.proofs.Exact.Bits.{bit, add-bit, keep-bit}
-use Rattle.load.proofs.Exact.Seen.{Never, Tells, never-more, already-now, tells-more, tells-lo}
+use Rattle.load.specs.Order.{Never}
+use Rattle.load.proofs.Exact.Seen.{Tells, never-more, already-now, tells-more, tells-lo}
 use Rattle.load.proofs.Exact.Class.{a-value, a-deployment, nothing, classOf, IsMade}
 use Rattle.load.proofs.Exact.Places.{classAt, class-sink, made-where, value-low}
 use Rattle.load.proofs.Exact.KindLaws.{point-shape, given-same}

@@ -15,7 +15,8 @@ use Rattle.program.specs.Command.{Cmd, Sequence, cmdOf, sequenceOf, D, R, neith
 use Rattle.program.specs.Location.{commandLoc, sinkLoc, cmdAt, shapeThere}
 use Rattle.program.specs.Kind.{kindOf}
 use Rattle.load.specs.Rules.{Value, Deployment, Point, Operands, Right, Once, Supplies, Reacts, Allocates, Sets, Served, ReactorRule}
-use Rattle.load.proofs.Exact.Seen.{Never, Already, FirstOnly, one, once}
+use Rattle.load.specs.Order.{Never, Already}
+use Rattle.load.proofs.Exact.Seen.{FirstOnly, one, once}
 use Rattle.load.proofs.Exact.Class.{a-point, a-deployment, classOf, IsMade, shows-as}
 use Rattle.load.proofs.Exact.Places.{classAt, loc-lt, loc-lt-back, cmd-there, cmd-where, class-made, class-sink, by-place, value-exact, made-where}
 use Rattle.load.proofs.Exact.Fits.{KindsFit, InSequence, Ranged, Remaining, ValueAt, Located, Agreed, Timely, Fits, Ended, Stepwise}

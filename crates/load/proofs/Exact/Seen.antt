@@ -10,18 +10,13 @@ use Rattle.value.proofs.Tests.{cases, lt?, lt×?}
 use Rattle.program.specs.Bytes.{commandsIn}
 use Rattle.program.specs.Command.{Cmd, cmdOf}
 use Rattle.load.specs.Rules.{Once}
+use Rattle.load.specs.Order.{Never, Already}
 use Rattle.value.proofs.Below.{last-or-below}
 
 module _ (p : List ℕ) (r : ℕ) where
-  abbrev pub Never : (Cmd → Type 0) → ℕ → Type 0
-  Never P k = (i : ℕ) → i < k → P (cmdOf p r i) → ⊥
-
-  abbrev pub Already : (Cmd → Type 0) → ℕ → Type 0
-  Already P k = (i : ℕ) × (i < k) × P (cmdOf p r i)
-
   -- v is lo before the first command with P, and hi after it
   abbrev pub Tells : ℕ → ℕ → (Cmd → Type 0) → ℕ → ℕ → Type 0
-  Tells lo hi P k v = ((v ≡ lo) × Never P k) ⊎ ((v ≡ hi) × Already P k)
+  Tells lo hi P k v = ((v ≡ lo) × Never p r P k) ⊎ ((v ≡ hi) × Already p r P k)
 
 module _ (p : List ℕ) (r : ℕ) (P : Cmd → Type 0) where
   pub never-start : Never p r P 0

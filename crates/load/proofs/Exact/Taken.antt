@@ -18,7 +18,8 @@ use Rattle.load.specs.Scan.{standingAt, kindAt, isSupplied, readyAt, inS
 use Rattle.load.specs.Rules.{Sets}
 use Rattle.load.specs.Accepted.{TablesRight}
 use Rattle.load.specs.declared.Scan.{Scan}
-use Rattle.load.proofs.Exact.Seen.{Never, tells-lo}
+use Rattle.load.specs.Order.{Never}
+use Rattle.load.proofs.Exact.Seen.{tells-lo}
 use Rattle.load.proofs.Exact.Class.{a-deployment}
 use Rattle.load.proofs.Exact.Places.{classAt, class-sink}
 use Rattle.load.proofs.Exact.Fits.{KindsFit, InSequence, Remaining, Located, Agreed, Timely, Fits}
@@ -74,7 +75,7 @@ kinds-say TwoAlike j k l j′ k′ l′ e f g =
     subst₂ (λ a b. Says (kindsFit TwoAlike j k l) (a ≡ b)) e (remains (omega arith) f) says-eq
 
 module _ {p : List ℕ} {r k : ℕ} {s : Scan} (g : Holding p r k s) where
-  located-says : (c : Cmd) → Says (located s c) (Located p r k c)
+  pub located-says : (c : Cmd) → Says (located s c) (Located p r k c)
   unfolding located
   located-says (allocMono x) = says-true
   located-says (makePoly x) = says-true
@@ -89,7 +90,7 @@ module _ {p : List ℕ} {r k : ℕ} {s : Scan} (g : Holding p r k s) where
       Iff·trans (says-and (value-says g a) (says-and (says-or says-lt (value-says g b)) (says-or says-lt (value-says g c)))) flat
   located-says none = says-true
 
-  agreed-says : (c : Cmd) → Located p r k c → Says (agreed p r s c) (Agreed p r c)
+  pub agreed-says : (c : Cmd) → Located p r k c → Says (agreed p r s c) (Agreed p r c)
   unfolding agreed operands
   agreed-says (allocMono x) h = says-true
   agreed-says (makePoly x) h = says-true
@@ -112,13 +113,13 @@ module _ {p : List ℕ} {r k : ℕ} {s : Scan} (g : Holding p r k s) where
       (⊎-map (λ q. q) (kind-of-value g b) (h .1)) (⊎-map (λ q. q) (kind-of-value g c) (h .2))
   agreed-says none h = says-true
 
-  sink-open : (x : ℕ) → x < sinks p r → (standingAt s (sinkLoc p r x) ≡ unsetSink) ↔ Never p r (Sets p r x) k
+  pub sink-open : (x : ℕ) → x < sinks p r → (standingAt s (sinkLoc p r x) ≡ unsetSink) ↔ Never p r (Sets p r x) k
   sink-open x h =
       let held = holds-as g (sinkLoc p r x) (class-sink p r k x h (g .few)) in
       tells-lo p r (Sets p r x) unsetSink setSink k _ (omega arith) (held .1)
 
   module _ (t : TablesRight p) where
-    few-sources : (b : ℕ) → classAt p r k b ≡ a-deployment → sourcesIn p (shapeThere p r b) ≤ 7
+    pub few-sources : (b : ℕ) → classAt p r k b ≡ a-deployment → sourcesIn p (shapeThere p r b) ≤ 7
     few-sources b e = t .every-shape (shapeThere p r b) (holds-as g b e .1 .1) .few-sources
 
     disorder-says : (c : Cmd) → Located p r k c → Agreed p r c → (disorder p r s c ≡ 0) ↔ Timely p r k c
