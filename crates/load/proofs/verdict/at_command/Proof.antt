@@ -1,64 +1,39 @@
+use Prim.Native.Nat.{ℕ}
 use Rattle.load.specs.Refusal.{atCommand}
-use Rattle.value.proofs.Tests.{eq!, eq×, no, yes}
-use mathlib.Core.Path.{refl}
+use Rattle.value.proofs.Tests.{eq×, no}
+use Rattle.value.specs.Test.{pick, _=?_}
+use mathlib.Core.Path.{_≡_, refl}
 use native.Mathlib.Omega.{arith}
 use Rattle.load.proofs.verdict.at_command.Statement.{statement}
 use Rattle.load.proofs.verdict.at_command.Tie as tie
 
 returns : tie.Need-returns
-unfolding atCommand
-returns c = yes _ (eq! (omega arith)) refl
+unfolding atCommand pick _=?_
+returns c = let e : c .before .args .number ≡ 3 = omega arith in rw e refl
 
 returns-2 : tie.Need-returns-2
-unfolding atCommand
-returns-2 c =
-    no _ (eq× (λ e. omega arith))
-    (yes _ (eq! (omega arith)) refl)
+unfolding atCommand pick _=?_
+returns-2 c = let e : c .before .args .number ≡ 4 = omega arith in rw e refl
 
 returns-3 : tie.Need-returns-3
-unfolding atCommand
-returns-3 c =
-    no _ (eq× (λ e. omega arith))
-    (no _ (eq× (λ e. omega arith))
-    (yes _ (eq! (omega arith)) refl))
+unfolding atCommand pick _=?_
+returns-3 c = let e : c .before .args .number ≡ 5 = omega arith in rw e refl
 
 returns-4 : tie.Need-returns-4
-unfolding atCommand
-returns-4 c =
-    no _ (eq× (λ e. omega arith))
-    (no _ (eq× (λ e. omega arith))
-    (no _ (eq× (λ e. omega arith))
-    (yes _ (eq! (omega arith)) refl)))
+unfolding atCommand pick _=?_
+returns-4 c = let e : c .before .args .number ≡ 6 = omega arith in rw e refl
 
 returns-5 : tie.Need-returns-5
-unfolding atCommand
-returns-5 c =
-    no _ (eq× (λ e. omega arith))
-    (no _ (eq× (λ e. omega arith))
-    (no _ (eq× (λ e. omega arith))
-    (no _ (eq× (λ e. omega arith))
-    (yes _ (eq! (omega arith)) refl))))
+unfolding atCommand pick _=?_
+returns-5 c = let e : c .before .args .number ≡ 19 = omega arith in rw e refl
 
 returns-6 : tie.Need-returns-6
-unfolding atCommand
-returns-6 c =
-    no _ (eq× (λ e. omega arith))
-    (no _ (eq× (λ e. omega arith))
-    (no _ (eq× (λ e. omega arith))
-    (no _ (eq× (λ e. omega arith))
-    (no _ (eq× (λ e. omega arith))
-    (yes _ (eq! (omega arith)) refl)))))
+unfolding atCommand pick _=?_
+returns-6 c = let e : c .before .args .number ≡ 20 = omega arith in rw e refl
 
 returns-7 : tie.Need-returns-7
-unfolding atCommand
-returns-7 c =
-    no _ (eq× (λ e. omega arith))
-    (no _ (eq× (λ e. omega arith))
-    (no _ (eq× (λ e. omega arith))
-    (no _ (eq× (λ e. omega arith))
-    (no _ (eq× (λ e. omega arith))
-    (no _ (eq× (λ e. omega arith))
-    (yes _ (eq! (omega arith)) refl))))))
+unfolding atCommand pick _=?_
+returns-7 c = let e : c .before .args .number ≡ 25 = omega arith in rw e refl
 
 returns-8 : tie.Need-returns-8
 unfolding atCommand
