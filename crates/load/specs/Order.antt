@@ -1,4 +1,5 @@
--- Which number a command out of order has, by the commands before it: 02 (vi). Nothing here speaks of standings.
+-- Which number a command out of order has, by the commands before it: 02 (vi). `OutOfOrder` does not speak of the scan;
+-- `ExactOrder` holds the scan's test to it.
 use Prim.Native.Nat.{ℕ, _≤_, _<_}
 use mathlib.Core.Path.{_≡_}
 use mathlib.Core.Bool.{true}
