@@ -550,8 +550,8 @@ fn put_start(name: &[u8], program: &[u8], memory: &mut [u32]) {
 
 // Memory is not zero before a start.
 pub fn print_starts() {
-    put_start(b"clock", &CLOCK, &mut [77u32; 10]);
-    put_start(b"clock", &CLOCK, &mut [77u32; 11]);
+    put_start(b"clock", &CLOCK, &mut [77u32; 8]);
+    put_start(b"clock", &CLOCK, &mut [77u32; 9]);
     put_start(b"clock", &CLOCK, &mut [77u32; 1]);
-    put_start(b"toggle", &TOGGLE, &mut [77u32; 67]);
+    put_start(b"toggle", &TOGGLE, &mut [77u32; 55]);
 }

@@ -107,12 +107,12 @@ fn average(memory: &mut [u32], readings: &[u32]) {
 }
 
 pub fn print_all() {
-    clock(&mut [77u32; 11]);
-    toggle(b"toggle", &mut [77u32; 67]);
-    toggle(b"toggle in 66 words", &mut [77u32; 66]);
-    ticking(&mut [77u32; 67]);
-    nest(b"nest in 1089 words", &mut [77u32; 1089]);
-    nest(b"nest in 1090 words", &mut [77u32; 1090]);
-    average(&mut [77u32; 23], &[1, 10, 1, 20, 1, 30]);
-    average(&mut [77u32; 23], &[1, 10, 0, 0, 1, 30]);
+    clock(&mut [77u32; 9]);
+    toggle(b"toggle", &mut [77u32; 55]);
+    toggle(b"toggle in 54 words", &mut [77u32; 54]);
+    ticking(&mut [77u32; 55]);
+    nest(b"nest in 833 words", &mut [77u32; 833]);
+    nest(b"nest in 834 words", &mut [77u32; 834]);
+    average(&mut [77u32; 21], &[1, 10, 1, 20, 1, 30]);
+    average(&mut [77u32; 21], &[1, 10, 0, 0, 1, 30]);
 }

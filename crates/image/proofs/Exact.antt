@@ -20,7 +20,7 @@ use Rattle.value.specs.Test.{guard, _=?_}
 use Rattle.value.specs.Value.{blank}
 use Rattle.value.proofs.Tests.{eq!, eq?, eq×?, guards}
 use Rattle.program.specs.Bytes.{mainOf}
-use Rattle.program.specs.Location.{locations, sizeOf}
+use Rattle.program.specs.Location.{sizeOf, HasSlot}
 use Rattle.load.specs.Rules.{Rules}
 use Rattle.image.specs.Memory.{mostWords, mainAt, turns, reactor, next, valueAt, sizeAt}
 use Rattle.image.specs.Sound.{Deployed, InD, Fresh, Grown, Sound}
@@ -37,7 +37,7 @@ ladder t n more = guards (λ (j : Judged). j ≡ sound) t (unsound n) more (unso
 module _ (p m : List ℕ) where
   -- "all slots but D slots are zero"
   abbrev Empty : ℕ → Type 0
-  Empty d = (l : ℕ) → l < locations p (reactor m d) → (InD p m (reactor m d) l → ⊥) → valueAt p m d l ≡ blank
+  Empty d = (l : ℕ) → HasSlot p (reactor m d) l → (InD p m (reactor m d) l → ⊥) → valueAt p m d l ≡ blank
 
   -- ---- turns 0
 
@@ -59,7 +59,7 @@ module _ (p m : List ℕ) where
   unfolding sizeAt
   fresh-empty e r d i =
       ⊎-elim
-      (λ q. subst Empty (sym q) (λ l k n. r .empty l (subst (λ (x : ℕ). l < locations p x) e k)))
+      (λ q. subst Empty (sym q) (λ l k n. r .empty l (subst (λ (x : ℕ). HasSlot p x l) e k)))
       (λ q. absurd (omega (arith, in-to p i, r .alone, ap (sizeOf p) e)))
       (in-next p i)
 

@@ -10,7 +10,7 @@ use lib.ListN.{length}
 use Rattle.value.specs.Value.{blank}
 use Rattle.program.specs.Bytes.{reactors, mostReactors, declared, mainOf}
 use Rattle.program.specs.Command.{cmdOf, allocMono, makePoly}
-use Rattle.program.specs.Location.{commandLoc, locations, sizeOf}
+use Rattle.program.specs.Location.{commandLoc, sizeOf, HasSlot}
 use Rattle.image.specs.Memory.{mostWords, mostTurns, mostDepth, mainAt, word, used, turns, reactor, wired, next, valueAt}
 use Rattle.image.specs.Sound.{Tiles, Deployed, InD, MonoSlot, PointSlot, NamedOnce, Depth}
 use Rattle.image.specs.Passes.{unsound, soundOf}
@@ -34,14 +34,14 @@ module _ (p m : List ℕ) where
   -- d's own words, once a turn is completed; of next, main's alone, since another's is its owner's chain
   pub record Own (d : ℕ) : Type 0 where
     pub is-wired : wired m d ≡ 1
-    pub empty : (l : ℕ) → l < locations p (reactor m d) → (InD p m (reactor m d) l → ⊥) → valueAt p m d l ≡ blank
+    pub empty : (l : ℕ) → HasSlot p (reactor m d) l → (InD p m (reactor m d) l → ⊥) → valueAt p m d l ≡ blank
     pub slots : SlotsRight d
     pub last : d ≡ mainAt → next m d ≡ 0
 
   -- main's own words, before any turn is completed
   pub record FreshMain : Type 0 where
     pub unwired : wired m mainAt ≡ 0
-    pub empty : (l : ℕ) → l < locations p (mainOf p) → valueAt p m mainAt l ≡ blank
+    pub empty : (l : ℕ) → HasSlot p (mainOf p) l → valueAt p m mainAt l ≡ blank
     pub last : next m mainAt ≡ 0
 
   -- nothing has to name main

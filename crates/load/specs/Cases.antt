@@ -23,7 +23,7 @@ abbrev pub clock : List ℕ
 clock = joined ((1 ∷ 1 ∷ 1 ∷ zeros 5) ∷ (0 ∷ 1 ∷ zeros 14) ∷ (0 ∷ 0 ∷ 2 ∷ 0 ∷ []) ∷ (4 ∷ zeros 7) ∷ (8 ∷ zeros 7) ∷ [])
 
 -- "Nest program: one reactor, no sources, one number sink; D MakePoly shape 0; R Constant of kind 2 value 0, AllocPoly, React,
--- Consume, Sink. 76 bytes, size 17."
+-- Consume, Sink. 76 bytes". 02 (viii): "the nest to 13".
 abbrev pub nest : List ℕ
 nest =
     joined (
@@ -31,7 +31,7 @@ nest =
     ∷ command 2 0 0 0 0  -- 0 a branch point of shape 0
     ∷ command 3 2 0 0 0 ∷ command 9 0 1 0 0 ∷ command 6 0 0 2 0 ∷ command 7 0 0 2 0 ∷ command 8 0 4 0 0 ∷ [])
 
--- The toggle program: reactors 0 and 1 of size 13, plus and minus; main, of size 39, takes minus where the time is odd, which it
+-- The toggle program: reactors 0 and 1 of size 11, plus and minus; main, of size 31, takes minus where the time is odd, which it
 -- tells by times and divide: 02 (x).
 abbrev pub toggle : List ℕ
 toggle =
@@ -83,17 +83,17 @@ case p n q = record { program = p; number = n; place = q }
 
 abbrev pub starred : List Case
 starred =
-    case clock 0 9  -- "* Check: 0, 9."
+    case clock 0 7  -- the sizes are those of 02 (viii)
     ∷ case (take 43 clock) 1 43  -- "* Its first 43 bytes: 1, 43."
     ∷ case (set clock 38 1) 4 36  -- "* Last command's a set to 1: 4, 36."
-    ∷ case nest 0 17  -- "76 bytes, size 17."
-    ∷ case toggle 0 39  -- "main of size 39"
+    ∷ case nest 0 13
+    ∷ case toggle 0 31
     ∷ case stocked 25 126  -- refused by name, at the command's byte
     ∷ case (set stocked 130 1) 3 126  -- with a third operand, which it never took: 3 comes first
     ∷ case (set stocked 128 29) 25 126  -- with an operand that names no location: 4 comes later
-    ∷ case ticking 0 39
+    ∷ case ticking 0 31
     ∷ case (set toggle 71 14) 3 70  -- no primitive has this number
-    ∷ case graded 0 21
+    ∷ case graded 0 19
     -- 02 (vi): the toggle with one command out of order among those that deploy, supply, run and read at location 11
     ∷ case (withCommand toggle 190 (command 5 0 3 11 0)) 6 190  -- source 0 again
     ∷ case (withCommand (withCommand toggle 206 (command 8 0 1 0 0)) 214 (command 8 0 1 0 0)) 6 214  -- the sink again

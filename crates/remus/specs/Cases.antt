@@ -1,5 +1,5 @@
 -- All starred bench cases of 01, the toggle's and a few others, as one table with a single claim: what each row asks, the definitions
--- answer as the row says.
+-- answer as the row says. Sizes, and n and u with them, are those of 02 (viii).
 use Prim.Native.Nat.{ℕ, zero, suc, _+_, _*_}
 use mathlib.Core.Path.{_≡_, refl}
 use mathlib.Core.List.{List, [], _∷_, _++_}
@@ -82,29 +82,29 @@ row a l = record { ask = a; answer = l }
 abbrev int : ℤ → List ℕ
 int z = let v = number z in v .mark ∷ v .content ∷ []
 
--- the toggle's image after two turns, in 68 words: main, whose branch point heads plus at 54, chained to minus at 41
+-- the toggle's image after two turns, in 56 words: main, whose branch point heads plus at 44, chained to minus at 33
 abbrev twoTurns : List ℕ
 twoTurns =
     joined (
-    (67 ∷ 2 ∷ [])
-    ∷ (2 ∷ 1 ∷ 0 ∷ 5 ∷ 54 ∷ zeros 34)
-    ∷ (1 ∷ 1 ∷ 0 ∷ zeros 10)
-    ∷ (0 ∷ 1 ∷ 41 ∷ zeros 10)
+    (55 ∷ 2 ∷ [])
+    ∷ (2 ∷ 1 ∷ 0 ∷ 5 ∷ 44 ∷ zeros 26)
+    ∷ (1 ∷ 1 ∷ 0 ∷ zeros 8)
+    ∷ (0 ∷ 1 ∷ 33 ∷ zeros 8)
     ∷ zeros 1 ∷ [])
 
 -- a fresh image with a second deployment behind main, whose wired word nothing judges
 abbrev twoFresh : List ℕ
-twoFresh = joined ((54 ∷ 0 ∷ []) ∷ (2 ∷ zeros 38) ∷ (1 ∷ 7 ∷ zeros 11) ∷ [])
+twoFresh = joined ((44 ∷ 0 ∷ []) ∷ (2 ∷ zeros 30) ∷ (1 ∷ 7 ∷ zeros 9) ∷ [])
 
 -- k deployments of the nest from a on, each named by the one before
 unfoldable pub deeper : ℕ → ℕ → List ℕ
 deeper zero a = []
-deeper (suc zero) a = 0 ∷ 1 ∷ 0 ∷ 5 ∷ zeros 13
-deeper (suc (suc k)) a = (0 ∷ 1 ∷ 0 ∷ 5 ∷ (a + 17) ∷ zeros 12) ++ deeper (suc k) (a + 17)
+deeper (suc zero) a = 0 ∷ 1 ∷ 0 ∷ 5 ∷ zeros 9
+deeper (suc (suc k)) a = (0 ∷ 1 ∷ 0 ∷ 5 ∷ (a + 13) ∷ zeros 8) ++ deeper (suc k) (a + 13)
 
 -- the nest's image, k deep
 abbrev nested : ℕ → List ℕ
-nested k = (2 + 17 * k) ∷ 1 ∷ deeper k 2
+nested k = (2 + 13 * k) ∷ 1 ∷ deeper k 2
 
 abbrev faulty : List ℕ → ℕ → Row
 faulty m q = row (resumes toggle m (1 ∷ 7 ∷ 1 ∷ 5 ∷ [])) (9 ∷ q ∷ [])
@@ -112,55 +112,55 @@ faulty m q = row (resumes toggle m (1 ∷ 7 ∷ 1 ∷ 5 ∷ [])) (9 ∷ q ∷ []
 -- `negsuc n` is -(n + 1)
 abbrev pub starred : List Row
 starred =
-    row (checks clock) (0 ∷ 9 ∷ [])  -- "* Check: 0, 9."
+    row (checks clock) (0 ∷ 7 ∷ [])  -- * check
     ∷ row (checks (take 43 clock)) (1 ∷ 43 ∷ [])  -- "* Its first 43 bytes: 1, 43."
-    ∷ row (starts clock 10) (14 ∷ 0 ∷ [])  -- "* Start, n 10: 14, 0."
-    ∷ row (starts clock 11) (0 ∷ 11 ∷ [])  -- "* n 11: 0, 11."
+    ∷ row (starts clock 8) (14 ∷ 0 ∷ [])  -- * start, one word short
+    ∷ row (starts clock 9) (0 ∷ 9 ∷ [])  -- *
     ∷ row (starts clock 1) (8 ∷ 1 ∷ [])  -- "n 1: 8, 1."
-    ∷ row (turns 2 clock 11 [] (9 ∷ 9 ∷ 9 ∷ []))  -- "* First turn sink: mark 1, content 1; the next, 2."
-    ((0 ∷ 11 ∷ 1 ∷ 1 ∷ 1 ∷ 9 ∷ []) ++ (0 ∷ 11 ∷ 2 ∷ 1 ∷ 2 ∷ 9 ∷ []))
+    ∷ row (turns 2 clock 9 [] (9 ∷ 9 ∷ 9 ∷ []))  -- "* First turn sink: mark 1, content 1; the next, 2."
+    ((0 ∷ 9 ∷ 1 ∷ 1 ∷ 1 ∷ 9 ∷ []) ++ (0 ∷ 9 ∷ 2 ∷ 1 ∷ 2 ∷ 9 ∷ []))
     ∷ row (checks (set clock 38 1)) (4 ∷ 36 ∷ [])  -- "* Last command's a set to 1: 4, 36."
     ∷ row (primitive-of 3 (number (negsuc 2147483647)) (number (negsuc 0))) (0 ∷ 0 ∷ [])  -- "* −2,147,483,648 divided by −1: blank"
     ∷ row (primitive-of 3 (number (negsuc 6)) (number (pos 2))) (int (negsuc 2))  -- "* −7 by 2: −3"
     ∷ row (primitive-of 5 blank (number (pos 5))) (0 ∷ 0 ∷ [])  -- "* Less of blank and 5: blank."
-    ∷ row (checks nest) (0 ∷ 17 ∷ [])  -- "76 bytes, size 17."
-    ∷ row (turns 1 nest 1089 [] (9 ∷ 9 ∷ [])) (14 ∷ 0 ∷ 0 ∷ 9 ∷ 9 ∷ [])  -- "First turn: * n 1,089 gives 14, 0;"
-    ∷ row (turns 1 nest 1090 [] (9 ∷ 9 ∷ [])) (15 ∷ 0 ∷ 0 ∷ 9 ∷ 9 ∷ [])  -- "* n 1,090 gives 15, 0."
-    ∷ row (walks nest 1090 []) (15 ∷ 0 ∷ [])  -- and so says the walk
-    ∷ row (walks toggle 67 (1 ∷ 7 ∷ 1 ∷ 5 ∷ [])) (0 ∷ 54 ∷ [])
-    ∷ row (checks toggle) (0 ∷ 39 ∷ [])  -- "main of size 39"
+    ∷ row (checks nest) (0 ∷ 13 ∷ [])
+    ∷ row (turns 1 nest 833 [] (9 ∷ 9 ∷ [])) (14 ∷ 0 ∷ 0 ∷ 9 ∷ 9 ∷ [])  -- * one word less than 64 deployments take
+    ∷ row (turns 1 nest 834 [] (9 ∷ 9 ∷ [])) (15 ∷ 0 ∷ 0 ∷ 9 ∷ 9 ∷ [])  -- * room for them, and 2 + 64 * 13 words
+    ∷ row (walks nest 834 []) (15 ∷ 0 ∷ [])  -- and so says the walk
+    ∷ row (walks toggle 55 (1 ∷ 7 ∷ 1 ∷ 5 ∷ [])) (0 ∷ 44 ∷ [])
+    ∷ row (checks toggle) (0 ∷ 31 ∷ [])
     ∷ row (checks stocked) (25 ∷ 126 ∷ [])  -- the toggle with a remainder: 02 (x)
-    ∷ row (starts stocked 67) (25 ∷ 126 ∷ [])
-    ∷ row (starts toggle 67) (0 ∷ 41 ∷ [])  -- "u is 41"
-    ∷ row (turns 3 toggle 67 (1 ∷ 7 ∷ 1 ∷ 5 ∷ []) (9 ∷ 9 ∷ []))  -- "Readings 7 and 5: sinks 2, 12, 2; u is 41, then 54, 67, 67."
-    ((0 ∷ 54 ∷ 1 ∷ 1 ∷ 2 ∷ []) ++ ((0 ∷ 67 ∷ 2 ∷ 1 ∷ 12 ∷ []) ++ (0 ∷ 67 ∷ 3 ∷ 1 ∷ 2 ∷ [])))
-    ∷ row (turns 3 toggle 66 (1 ∷ 7 ∷ 1 ∷ 5 ∷ []) (9 ∷ 9 ∷ []))  -- "With n 66 the second turn gives 14, 0 and word 1 stays 1, however often tried."
-    ((0 ∷ 54 ∷ 1 ∷ 1 ∷ 2 ∷ []) ++ ((14 ∷ 0 ∷ 1 ∷ 9 ∷ 9 ∷ []) ++ (14 ∷ 0 ∷ 1 ∷ 9 ∷ 9 ∷ [])))
-    ∷ row (turns 1 ticking 67 (1 ∷ 2147483648 ∷ 1 ∷ 2147483647 ∷ []) (9 ∷ 9 ∷ []))  -- as in `value`: 02 (xii)
-    (0 ∷ 54 ∷ 1 ∷ 1 ∷ 1 ∷ [])
-    ∷ row (turns 1 graded 23 (1 ∷ 100 ∷ 0 ∷ 0 ∷ []) (9 ∷ 9 ∷ [])) (0 ∷ 23 ∷ 1 ∷ 2 ∷ 0 ∷ [])  -- the first count: 02 (iv)
-    ∷ row (turns 1 graded 23 (0 ∷ 0 ∷ 1 ∷ 8 ∷ []) (9 ∷ 9 ∷ [])) (0 ∷ 23 ∷ 1 ∷ 2 ∷ 0 ∷ [])  -- the second
-    ∷ row (turns 1 graded 23 (1 ∷ 99 ∷ 0 ∷ 0 ∷ []) (9 ∷ 9 ∷ [])) (0 ∷ 23 ∷ 1 ∷ 0 ∷ 0 ∷ [])  -- neither settles it
-    ∷ row (resumes toggle twoTurns (1 ∷ 7 ∷ 1 ∷ 5 ∷ [])) (0 ∷ 67 ∷ [])
+    ∷ row (starts stocked 55) (25 ∷ 126 ∷ [])
+    ∷ row (starts toggle 55) (0 ∷ 33 ∷ [])
+    ∷ row (turns 3 toggle 55 (1 ∷ 7 ∷ 1 ∷ 5 ∷ []) (9 ∷ 9 ∷ []))  -- "Readings 7 and 5: sinks 2, 12, 2"; u is 33, then 44, 55, 55
+    ((0 ∷ 44 ∷ 1 ∷ 1 ∷ 2 ∷ []) ++ ((0 ∷ 55 ∷ 2 ∷ 1 ∷ 12 ∷ []) ++ (0 ∷ 55 ∷ 3 ∷ 1 ∷ 2 ∷ [])))
+    ∷ row (turns 3 toggle 54 (1 ∷ 7 ∷ 1 ∷ 5 ∷ []) (9 ∷ 9 ∷ []))  -- with one word less "the second turn gives 14, 0 and word 1 stays 1, however often tried"
+    ((0 ∷ 44 ∷ 1 ∷ 1 ∷ 2 ∷ []) ++ ((14 ∷ 0 ∷ 1 ∷ 9 ∷ 9 ∷ []) ++ (14 ∷ 0 ∷ 1 ∷ 9 ∷ 9 ∷ [])))
+    ∷ row (turns 1 ticking 55 (1 ∷ 2147483648 ∷ 1 ∷ 2147483647 ∷ []) (9 ∷ 9 ∷ []))  -- as in `value`: 02 (xii)
+    (0 ∷ 44 ∷ 1 ∷ 1 ∷ 1 ∷ [])
+    ∷ row (turns 1 graded 21 (1 ∷ 100 ∷ 0 ∷ 0 ∷ []) (9 ∷ 9 ∷ [])) (0 ∷ 21 ∷ 1 ∷ 2 ∷ 0 ∷ [])  -- the first count: 02 (iv)
+    ∷ row (turns 1 graded 21 (0 ∷ 0 ∷ 1 ∷ 8 ∷ []) (9 ∷ 9 ∷ [])) (0 ∷ 21 ∷ 1 ∷ 2 ∷ 0 ∷ [])  -- the second
+    ∷ row (turns 1 graded 21 (1 ∷ 99 ∷ 0 ∷ 0 ∷ []) (9 ∷ 9 ∷ [])) (0 ∷ 21 ∷ 1 ∷ 0 ∷ 0 ∷ [])  -- neither settles it
+    ∷ row (resumes toggle twoTurns (1 ∷ 7 ∷ 1 ∷ 5 ∷ [])) (0 ∷ 55 ∷ [])
     -- the places of 9: 02 (vi)
-    ∷ faulty (set twoTurns 0 66) 0  -- u inside a deployment
+    ∷ faulty (set twoTurns 0 54) 0  -- u inside a deployment
     ∷ faulty (set twoTurns 1 2147483648) 0  -- the turns
-    ∷ faulty (set twoTurns 41 3) 0  -- no such reactor, so no tiling
-    ∷ faulty (set twoTurns 67 1) 0  -- a word from u on
-    ∷ faulty (set twoTurns 4 41) 2  -- main's next
-    ∷ faulty (set twoTurns 56 54) 2  -- a chain that does not fall is its owner's fault
-    ∷ faulty (set twoTurns 42 0) 41  -- minus not wired
-    ∷ faulty (set twoTurns 57 1) 54  -- a slot of plus
-    ∷ faulty (set (set twoTurns 57 1) 42 0) 41  -- both: the lowest
-    ∷ faulty (set twoTurns 6 41) 54  -- nothing names plus
-    ∷ faulty (set twoTurns 56 0) 41  -- nothing names minus
-    ∷ faulty (set (set twoTurns 56 0) 57 1) 54  -- own words come before names
+    ∷ faulty (set twoTurns 33 3) 0  -- no such reactor, so no tiling
+    ∷ faulty (set twoTurns 55 1) 0  -- a word from u on
+    ∷ faulty (set twoTurns 4 33) 2  -- main's next
+    ∷ faulty (set twoTurns 46 44) 2  -- a chain that does not fall is its owner's fault
+    ∷ faulty (set twoTurns 34 0) 33  -- minus not wired
+    ∷ faulty (set twoTurns 47 1) 44  -- a slot of plus
+    ∷ faulty (set (set twoTurns 47 1) 34 0) 33  -- both: the lowest
+    ∷ faulty (set twoTurns 6 33) 44  -- nothing names plus
+    ∷ faulty (set twoTurns 46 0) 33  -- nothing names minus
+    ∷ faulty (set (set twoTurns 46 0) 47 1) 44  -- own words come before names
     ∷ faulty (set twoTurns 1 0) 2  -- turns 0, and main is wired
-    ∷ faulty twoFresh 41  -- the second deployment
+    ∷ faulty twoFresh 33  -- the second deployment
     ∷ row (resumes nest (nested 64) []) (15 ∷ 0 ∷ [])  -- depth 64 is sound
     ∷ row (resumes nest (nested 65) []) (9 ∷ 0 ∷ [])  -- and 65 is not: a depth has no place
     ∷ row (undoes 0 nest 200 [] (9 ∷ 9 ∷ [])) (1 ∷ [])  -- "A refused call leaves memory .. as at entry", in place
-    ∷ row (undoes 1 toggle 66 (1 ∷ 7 ∷ 1 ∷ 5 ∷ []) (9 ∷ 9 ∷ [])) (1 ∷ [])
+    ∷ row (undoes 1 toggle 54 (1 ∷ 7 ∷ 1 ∷ 5 ∷ []) (9 ∷ 9 ∷ [])) (1 ∷ [])
     ∷ []
 
 abbrev pub answers : List Row → List (List ℕ)

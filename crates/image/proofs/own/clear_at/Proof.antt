@@ -1,4 +1,5 @@
-use Rattle.image.proofs.Tiles.{clear-same, slots-first, slots-within}
+use Rattle.program.proofs.Slots.{slot-least}
+use Rattle.image.proofs.Tiles.{clear-same, slots-within}
 use Rattle.value.proofs.Tests.{same-and}
 use borrow.Author.Needs.{needs}
 use denote.Ref.{now}
@@ -11,7 +12,7 @@ sub-zero-at : tie.Need-sub-zero-at
 sub-zero-at c =
     omega (
       arith,
-      slots-first (now (c .before .before .before .before .before .before .before .before .args .program))
+      slot-least (now (c .before .before .before .before .before .before .before .before .args .program))
           (c .before .before .before .before .before .reactor .result) (c .before .before .before .before .sources .result),
     )
 

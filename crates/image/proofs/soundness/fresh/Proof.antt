@@ -1,5 +1,5 @@
 use Rattle.image.proofs.Cuts.{main-unfresh, main-followed, main-alone}
-use Rattle.image.proofs.Tiles.{size-least}
+use Rattle.program.proofs.Slots.{size-least}
 use Rattle.program.specs.Location.{sizeOf}
 use Rattle.value.proofs.Tests.{passed, refused, same-and, same-eq}
 use borrow.Author.Needs.{needs}

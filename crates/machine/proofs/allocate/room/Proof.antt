@@ -1,4 +1,4 @@
-use Rattle.program.specs.Location.{size-formula}
+use Rattle.program.proofs.Slots.{size-least}
 use Rattle.value.proofs.Tests.{le×, same-le}
 use borrow.Author.Needs.{needs}
 use mathlib.Core.Path.{sym}
@@ -9,7 +9,7 @@ use Rattle.machine.proofs.allocate.room.Tie as tie
 returns : tie.Need-returns
 returns c =
     let args = c .before .before .before .before .args in
-    sym (le× (omega (arith, size-formula (args .program .now) (args .r))))
+    sym (le× (omega (arith, size-least (args .program .now) (args .r))))
 
 returns-2 : tie.Need-returns-2
 returns-2 c = same-le (c .size-of .ensures .0) (omega arith)
