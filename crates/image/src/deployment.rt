@@ -43,9 +43,10 @@ pub fn content(program: &[u8], memory: &[u32], a: u32, l: u16) -> u32
 pub fn value_at(program: &[u8], memory: &[u32], a: u32, l: u16) -> Value
     ensures { λ v. ⌜ v ≡ M.valueAt (now (program .entry)) (now (memory .entry)) a l ⌝ }
 {
+    let i = slot(program, memory, a, l);
     Value {
-        mark: mark(program, memory, a, l),
-        content: content(program, memory, a, l),
+        mark: word(memory, i),
+        content: word(memory, i + 1),
     }
 }
 

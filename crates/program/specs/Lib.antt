@@ -3,3 +3,4 @@ pub mod Header
 pub mod Command
 pub mod Location
 pub mod Kind
+pub mod Open

@@ -1,6 +1,5 @@
 // Locations of a reactor, from 0: sources, D commands, R commands, sinks; and the words that a
 // deployment takes.
-use crate::bytes::byte;
 use crate::commands::bytes_at;
 use crate::entry::commands_at;
 use crate::entry::commands_in;
@@ -11,7 +10,6 @@ use crate::shape::sinks_in;
 use crate::shape::sources_in;
 ghost use mathlib.Core.Path.{_≡_};
 ghost use Prim.Native.Nat.{_≤_, _<_};
-ghost use Rattle.program.specs.Bytes as B;
 ghost use Rattle.program.specs.Location as L;
 
 // How many sources reactor r has.
@@ -52,46 +50,24 @@ pub fn locations(program: &[u8], r: u32) -> u16
     sink_loc(program, r, n)
 }
 
-// How many of the first n R commands of reactor r take words, k of the first `from` doing so; R
-// commands begin at byte `at`.
-pub fn kept_from(program: &[u8], r: u32, at: u64, from: u8, k: u8, n: u8) -> u8
-    requires begins { ⌜ at ≡ B.commandAt (now program) r (B.declared (now program) r) ⌝ }
-    requires small { ⌜ at < 20000000010000 ⌝ }
-    requires so_far { ⌜ (k ≡ L.kept (now program) r from) × (k ≤ from) × (from ≤ n) ⌝ }
-    ensures is { λ m. ⌜ m ≡ L.kept (now (program .entry)) r n ⌝ }
+// How many of the first n R commands of reactor r have a result.
+fn results(program: &[u8], r: u32, n: u8) -> u8
+    ensures is { λ m. ⌜ m ≡ L.results (now (program .entry)) r n ⌝ }
     ensures few { λ m. ⌜ m ≤ n ⌝ }
 {
-    let mut i = from;
-    let mut m = k;
-    while i < n {
-        let c = bytes_at(program, at + 8 * (i as u64));
+    let first = commands_at(program, r) + 8 * (declared(program, r) as u64);
+    let mut m: u8 = 0;
+    let mut j: u8 = 0;
+    while j < n {
+        let c = bytes_at(program, first + 8 * (j as u64));
         m = m + c.words();
-        i = i + 1;
+        j = j + 1;
     }
     m
 }
 
-// The same by a table, 129 entries a reactor.
-pub fn kept_at(program: &[u8], table: &[u8], r: u8, n: u8) -> u8
-    requires table { ⌜ L.KeptTable (now program) (now table) ⌝ }
-    requires inside { ⌜ (r < B.reactors (now program)) × (n ≤ B.running (now program) r) ⌝ }
-    ensures { λ m. ⌜ m ≡ L.kept (now (program .entry)) r n ⌝ }
-{
-    byte(table, 129 * (r as usize) + n as usize)
-}
-
-// The same, where no table is.
-fn kept(program: &[u8], r: u32, n: u8) -> u8
-    ensures is { λ m. ⌜ m ≡ L.kept (now (program .entry)) r n ⌝ }
-    ensures few { λ m. ⌜ m ≤ n ⌝ }
-{
-    let at = commands_at(program, r) + 8 * (declared(program, r) as u64);
-    kept_from(program, r, at, 0, 0, n)
-}
-
-// Where the words of location l begin, from the deployment's first. Three words come before them
-// (reactor, wired, next), and each location has two (mark, content), but for R commands that take
-// none.
+// Where the words of location l begin, from the deployment's first: after three words (reactor,
+// wired, next), and two (mark, content) for each location before l that takes words.
 pub fn slot_at(program: &[u8], r: u32, l: u16) -> u32
     ensures is { λ i. ⌜ i ≡ L.slotAt (now (program .entry)) r l ⌝ }
     ensures small { λ i. ⌜ i < 131074 ⌝ }
@@ -103,9 +79,9 @@ pub fn slot_at(program: &[u8], r: u32, l: u16) -> u32
     let past = l - first;
     let run = running(program, r);
     if past <= run as u16 {
-        return 3 + 2 * (first as u32 + kept(program, r, past as u8) as u32);
+        return 3 + 2 * (first as u32 + results(program, r, past as u8) as u32);
     }
-    3 + 2 * (first as u32 + kept(program, r, run) as u32 + (past - run as u16) as u32)
+    3 + 2 * (first as u32 + results(program, r, run) as u32 + (past - run as u16) as u32)
 }
 
 // The words that a deployment of reactor r takes.

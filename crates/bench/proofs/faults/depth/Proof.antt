@@ -7,10 +7,10 @@ use Rattle.bench.proofs.faults.depth.Statement.{statement}
 use Rattle.bench.proofs.faults.depth.Tie as tie
 
 abbrev Inv-loop : tie.InvT-loop
-Inv-loop memory₀ at₀ t3 t4 t5 memory at = length memory ≡ 1107
+Inv-loop memory₀ at₀ t3 t4 t5 memory at = length memory ≡ 847
 
 abbrev μ-loop : tie.MeasureT-loop
-μ-loop memory₀ at₀ t3 t4 t5 memory at = 1107 - at
+μ-loop memory₀ at₀ t3 t4 t5 memory at = 847 - at
 
 loop-holds : tie.Need-loop-holds Inv-loop μ-loop
 loop-holds c = search needs
