@@ -23,7 +23,7 @@ abbrev pub clock : List ℕ
 clock = joined ((1 ∷ 1 ∷ 1 ∷ zeros 5) ∷ (0 ∷ 1 ∷ zeros 14) ∷ (0 ∷ 0 ∷ 2 ∷ 0 ∷ []) ∷ (4 ∷ zeros 7) ∷ (8 ∷ zeros 7) ∷ [])
 
 -- "Nest program: one reactor, no sources, one number sink; D MakePoly shape 0; R Constant of kind 2 value 0, AllocPoly, React,
--- Consume, Sink. 76 bytes". 02 (viii): "the nest to 13".
+-- Consume, Sink. 76 bytes".
 abbrev pub nest : List ℕ
 nest =
     joined (
@@ -31,8 +31,8 @@ nest =
     ∷ command 2 0 0 0 0  -- 0 a branch point of shape 0
     ∷ command 3 2 0 0 0 ∷ command 9 0 1 0 0 ∷ command 6 0 0 2 0 ∷ command 7 0 0 2 0 ∷ command 8 0 4 0 0 ∷ [])
 
--- The toggle program: reactors 0 and 1 of size 11, plus and minus; main, of size 31, takes minus where the time is odd, which it
--- tells by times and divide: 02 (x).
+-- The toggle program: reactors 0 and 1 of size 11, plus and minus; main, of size 31, takes minus where the time is odd,
+-- which it tells by times and divide: 02 (x).
 abbrev pub toggle : List ℕ
 toggle =
     joined (
@@ -83,7 +83,7 @@ case p n q = record { program = p; number = n; place = q }
 
 abbrev pub starred : List Case
 starred =
-    case clock 0 7  -- the sizes are those of 02 (viii)
+    case clock 0 7  -- a program's size is that of 02 (viii)
     ∷ case (take 43 clock) 1 43  -- "* Its first 43 bytes: 1, 43."
     ∷ case (set clock 38 1) 4 36  -- "* Last command's a set to 1: 4, 36."
     ∷ case nest 0 13

@@ -3,7 +3,8 @@
 // A command is decoded once (exec) and carried out by a function of its own (command, allocate); a
 // deployment's commands follow one another (run). A completed run leaves its sinks and cleared words
 // (finish), a refused one is undone in place (undo); both go over the deployments (passes). Memory is
-// never copied. The work of a turn is linear in the program's bytes and memory's words.
+// never copied. The work of a turn is linear in the program's bytes and memory's words, but for the
+// slots of R commands and sinks, which are found by counting the commands before them.
 mod allocate;
 mod asked;
 mod back;

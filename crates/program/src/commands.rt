@@ -18,7 +18,6 @@ use crate::entry::commands_at;
 ghost use mathlib.Core.Path.{_≡_};
 ghost use Prim.Native.Nat.{_≤_};
 ghost use lib.ListN.{length};
-ghost use Rattle.value.specs.Test.{pick};
 ghost use Rattle.program.specs.Bytes as B;
 ghost use Rattle.program.specs.Command as C;
 
@@ -52,24 +51,18 @@ impl Command {
             + 65536 * (self.v2 as u32)
             + 16777216 * (self.v3 as u32)
     }
-}
 
-impl Command {
-    // 1 if it takes words, else 0: Supply, React and Sink take none.
-    pub fn words(self) -> u8
-        ensures is { λ r. ⌜ r ≡ pick (C.takesWords (C.decode self)) 1 0 ⌝ }
-        ensures few { λ r. ⌜ r ≤ 1 ⌝ }
+    // Whether it has a result, and so takes words in memory: Supply, React and Sink have none.
+    pub fn takes_words(self) -> bool
+        ensures { λ t. ⌜ t ≡ C.takesWords (C.decode self) ⌝ }
     {
-        if self.code == Command::SUPPLY {
-            return 0;
+        let code = self.code;
+        match code {
+            Command::SUPPLY => false,
+            Command::REACT => false,
+            Command::SINK => false,
+            _ => true,
         }
-        if self.code == Command::REACT {
-            return 0;
-        }
-        if self.code == Command::SINK {
-            return 0;
-        }
-        1
     }
 }
 

@@ -60,14 +60,16 @@ fn results(program: &[u8], r: u32, n: u8) -> u8
     let mut j: u8 = 0;
     while j < n {
         let c = bytes_at(program, first + 8 * (j as u64));
-        m = m + c.words();
+        if c.takes_words() {
+            m = m + 1;
+        }
         j = j + 1;
     }
     m
 }
 
-// Where the words of location l begin, from the deployment's first: after three words (reactor,
-// wired, next), and two (mark, content) for each location before l that takes words.
+// Where the words of location l begin, from the deployment's first: after three (reactor, wired,
+// next), and two (mark, content) for each location before l that has words.
 pub fn slot_at(program: &[u8], r: u32, l: u16) -> u32
     ensures is { λ i. ⌜ i ≡ L.slotAt (now (program .entry)) r l ⌝ }
     ensures small { λ i. ⌜ i < 131074 ⌝ }

@@ -157,6 +157,8 @@ starred =
     ∷ faulty (set (set twoTurns 46 0) 47 1) 44  -- own words come before names
     ∷ faulty (set twoTurns 1 0) 2  -- turns 0, and main is wired
     ∷ faulty twoFresh 33  -- the second deployment
+    ∷ row (resumes clock (9 ∷ zeros 8) []) (0 ∷ 9 ∷ [])  -- a clock as a start leaves it
+    ∷ row (resumes clock (11 ∷ zeros 10) []) (9 ∷ 0 ∷ [])  -- as one left it before 02 (viii)
     ∷ row (resumes nest (nested 64) []) (15 ∷ 0 ∷ [])  -- depth 64 is sound
     ∷ row (resumes nest (nested 65) []) (9 ∷ 0 ∷ [])  -- and 65 is not: a depth has no place
     ∷ row (undoes 0 nest 200 [] (9 ∷ 9 ∷ [])) (1 ∷ [])  -- "A refused call leaves memory .. as at entry", in place
