@@ -30,7 +30,6 @@ pub use kind::content_legal;
 pub use kind::legal;
 pub use kind::mark_of;
 pub use location::command_loc;
-pub use location::locations;
 pub use location::sink_loc;
 pub use location::sinks;
 pub use location::size_of;

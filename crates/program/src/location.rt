@@ -42,14 +42,6 @@ pub fn sink_loc(program: &[u8], r: u32, x: u8) -> u16
     sources(program, r) as u16 + commands_in(program, r) + x as u16
 }
 
-// How many locations reactor r has.
-pub fn locations(program: &[u8], r: u32) -> u16
-    ensures { λ n. ⌜ n ≡ L.locations (now (program .entry)) r ⌝ }
-{
-    let n = sinks(program, r);
-    sink_loc(program, r, n)
-}
-
 // How many of the first n R commands of reactor r have a result.
 fn results(program: &[u8], r: u32, n: u8) -> u8
     ensures is { λ m. ⌜ m ≡ L.results (now (program .entry)) r n ⌝ }
@@ -91,6 +83,7 @@ pub fn size_of(program: &[u8], r: u32) -> u32
     ensures is { λ n. ⌜ n ≡ L.sizeOf (now (program .entry)) r ⌝ }
     ensures small { λ n. ⌜ n < 131074 ⌝ }
 {
-    let n = locations(program, r);
-    slot_at(program, r, n)
+    let ports = sources(program, r) as u32 + sinks(program, r) as u32;
+    let run = running(program, r);
+    3 + 2 * (ports + declared(program, r) as u32 + results(program, r, run) as u32)
 }
