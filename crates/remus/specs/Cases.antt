@@ -117,7 +117,7 @@ starred =
     ∷ row (starts clock 8) (14 ∷ 0 ∷ [])  -- * start, one word short
     ∷ row (starts clock 9) (0 ∷ 9 ∷ [])  -- *
     ∷ row (starts clock 1) (8 ∷ 1 ∷ [])  -- "n 1: 8, 1."
-    ∷ row (turns 2 clock 9 [] (9 ∷ 9 ∷ 9 ∷ []))  -- "* First turn sink: mark 1, content 1; the next, 2."
+    ∷ row (turns 2 clock 9 [] (9 ∷ 9 ∷ 9 ∷ []))  -- * its sink is the time, 1 and then 2
     ((0 ∷ 9 ∷ 1 ∷ 1 ∷ 1 ∷ 9 ∷ []) ++ (0 ∷ 9 ∷ 2 ∷ 1 ∷ 2 ∷ 9 ∷ []))
     ∷ row (checks (set clock 38 1)) (4 ∷ 36 ∷ [])  -- "* Last command's a set to 1: 4, 36."
     ∷ row (primitive-of 3 (number (negsuc 2147483647)) (number (negsuc 0))) (0 ∷ 0 ∷ [])  -- "* −2,147,483,648 divided by −1: blank"
@@ -132,9 +132,9 @@ starred =
     ∷ row (checks stocked) (25 ∷ 126 ∷ [])  -- the toggle with a remainder: 02 (x)
     ∷ row (starts stocked 55) (25 ∷ 126 ∷ [])
     ∷ row (starts toggle 55) (0 ∷ 33 ∷ [])
-    ∷ row (turns 3 toggle 55 (1 ∷ 7 ∷ 1 ∷ 5 ∷ []) (9 ∷ 9 ∷ []))  -- "Readings 7 and 5: sinks 2, 12, 2"; u is 33, then 44, 55, 55
+    ∷ row (turns 3 toggle 55 (1 ∷ 7 ∷ 1 ∷ 5 ∷ []) (9 ∷ 9 ∷ []))  -- it subtracts, adds, subtracts; u was 33
     ((0 ∷ 44 ∷ 1 ∷ 1 ∷ 2 ∷ []) ++ ((0 ∷ 55 ∷ 2 ∷ 1 ∷ 12 ∷ []) ++ (0 ∷ 55 ∷ 3 ∷ 1 ∷ 2 ∷ [])))
-    ∷ row (turns 3 toggle 54 (1 ∷ 7 ∷ 1 ∷ 5 ∷ []) (9 ∷ 9 ∷ []))  -- with one word less "the second turn gives 14, 0 and word 1 stays 1, however often tried"
+    ∷ row (turns 3 toggle 54 (1 ∷ 7 ∷ 1 ∷ 5 ∷ []) (9 ∷ 9 ∷ []))  -- one word short for plus, each time it is tried
     ((0 ∷ 44 ∷ 1 ∷ 1 ∷ 2 ∷ []) ++ ((14 ∷ 0 ∷ 1 ∷ 9 ∷ 9 ∷ []) ++ (14 ∷ 0 ∷ 1 ∷ 9 ∷ 9 ∷ [])))
     ∷ row (turns 1 ticking 55 (1 ∷ 2147483648 ∷ 1 ∷ 2147483647 ∷ []) (9 ∷ 9 ∷ []))  -- as in `value`: 02 (xii)
     (0 ∷ 44 ∷ 1 ∷ 1 ∷ 1 ∷ [])
