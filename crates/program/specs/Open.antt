@@ -1,5 +1,6 @@
--- Every definition of this room and the one below it opened at once, for theorems that compute: such a theorem says `unfolding opened`.
--- It alone opens `slotAt` and `sizeOf` for the rooms above, whose other theorems go by the laws of slots.
+-- Every definition of this room and the one below it opened at once, for theorems that compute: such a theorem says
+-- `unfolding opened`. It alone opens `slotAt` and `sizeOf` for the rooms above, whose other theorems go by the laws of
+-- slots.
 use Prim.Native.Nat.{ℕ}
 use Rattle.value.specs.Test.{pick, _<?_, _≤?_, _=?_, _and_, _or_, guard, sweep}
 use Rattle.value.specs.Value.{markOf, isBlank, isNumber, isTruth, isTrue}

@@ -25,8 +25,8 @@ unfolding results
 loop-holds c = (refl, omega arith, omega arith)
 
 -- one command more
-one-more : (p : List ℕ) (r j at : ℕ) (c : Command) → at ≡ commandsAt p r + 8 * declared p r + 8 * j → c ≡ bytesAt p at →
-    results p r j + pick (takesWords (decode c)) 1 0 ≡ results p r (j + 1)
+one-more : (p : List ℕ) (r j at : ℕ) (c : Command) → at ≡ commandsAt p r + 8 * declared p r + 8 * j →
+    c ≡ bytesAt p at → results p r j + pick (takesWords (decode c)) 1 0 ≡ results p r (j + 1)
 unfolding results commandAt bytesOf cmdOf
 one-more p r j at c e f =
     let q : commandsAt p r + 8 * (declared p r + j) ≡ at = omega arith in
@@ -42,11 +42,16 @@ loop-again c =
     let D = c .before .before .before .before .before .declared .ensures in
     let read = c .before .before .bytes-at in
     let takes = c .before .takes-words .ensures in
-    let more = one-more (now (args .program)) (args .r) (loop .j) _ (read .result) (omega (arith, at, D)) (read .ensures) in
+    let more =
+    one-more (now (args .program)) (args .r) (loop .j) _ (read .result) (omega (arith, at, D)) (read .ensures) in
     let one : Bool → ℕ = (λ t. pick t 1 0) in
     ⊎-elim
-    (λ q. let w = ap one (sym takes ∙ q .0 .taken) in (omega (arith, q .1, w, more, loop .inv), omega (arith, q .1, loop .inv), omega arith))
-    (λ q. let w = ap one (sym takes ∙ q .0 .left) in (omega (arith, q .1, w, more, loop .inv), omega (arith, q .1, loop .inv), omega arith))
+    (λ q.
+    let w = ap one (sym takes ∙ q .0 .taken) in
+    (omega (arith, q .1, w, more, loop .inv), omega (arith, q .1, loop .inv), omega arith))
+    (λ q.
+    let w = ap one (sym takes ∙ q .0 .left) in
+    (omega (arith, q .1, w, more, loop .inv), omega (arith, q .1, loop .inv), omega arith))
     (c .if1 .came)
 
 returns : tie.Need-returns Inv-loop μ-loop
@@ -56,6 +61,7 @@ pub results-spec : {M : Type 1} → statement M
 results-spec =
     tie.close
     (tie.spec
-    Inv-loop μ-loop (λ c κs. search needs) (λ c κs. search needs) (λ c. search needs) (λ c. search needs) (λ c. search needs)
+    Inv-loop μ-loop
+    (λ c κs. search needs) (λ c κs. search needs) (λ c. search needs) (λ c. search needs) (λ c. search needs)
     loop-holds (λ c. search needs) (λ c. search needs) (λ c. search needs) (λ c κs. search needs) (λ c κs. search needs)
     (λ c. search needs) (λ c. search needs) (λ c. search needs) loop-again returns)

@@ -15,7 +15,8 @@ returns c =
     let D = c .before .declared .ensures in
     let in-ports = c .before .before .before .before .sources .ensures in
     let out-ports = c .before .before .before .sinks .ensures in
-    (omega (arith, counted, D, in-ports, out-ports, size-formula (now (args .program)) (args .r)), omega (arith, c .results .ensures .1))
+    let size = size-formula (now (args .program)) (args .r) in
+    (omega (arith, counted, D, in-ports, out-ports, size), omega (arith, c .results .ensures .1))
 
 pub size-of-spec : {M : Type 1} → statement M
 size-of-spec =
