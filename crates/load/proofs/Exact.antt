@@ -5,6 +5,7 @@
 -- Bounds has the counts that the rules give, Static and Deduced what stands before each command. Assumes nothing.
 pub mod Widths
 pub mod Bytes
+pub mod ByteFaults
 pub mod Ladder
 pub mod Parts
 pub mod Bounds
@@ -24,8 +25,11 @@ pub mod Change
 pub mod Kept
 pub mod Begin
 pub mod Complete
+pub mod Scanning
 pub mod Reactor
 pub mod Order
+pub mod First
+pub mod Faults
 pub mod Static
 pub mod Deduced
 use mathlib.Core.Logic.{Iff·trans}

@@ -1,3 +1,4 @@
+pub mod Refusals
 pub mod Bits
 pub mod Stands
 pub mod Shapes

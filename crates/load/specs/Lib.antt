@@ -7,5 +7,7 @@ pub mod Bits
 pub mod Legal
 pub mod Accepted
 pub mod Order
+pub mod Fault
+pub mod Kinds
 pub mod Open
 pub mod Cases

@@ -307,3 +307,24 @@ pub says-need : {t : Bool} (n : ℕ) {rest : ℕ} {A B : Type 0} → Says t A �
 unfolding pick
 says-need {t = true} n f g = let a = f .0 refl in ((λ e. (a, g a .0 e)), (λ h. g a .1 (h .1)))
 says-need {t = false} n f g = ((λ e. absurd (omega arith)), (λ h. absurd (false≢true (f .1 (h .0)))))
+
+-- A ladder comes to an answer at its first rung, where A does not hold, or past it.
+module _ {A : Type 0} where
+  pub says-rung : {t : Bool} → Says t A → (n m rest : ℕ) → (need t n rest ≡ m) ↔ (((A → ⊥) × (n ≡ m)) ⊎ (A × (rest ≡ m)))
+  unfolding pick
+  says-rung {t = true} s n m rest =
+      let a = s .0 refl in
+      ((λ e. inr (a, e)), (λ h. elim h [ inl q ↦ absurd (q .0 a) | inr q ↦ q .1 ]))
+  says-rung {t = false} s n m rest =
+      let a = says× s .0 refl in
+      ((λ e. inl (a, e)), (λ h. elim h [ inl q ↦ q .1 | inr q ↦ absurd (a (q .0)) ]))
+
+  pub says-guard : {B : Type 0} (P : B → Type 0) {t : Bool} → Says t A → (bad : B) (more : Unit {0} → B) →
+      P (guard t bad more) ↔ (((A → ⊥) × P bad) ⊎ (A × P (more tt)))
+  unfolding guard
+  says-guard P {t = true} s bad more =
+      let a = s .0 refl in
+      ((λ e. inr (a, e)), (λ h. elim h [ inl q ↦ absurd (q .0 a) | inr q ↦ q .1 ]))
+  says-guard P {t = false} s bad more =
+      let a = says× s .0 refl in
+      ((λ e. inl (a, e)), (λ h. elim h [ inl q ↦ q .1 | inr q ↦ absurd (a (q .0)) ]))

@@ -38,23 +38,23 @@ ports s count kind few = (
 module _ (p : List ℕ) where
   -- ---- header: what the test of each byte comes to, and all together
 
-  format-byte : headerLegal p 0 ≡ (byte p 0 =? 1)
+  pub format-byte : headerLegal p 0 ≡ (byte p 0 =? 1)
   unfolding headerLegal pick _=?_
   format-byte = refl
 
-  shapes-byte : headerLegal p 1 ≡ between 1 mostShapes (shapes p)
+  pub shapes-byte : headerLegal p 1 ≡ between 1 mostShapes (shapes p)
   unfolding headerLegal shapes pick _=?_
   shapes-byte = refl
 
-  reactors-byte : headerLegal p 2 ≡ between 1 mostReactors (reactors p)
+  pub reactors-byte : headerLegal p 2 ≡ between 1 mostReactors (reactors p)
   unfolding headerLegal reactors pick _=?_
   reactors-byte = refl
 
-  globals-byte : headerLegal p 3 ≡ (globals p ≤? mostGlobals)
+  pub globals-byte : headerLegal p 3 ≡ (globals p ≤? mostGlobals)
   unfolding headerLegal globals pick _=?_
   globals-byte = refl
 
-  zero-byte : (i : ℕ) → 4 ≤ i → headerLegal p i ≡ (byte p i =? 0)
+  pub zero-byte : (i : ℕ) → 4 ≤ i → headerLegal p i ≡ (byte p i =? 0)
   unfolding headerLegal
   zero-byte i l =
       sym (no _ (eq× (λ e. omega arith)) (no _ (eq× (λ e. omega arith)) (no _ (eq× (λ e. omega arith)) (no _ (eq× (λ e. omega arith)) refl))))
@@ -85,11 +85,11 @@ module _ (p : List ℕ) where
   -- ---- shapes: the same, by columns
 
   module _ (s : ℕ) where
-    sources-byte : shapeLegal p s 0 ≡ (sourcesIn p s ≤? 7)
+    pub sources-byte : shapeLegal p s 0 ≡ (sourcesIn p s ≤? 7)
     unfolding shapeLegal sourcesIn pick _=?_
     sources-byte = ap (λ (i : ℕ). byte p i ≤? 7) (omega arith)
 
-    sinks-byte : shapeLegal p s 1 ≡ between 1 7 (sinksIn p s)
+    pub sinks-byte : shapeLegal p s 1 ≡ between 1 7 (sinksIn p s)
     unfolding shapeLegal sinksIn pick _=?_
     sinks-byte = refl
 
@@ -97,17 +97,17 @@ module _ (p : List ℕ) where
     port-byte : (first count x : ℕ) → portLegal s count (first + x - first) (byte p (shapeAt p s + (first + x))) ≡ portLegal s count x (byte p (shapeAt p s + first + x))
     port-byte first count x = ap₂ (portLegal s count) (omega arith) (ap (byte p) (omega arith))
 
-    source-byte : (x : ℕ) → x < 7 → shapeLegal p s (2 + x) ≡ portLegal s (sourcesIn p s) x (sourceKind p s x)
+    pub source-byte : (x : ℕ) → x < 7 → shapeLegal p s (2 + x) ≡ portLegal s (sourcesIn p s) x (sourceKind p s x)
     unfolding shapeLegal sourceKind
     source-byte x l =
         sym (no _ (eq× (λ e. omega arith)) (no _ (eq× (λ e. omega arith)) (yes _ (lt! (omega arith)) (sym (port-byte 2 (sourcesIn p s) x)))))
 
-    sink-byte : (x : ℕ) → x < 7 → shapeLegal p s (9 + x) ≡ portLegal s (sinksIn p s) x (sinkKind p s x)
+    pub sink-byte : (x : ℕ) → x < 7 → shapeLegal p s (9 + x) ≡ portLegal s (sinksIn p s) x (sinkKind p s x)
     unfolding shapeLegal sinkKind
     sink-byte x l =
         sym (no _ (eq× (λ e. omega arith)) (no _ (eq× (λ e. omega arith)) (no _ (lt× (omega arith)) (sym (port-byte 9 (sinksIn p s) x)))))
 
-    shape : ((k : ℕ) → k < 16 → shapeLegal p s k ≡ true) ↔ ShapeRule p s
+    pub shape : ((k : ℕ) → k < 16 → shapeLegal p s k ≡ true) ↔ ShapeRule p s
     shape = (
       λ h.
           let few : sourcesIn p s ≤ 7 = le? (sym sources-byte ∙ h 0 (omega arith)) in
@@ -136,19 +136,19 @@ module _ (p : List ℕ) where
   -- ---- entries: the same, by columns
 
   module _ (r : ℕ) where
-    shape-byte : entryLegal p r 0 ≡ ((shapeOf p r <? shapes p) and (not (r =? mainOf p) or mainLegal p (shapeOf p r)))
+    pub shape-byte : entryLegal p r 0 ≡ ((shapeOf p r <? shapes p) and (not (r =? mainOf p) or mainLegal p (shapeOf p r)))
     unfolding entryLegal shapeOf pick _=?_
     shape-byte = ap (λ (i : ℕ). (byte p i <? shapes p) and (not (r =? mainOf p) or mainLegal p (byte p i))) (omega arith)
 
-    declared-byte : entryLegal p r 1 ≡ (declared p r ≤? 32)
+    pub declared-byte : entryLegal p r 1 ≡ (declared p r ≤? 32)
     unfolding entryLegal declared pick _=?_
     declared-byte = refl
 
-    running-byte : entryLegal p r 2 ≡ between 1 128 (running p r)
+    pub running-byte : entryLegal p r 2 ≡ between 1 128 (running p r)
     unfolding entryLegal running pick _=?_
     running-byte = refl
 
-    last-byte : entryLegal p r 3 ≡ (byte p (entryAt p r + 3) =? 0)
+    pub last-byte : entryLegal p r 3 ≡ (byte p (entryAt p r + 3) =? 0)
     unfolding entryLegal pick _=?_
     last-byte = refl
 
@@ -178,7 +178,7 @@ module _ (p : List ℕ) where
   -- ---- main
 
   -- the test asks all seven sinks, and may: those past the last are of kind 0
-  main-legal : ShapeRule p (shapeOf p (mainOf p)) → (mainLegal p (shapeOf p (mainOf p)) ≡ true) ↔ MainRule p
+  pub main-legal : ShapeRule p (shapeOf p (mainOf p)) → (mainLegal p (shapeOf p (mainOf p)) ≡ true) ↔ MainRule p
   unfolding mainLegal sources sinks
   main-legal shape =
       let s = shapeOf p (mainOf p) in
@@ -200,7 +200,7 @@ module _ (p : List ℕ) where
   -- ---- all tables
 
   -- Global x is byte 7 + x.
-  global-byte : (x : ℕ) → 1 ≤ x → globalKind p x ≡ byte p (7 + x)
+  pub global-byte : (x : ℕ) → 1 ≤ x → globalKind p x ≡ byte p (7 + x)
   unfolding globalKind
   global-byte x l = sym (no _ (eq× (λ e. omega arith)) refl)
 
@@ -214,15 +214,15 @@ module _ (p : List ℕ) where
         omega (arith, global-byte (i - 7) (omega arith))),
   )
 
-  shapes-end : shapeAt p 0 + 16 * shapes p ≡ entryAt p 0
+  pub shapes-end : shapeAt p 0 + 16 * shapes p ≡ entryAt p 0
   unfolding shapeAt entryAt
   shapes-end = omega arith
 
-  entries-end : entryAt p 0 + 4 * reactors p ≡ tablesEnd p
+  pub entries-end : entryAt p 0 + 4 * reactors p ≡ tablesEnd p
   unfolding entryAt tablesEnd
   entries-end = omega arith
 
-  globals-end : headerEnd + globals p ≡ shapeAt p 0
+  pub globals-end : headerEnd + globals p ≡ shapeAt p 0
   unfolding shapeAt
   globals-end = omega arith
 

@@ -1,22 +1,25 @@
 -- The test at a reactor's end: every standing may stay exactly where no React, AllocPoly or Sink is missing.
 use Prim.Native.Nat.{ℕ, _≤_, _<_}
 use mathlib.Core.Path.{_≡_, refl, sym, _∙_, ap, subst}
-use mathlib.Core.Bool.{true}
+use mathlib.Core.Bool.{true, false}
 use mathlib.Core.Logic.{_↔_, _⊎_, inl, inr, Iff·trans}
 use mathlib.Core.List.{List}
 use native.Mathlib.Omega.{arith}
 use lib.ListN.{List·getD-eq-default}
-use Rattle.value.specs.Test.{_<?_}
-use Rattle.value.proofs.Sweeps.{sweeps}
-use Rattle.value.proofs.Tests.{cases, Says, says-lt, says-eq, says-or, lt?, lt×?}
+use Rattle.value.specs.Test.{sweep, _<?_}
+use Rattle.value.proofs.Sweeps.{swept, sweeps}
+use Rattle.value.proofs.Tests.{cases, Says, says-lt, says-eq, says-or, says×, lt?, lt×?, eq×?}
 use Rattle.program.specs.Bytes.{sourcesIn, commandsIn}
-use Rattle.program.specs.Location.{shapeThere}
+use Rattle.program.specs.Command.{Cmd, cmdOf, allocMono, makePoly, constant, global, supply, react, consume, sink}
+use Rattle.program.specs.Command.{allocPoly, primitive, none}
+use Rattle.program.specs.Location.{commandLoc, cmdAt, shapeThere}
 use Rattle.load.specs.Scan.{standingAt, kindAt, settled, complete, freePoint, usedPoint, unsetSink, setSink, reacted}
 use Rattle.load.specs.Rules.{Allocates, Sets}
 use Rattle.load.specs.declared.Scan.{Scan}
 use Rattle.load.proofs.Exact.Seen.{tells-hi}
-use Rattle.load.proofs.Exact.Class.{Class, a-value, a-point, a-deployment, a-sink, nothing}
-use Rattle.load.proofs.Exact.Places.{classAt}
+use Rattle.load.specs.Fault.{Lacks, react-missing, poly-missing, sink-missing}
+use Rattle.load.proofs.Exact.Class.{Class, a-value, a-point, a-deployment, a-sink, nothing, classOf}
+use Rattle.load.proofs.Exact.Places.{classAt, loc-lt, cmd-there, by-place}
 use Rattle.load.proofs.Exact.Fits.{Ended}
 use Rattle.load.proofs.Exact.Stand.{Sized}
 use Rattle.load.proofs.Exact.Holds.{Holds, Holding, standing-of, deployed-reacted}
@@ -67,13 +70,50 @@ module _ (p : List ℕ) (r : ℕ) where
       let e : standingAt s l ≡ 0 = List·getD-eq-default (s .standing) 0 (subst (λ m. m ≤ l) (sym (z .long)) h) in
       settled-low (standingAt s l) (omega arith)
 
+  exact-at : (s : Scan) → Holding p r (commandsIn p r) s → (l : ℕ) →
+      Says (settled (standingAt s l)) (Ended p r l (classAt p r (commandsIn p r) l))
+  exact-at s g l = settled-exact l (standingAt s l) (kindAt s l) (classAt p r (commandsIn p r) l) (g .holds l)
+
   pub complete-exact : (s : Scan) → Holding p r (commandsIn p r) s →
       (complete s ≡ true) ↔ ((l : ℕ) → Ended p r l (classAt p r (commandsIn p r) l))
   unfolding complete
   complete-exact s g =
-      let exact : (l : ℕ) → (settled (standingAt s l) ≡ true) ↔ Ended p r l (classAt p r (commandsIn p r) l) =
-      λ l. settled-exact l (standingAt s l) (kindAt s l) (classAt p r (commandsIn p r) l) (g .holds l) in
       Iff·trans says-eq (Iff·trans (sweeps (λ l. settled (standingAt s l)) 0 174 174 refl) (
-        (λ h l. exact l .0 (cases (l <? 174) (λ y. h l (omega arith) (lt? y)) (λ y. beyond s (g .sized) l (lt×? y)))),
-        (λ h i l m. exact i .1 (h i)),
+        (λ h l. exact-at s g l .0 (cases (l <? 174) (λ y. h l (omega arith) (lt? y)) (λ y. beyond s (g .sized) l (lt×? y)))),
+        (λ h i l m. exact-at s g i .1 (h i)),
       ))
+
+  -- ---- what is missing, where it fails
+
+  lacking-made : (i : ℕ) → i < commandsIn p r → (c : Cmd) → cmdAt p r (commandLoc p r i) ≡ c →
+      (Ended p r (commandLoc p r i) (classOf c) → ⊥) → Lacks p r
+  unfolding classOf
+  lacking-made i h (allocMono x) e n = react-missing (inl (x, e)) (λ j l q. n (j, l, q))
+  lacking-made i h (makePoly x) e n = poly-missing (x, e) (λ j l q. n (j, l, q))
+  lacking-made i h (constant x v) e n = absurd (n tt)
+  lacking-made i h (global x) e n = absurd (n tt)
+  lacking-made i h (supply x a b) e n = absurd (n tt)
+  lacking-made i h (react b) e n = absurd (n tt)
+  lacking-made i h (consume x b) e n = absurd (n tt)
+  lacking-made i h (sink x a) e n = absurd (n tt)
+  lacking-made i h (allocPoly a b) e n = react-missing (inr (loc-lt p r h, (a, b, e))) (λ j l q. n (j, l, q))
+  lacking-made i h (primitive x a b c) e n = absurd (n tt)
+  lacking-made i h none e n = absurd (n tt)
+
+  lacking-at : (l : ℕ) → (Ended p r l (classAt p r (commandsIn p r) l) → ⊥) → Lacks p r
+  lacking-at =
+      by-place p r (commandsIn p r) (λ l c. (Ended p r l c → ⊥) → Lacks p r) (omega arith)
+      (λ l h n. absurd (n tt))
+      (λ i h. lacking-made i h (cmdOf p r i) (cmd-there p r i h))
+      (λ i h l n. absurd (n tt))
+      (λ x h n. sink-missing h (λ j l q. n (j, l, q)))
+      (λ l h n. absurd (n tt))
+
+  pub lacking : (s : Scan) → Holding p r (commandsIn p r) s → complete s ≡ false → Lacks p r
+  unfolding complete
+  lacking s g e =
+      let found = swept (λ l. settled (standingAt s l)) 0 174 in
+      let l = sweep (λ l. settled (standingAt s l)) 0 174 in
+      let end = eq×? e in
+      let fails = found .stopped (let t = found .to in omega arith) in
+      lacking-at l (says× (exact-at s g l) .0 fails)

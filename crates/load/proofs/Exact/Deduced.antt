@@ -14,10 +14,11 @@ use Rattle.load.specs.Rules.{Deployment, Supplies, Reacts, Allocates, Se
 use Rattle.load.specs.Accepted.{TablesRight}
 use Rattle.load.proofs.Exact.Seen.{one}
 use Rattle.load.proofs.Exact.Class.{a-value, a-point, a-deployment, IsMade, shows-as, clash}
-use Rattle.load.proofs.Exact.Places.{classAt, loc-lt, cmd-there, by-place, value-low, made-where}
+use Rattle.load.proofs.Exact.Places.{classAt, loc-lt, cmd-there, by-place, value-low, made-where, point-exact}
 use Rattle.load.proofs.Exact.KindLaws.{source-kind, sink-kind, point-shape, command-kind, shape-here}
-use Rattle.load.proofs.Exact.Fits.{InSequence, Fits, ValueAt, Stepwise}
-use Rattle.load.proofs.Exact.Rule.{rule-exact, point-of}
+use Rattle.load.specs.Fault.{InSequence}
+use Rattle.load.proofs.Exact.Fits.{Fits, ValueAt, Stepwise}
+use Rattle.load.proofs.Exact.Rule.{rule-exact}
 use Rattle.load.proofs.Exact.KindLaws.{given-same}
 use Rattle.load.proofs.Exact.Holds.{kind-at-depth}
 use Rattle.load.proofs.Exact.Reactor.{tables-right, first-run, first-fits}
@@ -54,7 +55,7 @@ module _ (p : List ℕ) (r : ℕ) (u : ReactorRule p r) where
       elim (shows-as (cmdOf p r (w .0)) (sym (w .3) ∙ e)) [
         | inl m ↦ mono (w .0) (m .0) l (w .2) (m .1) (sym (shape ∙ ap (shapeMade p r) (m .1)))
         | inr m ↦
-            (let at = point-of p r (w .0) (m .1) (omega arith) (fit (w .0) _ h (m .2) .located .1) in
+            (let at = point-exact p r (w .0) (m .1) (omega arith) .0 (fit (w .0) _ h (m .2) .placed .1) .1 in
             poly (w .0) (m .0) (m .1) l (w .2) (m .2) (point-shape p r (m .1) (at .0) (at .1) ∙ sym (shape ∙ ap (shapeMade p r) (m .2))))
       ]
 
@@ -148,39 +149,39 @@ module _ (p : List ℕ) (r : ℕ) (u : ReactorRule p r) where
           globals = λ i x h e. (own-kind i _ h e, fit i _ h e .ranged);
           supplies = λ i x a b h e.
               let f = fit i _ h e in (
-                value-before i a (omega arith) (f .located .0),
+                value-before i a (omega arith) (f .placed .0),
                 (
                   shapeThere p r b,
-                  deployment-before i b (omega arith) (f .located .1),
+                  deployment-before i b (omega arith) (f .placed .1),
                   f .agreed .0,
                   λ q z. port-kind q (shapeThere p r b) x (kindOf p r a) (f .agreed .0) (f .agreed .1) z,
                 ),
               );
           reacts = λ i b h e.
               let f = fit i _ h e in
-              (shapeThere p r b, deployment-before i b (omega arith) (f .located), λ x l. let s = f .timely .1 x l in (s .0, s .2 .0, s .1, s .2 .1));
+              (shapeThere p r b, deployment-before i b (omega arith) (f .placed), λ x l. let s = f .timely .1 x l in (s .0, s .2 .0, s .1, s .2 .1));
           consumes = λ i x b h e.
               let f = fit i _ h e in (
                 shapeThere p r b,
-                deployment-before i b (omega arith) (f .located),
+                deployment-before i b (omega arith) (f .placed),
                 f .agreed,
                 f .timely,
                 λ q z. sink-kind p q x ∙ ap (λ m. sinkKind p m x) z ∙ sym (own-kind i _ h e),
               );
           sinks-of = λ i x a h e.
               let f = fit i _ h e in
-              (value-before i a (omega arith) (f .located), f .agreed .0, sink-kind p r x ∙ sym (f .agreed .1));
+              (value-before i a (omega arith) (f .placed), f .agreed .0, sink-kind p r x ∙ sym (f .agreed .1));
           polys = λ i a b h e.
               let f = fit i _ h e in
-              (value-before i a (omega arith) (f .located .0), (shapeThere p r b, point-before i b (omega arith) (f .located .1), f .agreed));
+              (value-before i a (omega arith) (f .placed .0), (shapeThere p r b, point-before i b (omega arith) (f .placed .1), f .agreed));
           primitives = λ i x a b c h e.
               let f = fit i _ h e in (
                 (f .ranged, f .remaining),
-                value-before i a (omega arith) (f .located .0),
-                ⊎-map (λ q. q) (value-before i b (omega arith)) (f .located .1),
-                ⊎-map (λ q. q) (value-before i c (omega arith)) (f .located .2),
+                value-before i a (omega arith) (f .placed .0),
+                ⊎-map (λ q. q) (value-before i b (omega arith)) (f .placed .1),
+                ⊎-map (λ q. q) (value-before i c (omega arith)) (f .placed .2),
                 f .agreed,
-                own-kind i _ h e ∙ given-same x _ _ (f .ranged) (⊎-map (λ q. q) (λ v. kind-deep i b _ (omega arith) v (value-low p r i b (omega arith) v)) (f .located .1)),
+                own-kind i _ h e ∙ given-same x _ _ (f .ranged) (⊎-map (λ q. q) (λ v. kind-deep i b _ (omega arith) v (value-low p r i b (omega arith) v)) (f .placed .1)),
               );
           no-kind = λ i h e. own-kind i _ h refl ∙ no-value _ (cmdOf p r i) e;
         }

@@ -13,7 +13,7 @@ use Rattle.program.specs.declared.Command.{Command}
 use Rattle.program.proofs.Decode.{by-code}
 use Rattle.load.specs.Scan.{formed}
 use Rattle.load.specs.Rules.{ZeroBytes}
-use Rattle.load.proofs.Exact.Fits.{Ranged}
+use Rattle.load.specs.Fault.{Ranged}
 
 -- ---- a sum is zero where each part is
 

@@ -72,11 +72,11 @@ module _ {p : List ℕ} {r k : ℕ} {s : Scan} (g : Holding p r k s) (h : k < co
   not-own (makePoly x) f q = q
   not-own (constant x v) f q = q
   not-own (global x) f q = q
-  not-own (supply x a b) f q = elsewhere b a-deployment (f .located .1) (omega arith) q
-  not-own (react b) f q = elsewhere b a-deployment (f .located) (omega arith) q
+  not-own (supply x a b) f q = elsewhere b a-deployment (f .placed .1) (omega arith) q
+  not-own (react b) f q = elsewhere b a-deployment (f .placed) (omega arith) q
   not-own (consume x b) f q = q
   not-own (sink x a) f q = elsewhere (sinkLoc p r x) (a-sink x) (class-sink p r k x (f .agreed .0) (g .few)) (omega arith) q
-  not-own (allocPoly a b) f q = elsewhere b a-point (f .located .1) (omega arith) q
+  not-own (allocPoly a b) f q = elsewhere b a-point (f .placed .1) (omega arith) q
   not-own (primitive x a b c) f q = q
   not-own none f q = q
 

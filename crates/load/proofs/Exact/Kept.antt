@@ -19,10 +19,9 @@ use Rattle.load.proofs.Exact.Bits.{bit, add-bit, keep-bit}
 use Rattle.load.specs.Order.{Never}
 use Rattle.load.proofs.Exact.Seen.{Tells, never-more, already-now, tells-more, tells-lo}
 use Rattle.load.proofs.Exact.Class.{a-value, a-deployment, nothing, classOf, IsMade}
-use Rattle.load.proofs.Exact.Places.{classAt, class-sink, made-where, value-low}
+use Rattle.load.proofs.Exact.Places.{classAt, class-sink, made-where, value-low, point-exact}
 use Rattle.load.proofs.Exact.KindLaws.{point-shape, given-same}
 use Rattle.load.proofs.Exact.Fits.{Fits}
-use Rattle.load.proofs.Exact.Rule.{point-of}
 use Rattle.load.proofs.Exact.Holds.{Touches, Deployed, Holds, HoldsAt, as-read, Holding, holds-as, kind-at-depth, shape-of-deployment}
 use Rattle.load.proofs.Exact.Stand.{stand-sized, stand-next, reads-there, reads-else, command-inside, sink-inside}
 use Rattle.load.proofs.Exact.Keep.{not-own, own-value, own-point, own-deployment}
@@ -93,10 +92,10 @@ module _ {p : List ℕ} {r k : ℕ} {s : Scan}
       let kd = kindAt s b in
       let v = stand s b usedPoint kd in
       let u = stand v here waiting kd in
-      let at = f .located .1 in
+      let at = f .placed .1 in
       let held = holds-as g b at .1 in
       let apart : b ≡ here → ⊥ = not-own g h (allocPoly a b) f in
-      let w = point-of p r k b (g .few) at in
+      let w = point-exact p r k b (g .few) .0 at .1 in
       let shape : kd ≡ pointShape (madeBy (cmdAt p r b)) = held .0 ∙ point-shape p r b (w .0) (w .1) in
       let small = subst (λ m. m < shapes p) (sym (held .0)) (held .1) in
       let sized = stand-sized s b usedPoint kd (g .sized) in
@@ -128,13 +127,13 @@ module _ {p : List ℕ} {r k : ℕ} {s : Scan}
   change (constant x v) e f = gives _ e f x refl (λ l q. q) (λ i l. refl)
   change (global x) e f = gives _ e f (globalKind p x) refl (λ l q. q) (λ i l. refl)
   change (supply x a b) e f =
-      let held = holds-as g b (f .located .1) in
+      let held = holds-as g b (f .placed .1) in
       let seven = t .every-shape _ (held .1 .1) .few-sources in
-      serves _ e f b (standingAt s b + 2 ^ x) (f .located .1) refl (λ l q. q) refl
+      serves _ e f b (standingAt s b + 2 ^ x) (f .placed .1) refl (λ l q. q) refl
       (deployed-supply p r _ k b (standingAt s b) x a seven (f .agreed .0) e (f .timely .0) (f .timely .1) (held .0))
-  change (react b) e f = serves _ e f b reacted (f .located) refl (λ l q. q) refl (inl (refl, already-now p r (Reacts p r b) k e))
+  change (react b) e f = serves _ e f b reacted (f .placed) refl (λ l q. q) refl (inl (refl, already-now p r (Reacts p r b) k e))
   change (consume x b) e f =
-      gives _ e f _ refl (λ l q. q) (λ i l. ap (λ m. sinkKind p m x) (shape-of-deployment g b (f .located)))
+      gives _ e f _ refl (λ l q. q) (λ i l. ap (λ m. sinkKind p m x) (shape-of-deployment g b (f .placed)))
   change (sink x a) e f =
       let at = class-sink p r k x (f .agreed .0) (g .few) in
       touching g h (sinkLoc p r x) setSink 0 (sink-inside p r t low x (f .agreed .0)) (sink x a) e f refl (λ l q. q) refl
@@ -143,7 +142,7 @@ module _ {p : List ℕ} {r k : ℕ} {s : Scan}
   change (primitive x a b c) e f =
       gives _ e f _ refl (λ l q. q)
       (λ i l. given-same x _ _ (f .ranged)
-      (⊎-map (λ q. q) (λ v. kind-at-depth g b v i (lt-of-lt-of-le (value-low p r k b (g .few) v) l)) (f .located .1)))
+      (⊎-map (λ q. q) (λ v. kind-at-depth g b v i (lt-of-lt-of-le (value-low p r k b (g .few) v) l)) (f .placed .1)))
   change none e f = absurd (f .ranged)
 
   pub kept : Fits p r k (cmdOf p r k) → Holding p r (suc k) (afterOf p r s (cmdOf p r k))

@@ -15,10 +15,11 @@ use Rattle.load.specs.Scan.{scanOf, beginOf, complete}
 use Rattle.load.specs.Refusal.{refusalNumber}
 use Rattle.load.specs.Check.{numberOf, ended, reactorsOf, checkOf, IsAccepted}
 use Rattle.load.specs.Accepted.{ReactorAccepted}
+use Rattle.load.proofs.Refusals.{refusal-counts}
 use Rattle.load.proofs.Exact.Bytes.{header-first}
 use Rattle.load.specs.declared.Scanned.{Scanned}
 use Rattle.load.specs.declared.Refusal.{Refusal}
-use Rattle.load.specs.declared.Refusal.the-variants.{ProgramLength, TableByte, Command, Operand, PortOrKind, SetTwice, Missing, MemoryLength, UnsoundImage, ReadingsLength, Reading, SinkSpace, Clock, NoRoom, TooDeep, TooEarly, TooLate, NotLower, Withdrawn}
+use Rattle.load.specs.declared.Refusal.the-variants.{Missing}
 use Rattle.load.specs.declared.Checked.{Checked}
 use Rattle.load.specs.declared.Checked.the-variants.{Accepted, Refused}
 
@@ -103,28 +104,6 @@ module _ (P : Checked → Type 0) (never : (w : Refusal) → P (Refused w) → �
               ),
             ),
       )
-
--- 0 is no refusal's number
-refusal-counts : (w : Refusal) → 1 ≤ refusalNumber w
-refusal-counts (ProgramLength q) = omega arith
-refusal-counts (TableByte q) = omega arith
-refusal-counts (Command q) = omega arith
-refusal-counts (Operand q) = omega arith
-refusal-counts (PortOrKind q) = omega arith
-refusal-counts (SetTwice q) = omega arith
-refusal-counts (Missing q) = omega arith
-refusal-counts (MemoryLength q) = omega arith
-refusal-counts (UnsoundImage q) = omega arith
-refusal-counts (ReadingsLength q) = omega arith
-refusal-counts (Reading q) = omega arith
-refusal-counts (SinkSpace q) = omega arith
-refusal-counts Clock = omega arith
-refusal-counts (NoRoom q) = omega arith
-refusal-counts (TooDeep q) = omega arith
-refusal-counts (TooEarly q) = omega arith
-refusal-counts (TooLate q) = omega arith
-refusal-counts (NotLower q) = omega arith
-refusal-counts (Withdrawn q) = omega arith
 
 module _ (p : List ℕ) where
   pub accepted : IsAccepted p ↔ Passed p

@@ -19,7 +19,8 @@ use Rattle.load.specs.declared.Scan.{Scan}
 use Rattle.load.proofs.Exact.Bits.{bit}
 use Rattle.load.proofs.Exact.Class.{a-deployment}
 use Rattle.load.proofs.Exact.Places.{classAt, class-sink}
-use Rattle.load.proofs.Exact.Fits.{Located, Agreed}
+use Rattle.load.specs.Fault.{Agreed}
+use Rattle.load.proofs.Exact.Fits.{PlacedAt}
 use Rattle.load.proofs.Exact.Holds.{Holding, Deployed, supplied, holds-as, shape-of-deployment, point-free, deployment-reacted, deployment-ready}
 use Rattle.load.proofs.Exact.Taken.{located-says, agreed-says, sink-open, few-sources}
 use Rattle.load.proofs.Exact.Reactor.{first-run}
@@ -45,7 +46,7 @@ module _ {p : List ℕ} {r k : ℕ} {s : Scan} (g : Holding p r k s) (t : Tables
       (sym (shape-of-deployment g b e)) (deployment-ready g b (few-sources g t b e) e)
 
   -- a number that is given is the order's
-  refused-for : (c : Cmd) → Located p r k c → Agreed p r c → (n : ℕ) → n ≢ 0 →
+  pub refused-for : (c : Cmd) → PlacedAt p r k c → Agreed p r c → (n : ℕ) → n ≢ 0 →
       disorder p r s c ≡ n → OutOfOrder p r k c n
   unfolding disorder isSupplied
   refused-for (allocMono x) h a n z q =
@@ -106,7 +107,7 @@ module _ {p : List ℕ} {r k : ℕ} {s : Scan} (g : Holding p r k s) (t : Tables
   refused-for none h a n z q = absurd (z (sym q))
 
   -- and what is out of order is given its number
-  refuses : {c : Cmd} {n : ℕ} → OutOfOrder p r k c n → Located p r k c → Agreed p r c → disorder p r s c ≡ n
+  pub refuses : {c : Cmd} {n : ℕ} → OutOfOrder p r k c n → PlacedAt p r k c → Agreed p r c → disorder p r s c ≡ n
   unfolding disorder isSupplied
   refuses (source-again {x} {b} n d) h a =
       elim (deployed b (h .1)) [

@@ -11,7 +11,7 @@ use Rattle.load.proofs.Exact.Ladder.{accepted}
 use Rattle.load.proofs.Exact.Bounds.{commands-follow}
 
 module _ (p : List ℕ) where
-  tables-inside : tablesEnd p ≤ wholeLength p
+  pub tables-inside : tablesEnd p ≤ wholeLength p
   unfolding wholeLength commandsAt
   tables-inside = commands-follow p 0 (reactors p) (omega arith)
 

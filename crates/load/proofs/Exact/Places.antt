@@ -9,10 +9,11 @@ use native.Mathlib.Numerals.{lt-of-le-of-ne}
 use Rattle.value.specs.Test.{pick, _<?_, _≤?_, _and_}
 use Rattle.value.proofs.Tests.{cases, yes, no, lt!, lt×, le!, lt?, lt×?, le?, both!, both?}
 use Rattle.program.specs.Bytes.{commandsIn}
-use Rattle.program.specs.Command.{Cmd, cmdOf, givesValue, none}
+use Rattle.program.specs.Command.{Cmd, cmdOf, givesValue, allocMono, makePoly, allocPoly, none}
 use Rattle.program.specs.Location.{sources, sinks, commandLoc, sinkLoc, locations, cmdAt}
-use Rattle.load.specs.Rules.{Value}
-use Rattle.load.proofs.Exact.Class.{Class, a-value, a-sink, nothing, classOf, IsMade, clash, shows-as, value-class}
+use Rattle.load.specs.Rules.{Value, Deployment, Point}
+use Rattle.load.proofs.Exact.Class.{Class, a-value, a-point, a-deployment, a-sink, nothing, classOf, IsMade, clash}
+use Rattle.load.proofs.Exact.Class.{shows-as, value-class}
 
 -- what stands at location l after the first k commands
 unfoldable pub classAt : List ℕ → ℕ → ℕ → ℕ → Class
@@ -168,3 +169,43 @@ module _ (p : List ℕ) (r : ℕ) where
       (λ x h z. absurd z)
       (λ j h z. absurd z)
       l
+
+  -- what an earlier command made stands at its location
+  pub made-there : (k b : ℕ) (c : Cmd) → k ≤ commandsIn p r → IsMade (classOf c) → b < commandLoc p r k →
+      cmdAt p r b ≡ c → classAt p r k b ≡ classOf c
+  unfolding classOf
+  made-there k b c few made low e =
+      let w = cmd-where b c e (λ q. subst (λ d. IsMade (classOf d)) q made) in
+      let i : w .0 < k = loc-lt-back (subst (λ j. j < commandLoc p r k) (w .2) low) in
+      ap (classAt p r k) (w .2) ∙ class-made k (w .0) i few ∙ ap classOf (w .3)
+
+  -- a deployment operand, and a branch point, of the next command
+  pub deployment-exact : (k b : ℕ) → k ≤ commandsIn p r →
+      (classAt p r k b ≡ a-deployment) ↔ ((b < commandLoc p r k) × Deployment p r (commandLoc p r k) b)
+  unfolding classOf
+  deployment-exact k b few = (
+    (λ e.
+        let w = made-where k b few (subst IsMade (sym e) tt) in
+        let low = subst (λ j. j < commandLoc p r k) (sym (w .2)) (loc-lt (w .1)) in
+        let there = ap (cmdAt p r) (w .2) ∙ cmd-there (w .0) (omega (arith, w .1)) in
+        elim (shows-as (cmdOf p r (w .0)) (sym (w .3) ∙ e)) [
+          | inl m ↦ (low, inl (m .0, there ∙ m .1))
+          | inr m ↦ (low, inr (low, (m .0, m .1, there ∙ m .2)))
+        ]),
+    (λ h. elim (h .1) [
+      | inl m ↦ made-there k b (allocMono (m .0)) few tt (h .0) (m .1)
+      | inr m ↦ made-there k b (allocPoly (m .1 .0) (m .1 .1)) few tt (h .0) (m .1 .2)
+    ]),
+  )
+
+  pub point-exact : (k b : ℕ) → k ≤ commandsIn p r →
+      (classAt p r k b ≡ a-point) ↔ ((b < commandLoc p r k) × Point p r b)
+  unfolding classOf
+  point-exact k b few = (
+    (λ e.
+        let w = made-where k b few (subst IsMade (sym e) tt) in
+        let m = shows-as (cmdOf p r (w .0)) (sym (w .3) ∙ e) in
+        let there = ap (cmdAt p r) (w .2) ∙ cmd-there (w .0) (omega (arith, w .1)) in
+        (subst (λ j. j < commandLoc p r k) (sym (w .2)) (loc-lt (w .1)), (m .0, there ∙ m .1))),
+    (λ h. made-there k b (makePoly (h .1 .0)) few tt (h .0) (h .1 .1)),
+  )

@@ -1,18 +1,16 @@
 -- `reactor-exact`: the scan of one reactor accepts exactly what the rules say. `kinds-agree`: what its kind table holds on the way.
 use Prim.Native.Nat.{ℕ, zero, suc, _+_, _≤_, _<_}
 use mathlib.Core.Path.{_≡_, refl, sym, _∙_, ap, subst}
-use mathlib.Core.Bool.{true}
 use mathlib.Core.Logic.{_↔_, ⊎-elim, Iff·trans}
 use mathlib.Core.List.{List}
 use native.Mathlib.Omega.{arith}
 use native.Mathlib.Nat.{eq-or-lt-of-le}
 use Rattle.program.specs.Bytes.{reactors, commandsIn}
-use Rattle.program.specs.Command.{Cmd, cmdOf, decode, bytesOf}
-use Rattle.program.specs.Location.{commandLoc, shapeThere}
-use Rattle.program.specs.Kind.{kindOf}
-use Rattle.load.specs.Scan.{kindAt, isValue, isPoint, isDeployment, refusalOf, afterOf, onward, scanOf, beginOf}
-use Rattle.load.specs.Rules.{Value, ReactorRule, Rules}
+use Rattle.program.specs.Command.{cmdOf}
+use Rattle.load.specs.Scan.{scanOf, beginOf}
+use Rattle.load.specs.Rules.{ReactorRule, Rules}
 use Rattle.load.specs.Accepted.{TablesRight, ReactorAccepted}
+use Rattle.load.specs.Kinds.{KindsFound}
 use Rattle.load.specs.declared.Scan.{Scan}
 use Rattle.load.specs.declared.Scanned.{Scanned}
 use Rattle.load.proofs.Exact.Places.{value-exact}
@@ -23,29 +21,9 @@ use Rattle.load.proofs.Exact.Taken.{taken-exact}
 use Rattle.load.proofs.Exact.Kept.{kept}
 use Rattle.load.proofs.Exact.Begin.{begin-holding}
 use Rattle.load.proofs.Exact.Complete.{complete-exact}
+use Rattle.load.proofs.Exact.Scanning.{scan-taken, scan-next}
 
 module _ (p : List ℕ) (r : ℕ) (t : TablesRight p) (low : r < reactors p) where
-  -- ---- one command of the scan
-
-  module _ (s : Scan) where
-    refusal : ℕ
-    refusal = refusalOf p r s (bytesOf p r (s .next)) (decode (bytesOf p r (s .next)))
-
-    onward-taken : (more : Scan → Scanned) (d : Cmd) (n : ℕ) → onward more p r s d n .code ≡ 0 → n ≡ 0
-    unfolding onward
-    onward-taken more d zero e = refl
-    onward-taken more d (suc n) e = e
-
-    scan-taken : (m : ℕ) → scanOf (suc m) p r s .code ≡ 0 → refusal ≡ 0
-    unfolding scanOf refusal
-    scan-taken m e = onward-taken (scanOf m p r) _ _ e
-
-    scan-next : (m k : ℕ) → s .next ≡ k → refusal ≡ 0 → scanOf (suc m) p r s ≡ scanOf m p r (afterOf p r s (cmdOf p r k))
-    unfolding scanOf refusal onward cmdOf
-    scan-next m k e q =
-        ap (onward (scanOf m p r) p r s (decode (bytesOf p r (s .next)))) q
-        ∙ ap (λ j. scanOf m p r (afterOf p r s (decode (bytesOf p r j)))) e
-
   -- ---- the m commands from command k up to command n
 
   taken-run : (m k n : ℕ) (s : Scan) → Holding p r k s → k + m ≡ n → n ≤ commandsIn p r → scanOf m p r s .code ≡ 0 →
@@ -55,9 +33,9 @@ module _ (p : List ℕ) (r : ℕ) (t : TablesRight p) (low : r < reactors p) whe
       let q : k ≡ n = omega arith in
       ((λ i l h. absurd (omega arith)), subst (λ j. Holding p r j s) q g)
   taken-run (suc m) k n s g e few z =
-      let q = scan-taken s m z in
-      let f : Fits p r k (cmdOf p r k) = taken-exact g t .0 (unfold refusal in q) in
-      let u = scan-next s m k (g .next) q in
+      let q = scan-taken p r m s z in
+      let f : Fits p r k (cmdOf p r k) = taken-exact g t .0 q in
+      let u = scan-next p r m k s (g .next) q in
       let z₁ = ap (λ (v : Scanned). v .code) (sym u) ∙ z in
       let a = taken-run m (suc k) n _ (kept g (omega arith) t low f) (omega arith) few z₁ in (
         (λ i l h. ⊎-elim (λ w. subst (λ j. Fits p r j (cmdOf p r j)) w f) (λ w. a .0 i w h) (eq-or-lt-of-le l)),
@@ -71,7 +49,7 @@ module _ (p : List ℕ) (r : ℕ) (t : TablesRight p) (low : r < reactors p) whe
   fitting-run (suc m) k n s g e few f =
       let now = f k (omega arith) (omega arith) in
       let q = taken-exact g t .1 now in
-      ap (λ (v : Scanned). v .code) (scan-next s m k (g .next) (unfold refusal in q))
+      ap (λ (v : Scanned). v .code) (scan-next p r m k s (g .next) q)
       ∙ fitting-run m (suc k) n _ (kept g (omega arith) t low now) (omega arith) few (λ i l h. f i (omega arith) h)
 
   -- ---- the first n commands
@@ -136,16 +114,8 @@ rules-exact p = (
 
 -- ---- the kind table
 
--- what the kind table holds after the first k commands
-pub record KindsAgree (p : List ℕ) (r k : ℕ) (s : Scan) : Type 0 where
-  pub value-where : (l : ℕ) → (isValue s l ≡ true) ↔ Value p r (commandLoc p r k) l
-  pub value-kind : (l : ℕ) → isValue s l ≡ true → kindAt s l ≡ kindOf p r l
-  pub deployment-shape : (l : ℕ) → isDeployment s l ≡ true → kindAt s l ≡ shapeThere p r l
-  pub point-shape : (l : ℕ) → isPoint s l ≡ true → kindAt s l ≡ shapeThere p r l
-
--- Where none of the first k commands is refused, it holds each value's kind, and each deployment's and branch point's shape.
-pub kinds-agree : (p : List ℕ) (r k : ℕ) → TablesRight p → r < reactors p → k ≤ commandsIn p r →
-    scanOf k p r (beginOf p r) .code ≡ 0 → KindsAgree p r k (scanOf k p r (beginOf p r) .scan)
+-- the scan's kinds are those of the rules
+pub kinds-agree : KindsFound
 kinds-agree p r k t low few z =
     let s = scanOf k p r (beginOf p r) .scan in
     let g = first-run p r t low k few z .1 in

@@ -17,9 +17,11 @@ use Rattle.program.specs.Kind.{kindOf}
 use Rattle.load.specs.Rules.{Value, Deployment, Point, Operands, Right, Once, Supplies, Reacts, Allocates, Sets, Served, ReactorRule}
 use Rattle.load.specs.Order.{Never, Already}
 use Rattle.load.proofs.Exact.Seen.{FirstOnly, one, once}
-use Rattle.load.proofs.Exact.Class.{a-point, a-deployment, classOf, IsMade, shows-as}
-use Rattle.load.proofs.Exact.Places.{classAt, loc-lt, loc-lt-back, cmd-there, cmd-where, class-made, class-sink, by-place, value-exact, made-where}
-use Rattle.load.proofs.Exact.Fits.{KindsFit, InSequence, Ranged, Remaining, ValueAt, Located, Agreed, Timely, Fits, Ended, Stepwise}
+use Rattle.load.proofs.Exact.Class.{a-point, a-deployment, classOf}
+use Rattle.load.proofs.Exact.Places.{classAt, loc-lt, cmd-there, cmd-where, class-sink, by-place, value-exact}
+use Rattle.load.proofs.Exact.Places.{deployment-exact, point-exact}
+use Rattle.load.specs.Fault.{KindsFit, InSequence, Ranged, Remaining, Agreed}
+use Rattle.load.proofs.Exact.Fits.{ValueAt, PlacedAt, Timely, Fits, Ended, Stepwise}
 
 -- ---- sequences
 
@@ -30,6 +32,9 @@ IsD neither = ⊥
 
 D≢R : D ≡ R → ⊥
 D≢R e = subst IsD e tt
+
+D≢neither : D ≡ neither → ⊥
+D≢neither e = subst IsD e tt
 
 module _ (p : List ℕ) (r k : ℕ) where
   in-D : (q : Sequence) → InSequence p r k q → k < declared p r → q ≡ D
@@ -43,52 +48,27 @@ module _ (p : List ℕ) (r k : ℕ) where
   in-R neither h l = absurd h
 
 module _ (p : List ℕ) (r : ℕ) where
-  -- from what stands there to what the rules say
-
-  deployment-of : (k b : ℕ) → k ≤ commandsIn p r → classAt p r k b ≡ a-deployment → Deployment p r (commandLoc p r k) b
-  deployment-of k b few e =
-      let w = made-where p r k b few (subst IsMade (sym e) tt) in
-      let h = w .1 in
-      let there : cmdAt p r b ≡ cmdOf p r (w .0) = ap (cmdAt p r) (w .2) ∙ cmd-there p r (w .0) (omega arith) in
-      elim (shows-as (cmdOf p r (w .0)) (sym (w .3) ∙ e)) [
-        | inl m ↦ inl (m .0, there ∙ m .1)
-        | inr m ↦ inr (subst (λ j. j < commandLoc p r k) (sym (w .2)) (loc-lt p r h), (m .0, m .1, there ∙ m .2))
-      ]
-
-  pub point-of : (k b : ℕ) → k ≤ commandsIn p r → classAt p r k b ≡ a-point → Point p r b
-  point-of k b few e =
-      let w = made-where p r k b few (subst IsMade (sym e) tt) in
-      let h = w .1 in
-      let m = shows-as (cmdOf p r (w .0)) (sym (w .3) ∙ e) in
-      (m .0, ap (cmdAt p r) (w .2) ∙ cmd-there p r (w .0) (omega arith) ∙ m .1)
-
-  -- and back, where the D commands come before command k
+  -- what a command names stands there, where the D commands come before command k
 
   abbrev DBefore : ℕ → Type 0
   DBefore k = (i : ℕ) → i < commandsIn p r → sequenceOf (cmdOf p r i) ≡ D → i < k
 
   module _ (k : ℕ) (few : k ≤ commandsIn p r) (D-before : DBefore k) where
-    -- a D command, or one at a location before command k's
-    made-class : (b : ℕ) (c : Cmd) → IsMade (classOf c) → (sequenceOf c ≡ D) ⊎ (b < commandLoc p r k) →
-        cmdAt p r b ≡ c → classAt p r k b ≡ classOf c
-    unfolding classOf
-    made-class b c made h e =
-        let w = cmd-where p r b c e (λ q. subst (λ d. IsMade (classOf d)) q made) in
-        let i : w .0 < k =
-        elim h [
-          | inl d ↦ D-before (w .0) (w .1) (ap sequenceOf (w .3) ∙ d)
-          | inr l ↦ loc-lt-back p r (subst (λ j. j < commandLoc p r k) (w .2) l)
-        ] in
-        ap (classAt p r k) (w .2) ∙ class-made p r k (w .0) i few ∙ ap classOf (w .3)
+    D-low : (b : ℕ) (c : Cmd) → sequenceOf c ≡ D → (c ≡ none → ⊥) → cmdAt p r b ≡ c → b < commandLoc p r k
+    D-low b c d some e =
+        let w = cmd-where p r b c e some in
+        subst (λ j. j < commandLoc p r k) (sym (w .2)) (loc-lt p r (D-before (w .0) (w .1) (ap sequenceOf (w .3) ∙ d)))
 
     deployment-there : (b : ℕ) → Deployment p r (commandLoc p r k) b → classAt p r k b ≡ a-deployment
-    unfolding classOf sequenceOf
-    deployment-there b (inl m) = made-class b (allocMono (m .0)) tt (inl refl) (m .1)
-    deployment-there b (inr m) = made-class b (allocPoly (m .1 .0) (m .1 .1)) tt (inr (m .0)) (m .1 .2)
+    unfolding sequenceOf
+    deployment-there b (inl m) =
+        deployment-exact p r k b few .1 (D-low b (allocMono (m .0)) refl (λ q. D≢neither (ap sequenceOf q)) (m .1), inl m)
+    deployment-there b (inr m) = deployment-exact p r k b few .1 (m .0, inr m)
 
     point-there : (b : ℕ) → Point p r b → classAt p r k b ≡ a-point
-    unfolding classOf sequenceOf
-    point-there b m = made-class b (makePoly (m .0)) tt (inl refl) (m .1)
+    unfolding sequenceOf
+    point-there b m =
+        point-exact p r k b few .1 (D-low b (makePoly (m .0)) refl (λ q. D≢neither (ap sequenceOf q)) (m .1), m)
 
   -- ---- a primitive's operands
 
@@ -115,6 +95,9 @@ module _ (p : List ℕ) (r : ℕ) where
   values : (k a : ℕ) → k ≤ commandsIn p r → ValueAt p r k a ↔ Value p r (commandLoc p r k) a
   values k a few = value-exact p r k a few
 
+  deployments : (k b : ℕ) → k ≤ commandsIn p r → classAt p r k b ≡ a-deployment → Deployment p r (commandLoc p r k) b
+  deployments k b few e = deployment-exact p r k b few .0 e .1
+
   right : (k : ℕ) (c : Cmd) → k ≤ commandsIn p r → Fits p r k c → Right p r (commandLoc p r k) c
   unfolding operands
   right k (allocMono x) few f = (f .ranged, f .timely)
@@ -122,17 +105,17 @@ module _ (p : List ℕ) (r : ℕ) where
   right k (constant x v) few f = f .ranged
   right k (global x) few f = f .ranged
   right k (supply x a b) few f =
-      (values k a few .0 (f .located .0), deployment-of k b few (f .located .1), f .agreed .0, f .agreed .1)
-  right k (react b) few f = deployment-of k b few (f .located)
-  right k (consume x b) few f = (deployment-of k b few (f .located), f .agreed)
-  right k (sink x a) few f = (values k a few .0 (f .located), f .agreed .0, f .agreed .1)
-  right k (allocPoly a b) few f = (values k a few .0 (f .located .0), point-of k b few (f .located .1), f .agreed)
+      (values k a few .0 (f .placed .0), deployments k b few (f .placed .1), f .agreed .0, f .agreed .1)
+  right k (react b) few f = deployments k b few (f .placed)
+  right k (consume x b) few f = (deployments k b few (f .placed), f .agreed)
+  right k (sink x a) few f = (values k a few .0 (f .placed), f .agreed .0, f .agreed .1)
+  right k (allocPoly a b) few f = (values k a few .0 (f .placed .0), point-exact p r k b few .0 (f .placed .1) .1, f .agreed)
   right k (primitive x a b c) few f = (
     (f .ranged, f .remaining),
     operands-of (commandLoc p r k) (rowOf x .takes) a b c .0 (
-      values k a few .0 (f .located .0),
-      ⊎-map (λ h. h) (values k b few .0) (f .located .1),
-      ⊎-map (λ h. h) (values k c few .0) (f .located .2),
+      values k a few .0 (f .placed .0),
+      ⊎-map (λ h. h) (values k b few .0) (f .placed .1),
+      ⊎-map (λ h. h) (values k c few .0) (f .placed .2),
       f .agreed,
     ),
   )
@@ -229,7 +212,7 @@ module _ (p : List ℕ) (r : ℕ) where
           omega arith
 
       fitted : (c : Cmd) → cmdOf p r k ≡ c → Right p r (commandLoc p r k) c →
-          Ranged p c × Remaining c × Located p r k c × Agreed p r c × Timely p r k c
+          Ranged p c × Remaining c × PlacedAt p r k c × Agreed p r c × Timely p r k c
       unfolding operands sequenceOf
       fitted (allocMono x) e g = (g .0, tt, tt, tt, g .1)
       fitted (makePoly x) e g = (g, tt, tt, tt, tt)
@@ -281,7 +264,7 @@ module _ (p : List ℕ) (r : ℕ) where
             zero-bytes = u .zero-bytes k h;
             ranged = f .0;
             remaining = f .1;
-            located = f .2;
+            placed = f .2;
             agreed = f .3;
             timely = f .4;
           }

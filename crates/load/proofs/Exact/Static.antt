@@ -10,7 +10,7 @@ use Rattle.program.specs.Bytes.{shapes, reactors, globals, globalKind, shapeOf,
 use Rattle.program.specs.Command.{cmdOf, sequenceOf, givesValue, D, R, allocMono, makePoly, constant, global, supply, react, consume, sink, allocPoly, primitive}
 use Rattle.program.specs.Location.{sources, sinks, commandLoc, sinkLoc, shapeThere}
 use Rattle.program.specs.Kind.{kindOf, Content}
-use Rattle.load.proofs.Exact.Fits.{KindsFit}
+use Rattle.load.specs.Fault.{KindsFit}
 
 module _ (p : List ℕ) (r : ℕ) where
   -- location a has a value when command i runs

@@ -22,7 +22,8 @@ use Rattle.load.specs.Order.{Never}
 use Rattle.load.proofs.Exact.Seen.{tells-lo}
 use Rattle.load.proofs.Exact.Class.{a-deployment}
 use Rattle.load.proofs.Exact.Places.{classAt, class-sink}
-use Rattle.load.proofs.Exact.Fits.{KindsFit, InSequence, Remaining, Located, Agreed, Timely, Fits}
+use Rattle.load.specs.Fault.{KindsFit, InSequence, Remaining, Agreed}
+use Rattle.load.proofs.Exact.Fits.{PlacedAt, Timely, Fits}
 use Rattle.load.proofs.Exact.Formed.{formed-says}
 use Rattle.load.proofs.Exact.Holds.{Holding, value-says, point-says, deployment-says, holds-as, kind-of-value, shape-of-deployment, shape-of-point, point-free, deployment-reacted, deployment-open, deployment-ready}
 
@@ -36,13 +37,13 @@ asks n f = let h = says-need n f (λ a. nothing-asked) in ((λ e. h .0 e .0), (�
 flat : {A B C : Type 0} → (A × (B × C)) ↔ (A × B × C)
 flat = ((λ h. (h .0, h .1 .0, h .1 .1)), (λ h. (h .0, (h .1, h .2))))
 
-sequence-says : (p : List ℕ) (r k : ℕ) (q : Sequence) → Says (inSequence q (k <? declared p r)) (InSequence p r k q)
+pub sequence-says : (p : List ℕ) (r k : ℕ) (q : Sequence) → Says (inSequence q (k <? declared p r)) (InSequence p r k q)
 unfolding inSequence
 sequence-says p r k D = says-lt
 sequence-says p r k R = says-not says-lt
 sequence-says p r k neither = says-false
 
-remaining-says : (c : Cmd) → Says (remaining c) (Remaining c)
+pub remaining-says : (c : Cmd) → Says (remaining c) (Remaining c)
 unfolding remaining isWithdrawn
 remaining-says (allocMono x) = says-true
 remaining-says (makePoly x) = says-true
@@ -75,7 +76,7 @@ kinds-say TwoAlike j k l j′ k′ l′ e f g =
     subst₂ (λ a b. Says (kindsFit TwoAlike j k l) (a ≡ b)) e (remains (omega arith) f) says-eq
 
 module _ {p : List ℕ} {r k : ℕ} {s : Scan} (g : Holding p r k s) where
-  pub located-says : (c : Cmd) → Says (located s c) (Located p r k c)
+  pub located-says : (c : Cmd) → Says (located s c) (PlacedAt p r k c)
   unfolding located
   located-says (allocMono x) = says-true
   located-says (makePoly x) = says-true
@@ -90,7 +91,7 @@ module _ {p : List ℕ} {r k : ℕ} {s : Scan} (g : Holding p r k s) where
       Iff·trans (says-and (value-says g a) (says-and (says-or says-lt (value-says g b)) (says-or says-lt (value-says g c)))) flat
   located-says none = says-true
 
-  pub agreed-says : (c : Cmd) → Located p r k c → Says (agreed p r s c) (Agreed p r c)
+  pub agreed-says : (c : Cmd) → PlacedAt p r k c → Says (agreed p r s c) (Agreed p r c)
   unfolding agreed operands
   agreed-says (allocMono x) h = says-true
   agreed-says (makePoly x) h = says-true
@@ -122,7 +123,7 @@ module _ {p : List ℕ} {r k : ℕ} {s : Scan} (g : Holding p r k s) where
     pub few-sources : (b : ℕ) → classAt p r k b ≡ a-deployment → sourcesIn p (shapeThere p r b) ≤ 7
     few-sources b e = t .every-shape (shapeThere p r b) (holds-as g b e .1 .1) .few-sources
 
-    disorder-says : (c : Cmd) → Located p r k c → Agreed p r c → (disorder p r s c ≡ 0) ↔ Timely p r k c
+    disorder-says : (c : Cmd) → PlacedAt p r k c → Agreed p r c → (disorder p r s c ≡ 0) ↔ Timely p r k c
     unfolding disorder isSupplied
     disorder-says (allocMono x) h a = asks 20 says-lt
     disorder-says (makePoly x) h a = nothing-asked
@@ -163,11 +164,11 @@ module _ {p : List ℕ} {r k : ℕ} {s : Scan} (g : Holding p r k s) where
                 zero-bytes = h .1 .0 .0;
                 ranged = h .1 .0 .1;
                 remaining = h .1 .1 .0;
-                located = h .1 .1 .1 .0;
+                placed = h .1 .1 .1 .0;
                 agreed = h .1 .1 .1 .1 .0;
                 timely = h .1 .1 .1 .1 .1;
               }),
-          (λ f. (f .in-sequence, ((f .zero-bytes, f .ranged), (f .remaining, (f .located, (f .agreed, f .timely)))))),
+          (λ f. (f .in-sequence, ((f .zero-bytes, f .ranged), (f .remaining, (f .placed, (f .agreed, f .timely)))))),
         )
 
     pub taken-exact : (refusalOf p r s (bytesOf p r (s .next)) (decode (bytesOf p r (s .next))) ≡ 0) ↔ Fits p r k (cmdOf p r k)

@@ -4,7 +4,7 @@ use mathlib.Core.Path.{_≡_, _∙_, ap, subst, subst₂}
 use mathlib.Core.Bool.{Bool, true}
 use mathlib.Core.Logic.{_↔_}
 use native.Mathlib.Omega.{arith}
-use native.Mathlib.Nat.{mod-lt, div-lt-iff-lt-mul, mul-add-div, div-eq-of-lt, mul-add-mod-self-left, mod-eq-of-lt, mul-comm, mul-suc, mul-le-mul-left, add-zero}
+use native.Mathlib.Nat.{div-add-mod', mod-lt, div-lt-iff-lt-mul, mul-add-div, div-eq-of-lt, mul-add-mod-self-left, mod-eq-of-lt, mul-comm, mul-suc, mul-le-mul-left, add-zero}
 use Rattle.value.specs.Test.{pick, _<?_}
 use Rattle.value.proofs.Tests.{cases, lt!, lt×, lt?, lt×?, picks}
 use Rattle.value.proofs.Sweeps.{Passes}
@@ -31,10 +31,10 @@ module _ (w base : ℕ) (wide : 0 < w) where
   offset : (s k : ℕ) → base + w * s + k - base ≡ w * s + k
   offset s k = omega arith
 
-  row-of : (s k : ℕ) → k < w → (base + w * s + k - base) / w ≡ s
+  pub row-of : (s k : ℕ) → k < w → (base + w * s + k - base) / w ≡ s
   row-of s k h = ap (λ (d : ℕ). d / w) (offset s k) ∙ mul-add-div wide s k ∙ ap (λ (d : ℕ). s + d) (div-eq-of-lt h) ∙ add-zero s
 
-  column-of : (s k : ℕ) → k < w → (base + w * s + k - base) % w ≡ k
+  pub column-of : (s k : ℕ) → k < w → (base + w * s + k - base) % w ≡ k
   column-of s k h = ap (λ (d : ℕ). d % w) (offset s k) ∙ mul-add-mod-self-left w s k ∙ mod-eq-of-lt h
 
   -- to say a thing of each byte is to say it of each column of each row
@@ -44,6 +44,13 @@ module _ (w base : ℕ) (wide : 0 < w) where
     λ h s l k m. subst₂ P (row-of s k m) (column-of s k m) (h (base + w * s + k) (omega arith) (omega (arith, mul-le-mul-left w l, mul-suc w s))),
     λ h i l m. h _ (div-lt-iff-lt-mul wide .1 (omega (arith, mul-comm w n))) _ (mod-lt _ wide),
   )
+
+  -- and it is enough, for a thing said of bytes
+  pub rows : (P : ℕ → Type 0) (n end : ℕ) → base + w * n ≡ end →
+      ((s : ℕ) → s < n → (k : ℕ) → k < w → P (base + w * s + k)) → (i : ℕ) → base ≤ i → i < end → P i
+  rows P n end q h i l m =
+      let e : base + w * ((i - base) / w) + (i - base) % w ≡ i = omega (arith, div-add-mod' (i - base) w) in
+      subst P e (h _ (div-lt-iff-lt-mul wide .1 (omega (arith, mul-comm w n))) _ (mod-lt _ wide))
 
 -- ---- columns
 
