@@ -193,7 +193,7 @@ signed-in n =
     let h : 2 ^ 31 ≤ n = ltb-false n (2 ^ 31) e in
     rw e (fits-in (negsuc (2 ^ 32 - suc n)) (record { sfits = omega arith })))
 
-is-within : (z : ℤ) → SFits w32 z → within z ≡ number z
+pub is-within : (z : ℤ) → SFits w32 z → within z ≡ number z
 unfolding within pick
 is-within z f = rw (fits-in z f)
 
@@ -272,8 +272,8 @@ quot-mag (negsuc a) (pos b) h e = omega (arith, mag-neg-le (suc a / b) (div-le-s
 quot-mag (negsuc a) (negsuc zero) h e = absurd (e refl)
 quot-mag (negsuc a) (negsuc (suc b)) h e = omega (arith, div-lt-self {n = suc a} {k = suc (suc b)} (omega arith) (omega arith))
 
-nonzero : (y : ℤ) → (ofZ w32 y ≡ 0 → ⊥) → isZero y ≡ false
-nonzero (pos n) h = ne-eqb n 0 h
+pub nonzero : (y : ℤ) → (y ≡ pos 0 → ⊥) → isZero y ≡ false
+nonzero (pos n) h = ne-eqb n 0 (λ e. h (ap pos e))
 nonzero (negsuc n) h = refl
 
 module _ {x y : ℤ} (f : SFits w32 x) (g : SFits w32 y) (h : ofZ w32 y ≡ 0 → ⊥) where
@@ -287,7 +287,9 @@ module _ {x y : ℤ} (f : SFits w32 x) (g : SFits w32 y) (h : ofZ w32 y ≡ 0 �
 
     pub divided : number (back (quotZ (back x) (back y))) ≡ quotient x y
     unfolding quotient pick
-    divided = rw (is-back f, is-back g, is-back quot-fits, nonzero y h) (sym (is-within (quotZ x y) quot-fits))
+    divided =
+        rw (is-back f, is-back g, is-back quot-fits, nonzero y (λ e. h (ap (ofZ w32) e)))
+        (sym (is-within (quotZ x y) quot-fits))
 
 -- ---- difference of ticks
 

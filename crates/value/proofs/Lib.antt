@@ -7,4 +7,5 @@ pub mod Formulas
 pub mod Legal
 pub mod Division
 pub mod Ticks
+pub mod Laws
 pub mod Zeros

@@ -4,7 +4,7 @@ use Prim.Native.Nat.{ℕ, zero, suc, _+_, _-_, _*_, _/_, _%_, _^_, _≤_, _<_}
 use native.Mathlib.Nat.{mod-lt, div-add-mod'}
 use native.Mathlib.Omega.{arith}
 use mathlib.Core.Path.{_≡_, refl, sym, ap, _∙_}
-use mathlib.Core.Bool.{true, false}
+use mathlib.Core.Bool.{true}
 use mathlib.Core.Logic.{_↔_}
 use lib.Dec.{ltb}
 use lib.IntN.{ℤ, pos, negsuc, negℤ, subℕ, _+ℤ_, _-ℤ_, _*ℤ_}
@@ -20,15 +20,15 @@ use Rattle.value.proofs.Integers.{is-back, in32-fits, signed-in, round-
 
 -- ---- an integer as the difference of two naturals
 
-abbrev over : ℤ → ℕ
+abbrev pub over : ℤ → ℕ
 over (pos n) = n
 over (negsuc n) = 0
 
-abbrev under : ℤ → ℕ
+abbrev pub under : ℤ → ℕ
 under (pos n) = 0
 under (negsuc n) = suc n
 
-same : (x y : ℤ) → over x + under y ≡ over y + under x → x ≡ y
+pub same : (x y : ℤ) → over x + under y ≡ over y + under x → x ≡ y
 same (pos a) (pos b) e = ap pos (omega arith)
 same (pos a) (negsuc b) e = absurd (omega arith)
 same (negsuc a) (pos b) e = absurd (omega arith)
@@ -40,7 +40,7 @@ less a b =
     (λ e. let h : a < b = ltb-true a b e in rw e (omega arith))
     (λ e. let h : b ≤ a = ltb-false a b e in rw e (omega arith))
 
-sum : (x y : ℤ) → over (x +ℤ y) + (under x + under y) ≡ over x + over y + under (x +ℤ y)
+pub sum : (x y : ℤ) → over (x +ℤ y) + (under x + under y) ≡ over x + over y + under (x +ℤ y)
 sum (pos a) (pos b) = omega arith
 sum (pos a) (negsuc b) = omega (arith, less a (suc b))
 sum (negsuc a) (pos b) = omega (arith, less b (suc a))

@@ -4,4 +4,5 @@ pub mod Division
 pub mod Primitive
 pub mod Formula
 pub mod Ticks
+pub mod Laws
 pub mod Cases

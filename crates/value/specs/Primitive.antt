@@ -1,5 +1,5 @@
 -- The primitives of 01, "Primitives": ONE table, a row for each number from 0 on, with what it takes, what it gives and what it
--- means.
+-- means. Laws.antt says the meanings in other words.
 use Prim.Native.Nat.{ℕ, _+_, _-_, _%_, _^_, _<_}
 use mathlib.Core.Bool.{Bool, true, false, not, _&&_, Bool·beq}
 use mathlib.Core.Logic.{_≢_}
