@@ -21,7 +21,7 @@ fn two_words(name: &[u8], at: usize, word: u32, also: usize, other: u32)
 {
     let mut memory = [77u32; 56];
     let mut sinks = [77u32; 2];
-    image::start(&TOGGLE, &mut memory);
+    machine::start(&TOGGLE, &mut memory);
     machine::turn(&TOGGLE, &mut memory, &[1, 7, 1, 5], &mut sinks);
     machine::turn(&TOGGLE, &mut memory, &[1, 7, 1, 5], &mut sinks);
     memory[at] = word;

@@ -459,7 +459,7 @@ pub const AVERAGE: [u8; 95] = [
 
 // A line `name: check number, place`.
 fn put_check(name: &[u8], program: &[u8]) {
-    let answer = load::check(program);
+    let answer = machine::check(program);
     put(name);
     put(b": check ");
     put_decimal(answer.number() as u64);
@@ -537,7 +537,7 @@ fn print_disorder() {
 
 // A line `name, n words: start number, place`.
 fn put_start(name: &[u8], program: &[u8], memory: &mut [u32]) {
-    let answer = image::start(program, memory);
+    let answer = machine::start(program, memory);
     put(name);
     put(b", ");
     put_decimal(memory.len() as u64);

@@ -8,7 +8,7 @@ use crate::line::SINKS_AFTER;
 use crate::words::fill;
 use crate::words::same;
 use image::Judged;
-use remus::Turned;
+use machine::Turned;
 
 // One more than memory may have, so that too many can be tried.
 const MOST_WORDS: usize = 16385;
@@ -26,7 +26,7 @@ pub enum Kind {
 
 // The check's number and place.
 fn check_agrees(line: Line, program: &[u8]) -> bool {
-    let answer = load::check(program);
+    let answer = machine::check(program);
     line.says(answer.number(), answer.place())
 }
 
@@ -37,7 +37,7 @@ fn all_words(line: Line, field: u8, room: &[u8], words: &[u32]) -> bool {
 
 // Start's number and place, and every word of memory after it.
 fn start_agrees(line: Line, room: &[u8], memory: &mut [u32]) -> bool {
-    let answer = image::start(line.program(room), memory);
+    let answer = machine::start(line.program(room), memory);
     let words = all_words(line, MEMORY_AFTER, room, memory);
     line.says(answer.number(), answer.place()) & words
 }

@@ -9,9 +9,9 @@ use crate::text::put_decimal;
 use crate::text::put_value;
 use image::turns;
 use image::word;
-use load::Refusal;
+use machine::Refusal;
+use machine::Turned;
 use machine::turn;
-use remus::Turned;
 use value::Value;
 
 // The values of pairs of words, each after a space.
@@ -71,13 +71,13 @@ pub(crate) fn put_turn(name: &[u8], program: &[u8], memory: &mut [u32], readings
 }
 
 fn clock(memory: &mut [u32]) {
-    image::start(&CLOCK, memory);
+    machine::start(&CLOCK, memory);
     put_turn(b"clock", &CLOCK, memory, &[]);
     put_turn(b"clock", &CLOCK, memory, &[]);
 }
 
 fn toggle(name: &[u8], memory: &mut [u32]) {
-    image::start(&TOGGLE, memory);
+    machine::start(&TOGGLE, memory);
     put_turn(name, &TOGGLE, memory, &[1, 7, 1, 5]);
     put_turn(name, &TOGGLE, memory, &[1, 7, 1, 5]);
     put_turn(name, &TOGGLE, memory, &[1, 7, 1, 5]);
@@ -87,7 +87,7 @@ fn toggle(name: &[u8], memory: &mut [u32]) {
 fn ticking(memory: &mut [u32]) {
     let mut program = TOGGLE;
     program[71] = 13;
-    image::start(&program, memory);
+    machine::start(&program, memory);
     put_turn(
         b"toggle of ticks",
         &program,
@@ -97,12 +97,12 @@ fn ticking(memory: &mut [u32]) {
 }
 
 fn nest(name: &[u8], memory: &mut [u32]) {
-    image::start(&NEST, memory);
+    machine::start(&NEST, memory);
     put_turn(name, &NEST, memory, &[]);
 }
 
 fn average(memory: &mut [u32], readings: &[u32]) {
-    image::start(&AVERAGE, memory);
+    machine::start(&AVERAGE, memory);
     put_turn(b"average", &AVERAGE, memory, readings);
 }
 

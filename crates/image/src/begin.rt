@@ -64,6 +64,8 @@ fn start_by(checked: Checked, program: &[u8], memory: &mut [u32]) -> Started
 // Start. A refused call leaves memory as at entry.
 pub fn start(program: &[u8], memory: &mut [u32]) -> Started
     ensures { λ r. ⌜ N.started r (now (memory .exit)) ≡ S.startOf (now (program .entry)) (now (memory .entry)) ⌝ }
+    ensures { λ r. ⌜ S.numberOf r ≡ S.numberOf (S.startOf (now (program .entry)) (now (memory .entry)) .answer) ⌝ }
+    ensures { λ r. ⌜ S.placeOf r ≡ S.placeOf (S.startOf (now (program .entry)) (now (memory .entry)) .answer) ⌝ }
 {
     let checked = check(program);
     start_by(checked, program, memory)

@@ -10,4 +10,4 @@ pub mod Order
 pub mod Fault
 pub mod Kinds
 pub mod Open
-pub mod Cases
+pub mod Programs

@@ -17,7 +17,7 @@ ghost use mathlib.Core.Path.{_≡_};
 ghost use Rattle.value.specs.Test.{_and_, _≤?_};
 ghost use Rattle.program.specs.Bytes as B;
 ghost use Rattle.program.specs.Location as L;
-ghost use Rattle.load.specs.Check.{checkOf, reactorsOf};
+ghost use Rattle.load.specs.Check.{checkOf, numberOf, placeOf, reactorsOf};
 ghost use Rattle.load.specs.Legal.{LegalTables};
 ghost use Rattle.load.specs.Refusal.{atCommand};
 ghost use Rattle.load.specs.declared.Checked.the-variants.{Accepted};
@@ -73,6 +73,8 @@ fn length_legal(n: usize) -> bool
 // Accepted with the size of main, or refused with the number and the place that the papers give.
 pub fn check(program: &[u8]) -> Checked
     ensures { λ c. ⌜ c ≡ checkOf (now (program .entry)) ⌝ }
+    ensures { λ c. ⌜ numberOf c ≡ numberOf (checkOf (now (program .entry))) ⌝ }
+    ensures { λ c. ⌜ placeOf c ≡ placeOf (checkOf (now (program .entry))) ⌝ }
 {
     let n = program.len();
     if !length_legal(n) {

@@ -1,4 +1,6 @@
 // The machine: the calls of document 01. Check and start are those of load and image; the turn is here.
+// Their answers are Checked, Started and Turned, each with its number and place; Refusal says why a call
+// is refused.
 //
 // A command is decoded once (exec) and carried out by a function of its own (command, allocate); a
 // deployment's commands follow one another (run). A completed run leaves its sinks and cleared words
@@ -18,9 +20,12 @@ mod run;
 mod undo;
 
 pub use calls::turn;
+pub use image::Started;
 pub use image::start;
-use load::Refusal;
+pub use load::Checked;
+pub use load::Refusal;
 pub use load::check;
+pub use remus::Turned;
 
 // What a command comes to: the next command follows; first the deployment named runs; or the turn
 // ends.

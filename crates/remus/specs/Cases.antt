@@ -1,15 +1,16 @@
--- All starred bench cases of 01, the toggle's and a few others, as one table with a single claim: what each row asks, the definitions
+-- All starred cases of 01 and those of the requests, as one table with a single claim: what each row asks, the definitions
 -- answer as the row says. Sizes, and n and u with them, are those of 02 (viii).
 use Prim.Native.Nat.{ℕ, zero, suc, _+_, _*_}
 use mathlib.Core.Path.{_≡_, refl}
+use mathlib.Core.Bool.{true, false}
 use mathlib.Core.List.{List, [], _∷_, _++_}
 use lib.ListN.{replicate, take, set}
 use lib.IntN.{ℤ, pos, negsuc}
 use Rattle.value.specs.Test.{pick, _=?_}
-use Rattle.value.specs.Value.{blank, number}
+use Rattle.value.specs.Value.{blank, number, truth}
 use Rattle.value.specs.Primitive.{primitive}
 use Rattle.value.specs.declared.Value.{Value}
-use Rattle.load.specs.Cases.{zeros, joined, clock, nest, toggle, stocked, ticking, graded}
+use Rattle.load.specs.Programs.{zeros, joined, command, withCommand, clock, nest, toggle, stocked, ticking, graded}
 use Rattle.load.specs.Check as Check
 use Rattle.image.specs.Memory.{word, used}
 use Rattle.image.specs.Start as Start
@@ -24,13 +25,19 @@ use Rattle.remus.specs.Open.{opened}
 -- ---- the table
 
 pub data Ask : Type 0 where
-  checks : (p : List ℕ) → Ask  -- number, place
-  starts : (p : List ℕ) (n : ℕ) → Ask  -- number, place
-  turns : (count : ℕ) (p : List ℕ) (n : ℕ) (readings sinks : List ℕ) → Ask  -- after a start with n words, of each turn: number, place, word 1, sink words
-  walks : (p : List ℕ) (n : ℕ) (readings : List ℕ) → Ask  -- after a start, how the walk's first turn ends: number, place
-  resumes : (p memory readings : List ℕ) → Ask  -- a turn on this memory: number, place
-  undoes : (count : ℕ) (p : List ℕ) (n : ℕ) (readings sinks : List ℕ) → Ask  -- after that many turns, a run that stops: 1 if undoOf brings every word back
-  primitive-of : (x : ℕ) (a b : Value) → Ask  -- mark, content
+  -- number and place
+  checks : (p : List ℕ) → Ask
+  starts : (p : List ℕ) (n : ℕ) → Ask
+  -- of that many turns after a start with n words, each one's number, place, word 1 and sink words
+  turns : (count : ℕ) (p : List ℕ) (n : ℕ) (readings sinks : List ℕ) → Ask
+  -- number and place of the walk's first turn after a start
+  walks : (p : List ℕ) (n : ℕ) (readings : List ℕ) → Ask
+  -- number and place of a turn on this memory
+  resumes : (p memory readings : List ℕ) → Ask
+  -- after that many turns, of a run that stops: 1 if undoOf brings every word back
+  undoes : (count : ℕ) (p : List ℕ) (n : ℕ) (readings sinks : List ℕ) → Ask
+  -- mark and content
+  primitive-of : (x : ℕ) (a b : Value) → Ask
 
 pub record Row : Type 0 where
   pub ask : Ask
@@ -79,8 +86,17 @@ answerOf (primitive-of x a b) = let v = primitive x a b blank in v .mark ∷ v .
 abbrev row : Ask → List ℕ → Row
 row a l = record { ask = a; answer = l }
 
+abbrev pair : Value → List ℕ
+pair v = v .mark ∷ v .content ∷ []
+
 abbrev int : ℤ → List ℕ
-int z = let v = number z in v .mark ∷ v .content ∷ []
+int z = pair (number z)
+
+abbrev yes : Value
+yes = truth true
+
+abbrev no : Value
+no = truth false
 
 -- the toggle's image after two turns, in 56 words: main, whose branch point heads plus at 44, chained to minus at 33
 abbrev twoTurns : List ℕ
@@ -106,42 +122,103 @@ deeper (suc (suc k)) a = (0 ∷ 1 ∷ 0 ∷ 5 ∷ (a + 13) ∷ zeros 8) ++ deepe
 abbrev nested : ℕ → List ℕ
 nested k = (2 + 13 * k) ∷ 1 ∷ deeper k 2
 
+-- ---- rows of one kind
+
+abbrev checked : List ℕ → ℕ → ℕ → Row
+checked p n q = row (checks p) (n ∷ q ∷ [])
+
+abbrev gives : ℕ → Value → Value → List ℕ → Row
+gives x a b l = row (primitive-of x a b) l
+
+abbrev nothing : List ℕ
+nothing = 0 ∷ 0 ∷ []
+
+-- a line of the table of 8 or 9: the answers for a and, from left to right, true, false, blank
+abbrev across : ℕ → Value → Value → Value → Value → List Row
+across x a t f b = gives x a yes (pair t) ∷ gives x a no (pair f) ∷ gives x a blank (pair b) ∷ []
+
 abbrev faulty : List ℕ → ℕ → Row
 faulty m q = row (resumes toggle m (1 ∷ 7 ∷ 1 ∷ 5 ∷ [])) (9 ∷ q ∷ [])
 
+-- ---- the rows
+
+abbrev aboutCheck : List Row
+aboutCheck =
+    checked clock 0 7  -- *
+    ∷ checked (take 43 clock) 1 43  -- *
+    ∷ checked (set clock 38 1) 4 36  -- *
+    ∷ checked nest 0 13
+    ∷ checked toggle 0 31
+    -- 02 (x): refused by name at the command's byte, after 3 and before 4
+    ∷ checked stocked 25 126
+    ∷ checked (set stocked 130 1) 3 126  -- a third operand, which it never took
+    ∷ checked (set stocked 128 29) 25 126  -- an operand that names no location
+    ∷ row (starts stocked 55) (25 ∷ 126 ∷ [])
+    ∷ checked ticking 0 31  -- 02 (xii)
+    ∷ checked (set toggle 71 14) 3 70  -- no primitive has this number
+    ∷ checked graded 0 19  -- 02 (iv)
+    -- 02 (vi): the toggle with one command out of order among those that deploy, supply, run and read at location 11
+    ∷ checked (withCommand toggle 190 (command 5 0 3 11 0)) 6 190  -- source 0 again
+    ∷ checked (withCommand (withCommand toggle 206 (command 8 0 1 0 0)) 214 (command 8 0 1 0 0)) 6 214  -- the sink again
+    ∷ checked (withCommand toggle 190 (command 6 0 0 11 0)) 19 190  -- React before source 1 is supplied
+    ∷ checked (withCommand toggle 198 (command 7 0 0 11 0)) 19 198  -- Consume before React
+    ∷ checked (withCommand toggle 206 (command 6 0 0 11 0)) 20 206  -- a second React
+    ∷ checked (withCommand toggle 206 (command 5 0 2 11 0)) 20 206  -- Supply after React, and source 0 again
+    ∷ checked (withCommand toggle 182 (command 9 0 10 0 0)) 20 182  -- a second AllocPoly
+    ∷ checked (withCommand toggle 86 (command 1 2 0 0 0)) 21 86  -- AllocMono of its own reactor
+    ∷ checked (withCommand toggle 206 (command 5 2 2 11 0)) 5 206  -- a late Supply to no source: 5 comes first
+    ∷ []
+
 -- `negsuc n` is -(n + 1)
-abbrev pub starred : List Row
-starred =
-    row (checks clock) (0 ∷ 7 ∷ [])  -- * check
-    ∷ row (checks (take 43 clock)) (1 ∷ 43 ∷ [])  -- "* Its first 43 bytes: 1, 43."
-    ∷ row (starts clock 8) (14 ∷ 0 ∷ [])  -- * start, one word short
+abbrev aboutPrimitives : List Row
+aboutPrimitives =
+    gives 3 (number (negsuc 2147483647)) (number (negsuc 0)) nothing  -- *
+    ∷ gives 3 (number (negsuc 6)) (number (pos 2)) (int (negsuc 2))  -- *
+    ∷ gives 5 blank (number (pos 5)) nothing  -- *
+    -- 02 (xii)
+    ∷ gives 13 (number (negsuc 2147483647)) (number (pos 2147483647)) (int (pos 1))  -- one past the highest, less it
+    ∷ gives 13 (number (pos 2147483647)) (number (negsuc 2147483647)) (int (negsuc 0))  -- and the other way
+    ∷ gives 13 (number (pos 0)) (number (negsuc 2147483647)) (int (negsuc 2147483647))  -- half a turn
+    ∷ gives 13 (number (negsuc 4)) (number (negsuc 4)) (int (pos 0))  -- equal ticks
+    ∷ gives 13 (number (pos 5)) (number (pos 7)) (int (negsuc 1))
+    ∷ gives 13 blank (number (pos 5)) nothing
+    ∷ gives 13 (number (pos 5)) blank nothing
+    -- 02 (iv): the whole tables of `and` and `or`
+    ∷ across 8 yes yes no blank
+    ++ across 8 no no no no
+    ++ across 8 blank blank no blank
+    ++ across 9 yes yes yes yes
+    ++ across 9 no yes no blank
+    ++ across 9 blank yes blank blank
+
+abbrev aboutTurns : List Row
+aboutTurns =
+    row (starts clock 8) (14 ∷ 0 ∷ [])  -- * one word short
     ∷ row (starts clock 9) (0 ∷ 9 ∷ [])  -- *
-    ∷ row (starts clock 1) (8 ∷ 1 ∷ [])  -- "n 1: 8, 1."
+    ∷ row (starts clock 1) (8 ∷ 1 ∷ [])
     ∷ row (turns 2 clock 9 [] (9 ∷ 9 ∷ 9 ∷ []))  -- * its sink is the time, 1 and then 2
     ((0 ∷ 9 ∷ 1 ∷ 1 ∷ 1 ∷ 9 ∷ []) ++ (0 ∷ 9 ∷ 2 ∷ 1 ∷ 2 ∷ 9 ∷ []))
-    ∷ row (checks (set clock 38 1)) (4 ∷ 36 ∷ [])  -- "* Last command's a set to 1: 4, 36."
-    ∷ row (primitive-of 3 (number (negsuc 2147483647)) (number (negsuc 0))) (0 ∷ 0 ∷ [])  -- "* −2,147,483,648 divided by −1: blank"
-    ∷ row (primitive-of 3 (number (negsuc 6)) (number (pos 2))) (int (negsuc 2))  -- "* −7 by 2: −3"
-    ∷ row (primitive-of 5 blank (number (pos 5))) (0 ∷ 0 ∷ [])  -- "* Less of blank and 5: blank."
-    ∷ row (checks nest) (0 ∷ 13 ∷ [])
     ∷ row (turns 1 nest 833 [] (9 ∷ 9 ∷ [])) (14 ∷ 0 ∷ 0 ∷ 9 ∷ 9 ∷ [])  -- * one word less than 64 deployments take
     ∷ row (turns 1 nest 834 [] (9 ∷ 9 ∷ [])) (15 ∷ 0 ∷ 0 ∷ 9 ∷ 9 ∷ [])  -- * room for them, and 2 + 64 * 13 words
     ∷ row (walks nest 834 []) (15 ∷ 0 ∷ [])  -- and so says the walk
     ∷ row (walks toggle 55 (1 ∷ 7 ∷ 1 ∷ 5 ∷ [])) (0 ∷ 44 ∷ [])
-    ∷ row (checks toggle) (0 ∷ 31 ∷ [])
-    ∷ row (checks stocked) (25 ∷ 126 ∷ [])  -- the toggle with a remainder: 02 (x)
-    ∷ row (starts stocked 55) (25 ∷ 126 ∷ [])
     ∷ row (starts toggle 55) (0 ∷ 33 ∷ [])
     ∷ row (turns 3 toggle 55 (1 ∷ 7 ∷ 1 ∷ 5 ∷ []) (9 ∷ 9 ∷ []))  -- it subtracts, adds, subtracts; u was 33
     ((0 ∷ 44 ∷ 1 ∷ 1 ∷ 2 ∷ []) ++ ((0 ∷ 55 ∷ 2 ∷ 1 ∷ 12 ∷ []) ++ (0 ∷ 55 ∷ 3 ∷ 1 ∷ 2 ∷ [])))
     ∷ row (turns 3 toggle 54 (1 ∷ 7 ∷ 1 ∷ 5 ∷ []) (9 ∷ 9 ∷ []))  -- one word short for plus, each time it is tried
     ((0 ∷ 44 ∷ 1 ∷ 1 ∷ 2 ∷ []) ++ ((14 ∷ 0 ∷ 1 ∷ 9 ∷ 9 ∷ []) ++ (14 ∷ 0 ∷ 1 ∷ 9 ∷ 9 ∷ [])))
-    ∷ row (turns 1 ticking 55 (1 ∷ 2147483648 ∷ 1 ∷ 2147483647 ∷ []) (9 ∷ 9 ∷ []))  -- as in `value`: 02 (xii)
+    ∷ row (turns 1 ticking 55 (1 ∷ 2147483648 ∷ 1 ∷ 2147483647 ∷ []) (9 ∷ 9 ∷ []))  -- as 13 above: 02 (xii)
     (0 ∷ 44 ∷ 1 ∷ 1 ∷ 1 ∷ [])
     ∷ row (turns 1 graded 21 (1 ∷ 100 ∷ 0 ∷ 0 ∷ []) (9 ∷ 9 ∷ [])) (0 ∷ 21 ∷ 1 ∷ 2 ∷ 0 ∷ [])  -- the first count: 02 (iv)
     ∷ row (turns 1 graded 21 (0 ∷ 0 ∷ 1 ∷ 8 ∷ []) (9 ∷ 9 ∷ [])) (0 ∷ 21 ∷ 1 ∷ 2 ∷ 0 ∷ [])  -- the second
     ∷ row (turns 1 graded 21 (1 ∷ 99 ∷ 0 ∷ 0 ∷ []) (9 ∷ 9 ∷ [])) (0 ∷ 21 ∷ 1 ∷ 0 ∷ 0 ∷ [])  -- neither settles it
-    ∷ row (resumes toggle twoTurns (1 ∷ 7 ∷ 1 ∷ 5 ∷ [])) (0 ∷ 55 ∷ [])
+    ∷ row (undoes 0 nest 200 [] (9 ∷ 9 ∷ [])) (1 ∷ [])  -- a refused turn, undone in place
+    ∷ row (undoes 1 toggle 54 (1 ∷ 7 ∷ 1 ∷ 5 ∷ []) (9 ∷ 9 ∷ [])) (1 ∷ [])
+    ∷ []
+
+abbrev aboutImages : List Row
+aboutImages =
+    row (resumes toggle twoTurns (1 ∷ 7 ∷ 1 ∷ 5 ∷ [])) (0 ∷ 55 ∷ [])
     -- the places of 9: 02 (vi)
     ∷ faulty (set twoTurns 0 54) 0  -- u inside a deployment
     ∷ faulty (set twoTurns 1 2147483648) 0  -- the turns
@@ -161,9 +238,10 @@ starred =
     ∷ row (resumes clock (11 ∷ zeros 10) []) (9 ∷ 0 ∷ [])  -- as one left it before 02 (viii)
     ∷ row (resumes nest (nested 64) []) (15 ∷ 0 ∷ [])  -- depth 64 is sound
     ∷ row (resumes nest (nested 65) []) (9 ∷ 0 ∷ [])  -- and 65 is not: a depth has no place
-    ∷ row (undoes 0 nest 200 [] (9 ∷ 9 ∷ [])) (1 ∷ [])  -- "A refused call leaves memory .. as at entry", in place
-    ∷ row (undoes 1 toggle 54 (1 ∷ 7 ∷ 1 ∷ 5 ∷ []) (9 ∷ 9 ∷ [])) (1 ∷ [])
     ∷ []
+
+abbrev pub starred : List Row
+starred = aboutCheck ++ (aboutPrimitives ++ (aboutTurns ++ aboutImages))
 
 abbrev pub answers : List Row → List (List ℕ)
 answers [] = []

@@ -65,7 +65,7 @@ pub record PrimitiveLaws : Type 0 where
   pub equal : (a b c : Value) (x y : ℤ) → Numbers a b x y → Tells (primitive 6 a b c) (x ≡ y)
   -- of 13
   pub tick-difference : ExactDifference
-  -- ---- truths; Cases.antt has 8 and 9 as tables
+  -- ---- truths
   pub not : (b c : Value) → (primitive 7 (truth true) b c ≡ truth false) × (primitive 7 (truth false) b c ≡ truth true)
   pub and : (a b c : Value) → TruthOrBlank a → TruthOrBlank b → Conjunction (primitive 8 a b c) a b
   pub or : (a b c : Value) → TruthOrBlank a → TruthOrBlank b → Disjunction (primitive 9 a b c) a b

@@ -5,4 +5,3 @@ pub mod Primitive
 pub mod Formula
 pub mod Ticks
 pub mod Laws
-pub mod Cases

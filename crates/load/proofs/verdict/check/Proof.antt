@@ -1,50 +1,60 @@
 use Prim.Native.Nat.{ℕ}
 use Rattle.load.proofs.TableBytes.{legal-tables}
-use Rattle.load.specs.Check.{checkOf}
+use Rattle.load.specs.Check.{checkOf, numberOf, placeOf}
+use Rattle.load.specs.declared.Checked.{Checked}
 use Rattle.load.specs.declared.Checked.the-variants.{Refused}
 use Rattle.load.specs.declared.Refusal.the-variants.{TableByte}
 use Rattle.value.proofs.Tests.{eq!, eq×, goes, le!, le×, passed, refused, stops}
 use borrow.Author.Needs.{needs}
 use denote.Ref.{now}
-use mathlib.Core.Path.{_∙_, ap, refl, sym}
+use mathlib.Core.Path.{_≡_, _∙_, ap, refl, sym}
 use native.Mathlib.Omega.{arith}
 use Rattle.load.proofs.verdict.check.Statement.{statement}
 use Rattle.load.proofs.verdict.check.Tie as tie
 
+-- number and place follow from the answer
+answered : {c d : Checked} → c ≡ d → (c ≡ d) × ((numberOf c ≡ numberOf d) × (placeOf c ≡ placeOf d))
+answered e = (e, (ap numberOf e, ap placeOf e))
+
 returns : tie.Need-returns
 unfolding checkOf
 returns c =
-    stops _ (refused (c .before .length-legal .ensures) (c .if1 .taken)) refl
+    answered
+    (stops _ (refused (c .before .length-legal .ensures) (c .if1 .taken)) refl)
 
 returns-2 : tie.Need-returns-2
 unfolding checkOf
 returns-2 c =
-    goes _ _ (passed (c .before .before .before .length-legal .ensures) (c .before .before .if1 .left))
-    (stops _ (eq× (λ e. c .if2 .taken (c .before .header-fault .ensures ∙ e))) (ap (λ (h : ℕ). Refused (TableByte h)) (c .before .header-fault .ensures)))
+    answered
+    (goes _ _ (passed (c .before .before .before .length-legal .ensures) (c .before .before .if1 .left))
+    (stops _ (eq× (λ e. c .if2 .taken (c .before .header-fault .ensures ∙ e))) (ap (λ (h : ℕ). Refused (TableByte h)) (c .before .header-fault .ensures))))
 
 returns-3 : tie.Need-returns-3
 unfolding checkOf
 returns-3 c =
-    goes _ _ (passed (c .before .before .before .before .before .length-legal .ensures) (c .before .before .before .before .if1 .left))
+    answered
+    (goes _ _ (passed (c .before .before .before .before .before .length-legal .ensures) (c .before .before .before .before .if1 .left))
     (goes _ _ (eq! (sym (c .before .before .before .header-fault .ensures) ∙ c .before .before .if2 .left))
-    (stops _ (le× (omega arith)) refl))
+    (stops _ (le× (omega arith)) refl)))
 
 returns-4 : tie.Need-returns-4
 unfolding checkOf
 returns-4 c =
-    goes _ _ (passed (c .before .before .before .before .before .before .before .length-legal .ensures) (c .before .before .before .before .before .before .if1 .left))
+    answered
+    (goes _ _ (passed (c .before .before .before .before .before .before .before .length-legal .ensures) (c .before .before .before .before .before .before .if1 .left))
     (goes _ _ (eq! (sym (c .before .before .before .before .before .header-fault .ensures) ∙ c .before .before .before .before .if2 .left))
     (goes _ _ (le! (omega arith))
-    (stops _ (eq× (λ e. c .if4 .taken (c .before .table-fault .ensures ∙ e ∙ sym (c .before .before .before .tables-end .ensures)))) (ap (λ (t : ℕ). Refused (TableByte t)) (c .before .table-fault .ensures)))))
+    (stops _ (eq× (λ e. c .if4 .taken (c .before .table-fault .ensures ∙ e ∙ sym (c .before .before .before .tables-end .ensures)))) (ap (λ (t : ℕ). Refused (TableByte t)) (c .before .table-fault .ensures))))))
 
 returns-5 : tie.Need-returns-5
 unfolding checkOf
 returns-5 c =
-    goes _ _ (passed (c .before .before .before .before .before .before .before .before .before .length-legal .ensures) (c .before .before .before .before .before .before .before .before .if1 .left))
+    answered
+    (goes _ _ (passed (c .before .before .before .before .before .before .before .before .before .length-legal .ensures) (c .before .before .before .before .before .before .before .before .if1 .left))
     (goes _ _ (eq! (sym (c .before .before .before .before .before .before .before .header-fault .ensures) ∙ c .before .before .before .before .before .before .if2 .left))
     (goes _ _ (le! (omega arith))
     (goes _ _ (eq! (sym (c .before .before .before .table-fault .ensures) ∙ c .before .before .if4 .left ∙ c .before .before .before .before .before .tables-end .ensures))
-    (stops _ (eq× (λ e. c .if5 .taken (e ∙ sym (c .before .whole-length .ensures)))) refl))))
+    (stops _ (eq× (λ e. c .if5 .taken (e ∙ sym (c .before .whole-length .ensures)))) refl)))))
 
 check-reactors-requires : tie.Need-check-reactors-requires
 check-reactors-requires c κs =
@@ -56,12 +66,13 @@ check-reactors-requires c κs =
 returns-6 : tie.Need-returns-6
 unfolding checkOf
 returns-6 c =
-    goes _ _ (passed (c .before .before .before .before .before .before .before .before .before .before .length-legal .ensures) (c .before .before .before .before .before .before .before .before .before .if1 .left))
+    answered
+    (goes _ _ (passed (c .before .before .before .before .before .before .before .before .before .before .length-legal .ensures) (c .before .before .before .before .before .before .before .before .before .if1 .left))
     (goes _ _ (eq! (sym (c .before .before .before .before .before .before .before .before .header-fault .ensures) ∙ c .before .before .before .before .before .before .before .if2 .left))
     (goes _ _ (le! (omega arith))
     (goes _ _ (eq! (sym (c .before .before .before .before .table-fault .ensures) ∙ c .before .before .before .if4 .left ∙ c .before .before .before .before .before .before .tables-end .ensures))
     (goes _ _ (eq! (c .before .if5 .left ∙ c .before .before .whole-length .ensures))
-    (c .check-reactors .ensures)))))
+    (c .check-reactors .ensures))))))
 
 pub check-spec : {M : Type 1} → statement M
 check-spec =

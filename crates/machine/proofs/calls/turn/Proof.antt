@@ -1,16 +1,25 @@
+use Prim.Native.Nat.{ℕ}
 use Rattle.machine.proofs.Safety.{sure}
 use Rattle.machine.specs.Answer.{turned}
-use Rattle.remus.specs.Turn.{byCheck, refused, turnOf}
+use Rattle.remus.specs.Turn.{Turn, numberOf, placeOf, byCheck, refused, turnOf}
+use Rattle.remus.specs.declared.Turned.{Turned}
 use borrow.Author.Needs.{needs}
-use mathlib.Core.Path.{_∙_, sym}
+use mathlib.Core.List.{List}
+use mathlib.Core.Path.{_≡_, _∙_, ap, sym}
 use Rattle.machine.proofs.calls.turn.Statement.{statement}
 use Rattle.machine.proofs.calls.turn.Tie as tie
+
+-- number and place follow from the answer
+answered : (r : Turned) (m sk : List ℕ) {t : Turn} → turned r m sk ≡ t →
+    (turned r m sk ≡ t) × ((numberOf r ≡ numberOf (t .answer)) × (placeOf r ≡ placeOf (t .answer)))
+unfolding turned
+answered r m sk e = (e, (ap (λ (x : Turn). numberOf (x .answer)) e, ap (λ (x : Turn). placeOf (x .answer)) e))
 
 turn-accepted-requires : tie.Need-turn-accepted-requires
 turn-accepted-requires c κs =
     let at-size = c .before .before .before .size in
     let at-check = c .before .before .before .before .before .check in
-    let e = sym (at-check .ensures) ∙ at-size .given .1 in
+    let e = sym (at-check .ensures .0) ∙ at-size .given .1 in
     sure _ _ e
 
 returns : tie.Need-returns
@@ -19,12 +28,14 @@ returns c =
     let at-turn-accepted = c .before .before .before .before .turn-accepted in
     let at-size = c .before .before .before .before .before .before .before .before .size in
     let at-check = c .before .before .before .before .before .before .before .before .before .before .check in
-    let e = sym (at-check .ensures) ∙ at-size .given .1 in
-    rw e (at-turn-accepted .ensures)
+    let e = sym (at-check .ensures .0) ∙ at-size .given .1 in
+    answered _ _ _ (rw e (at-turn-accepted .ensures))
 
 returns-2 : tie.Need-returns-2
 unfolding turnOf byCheck refused turned
-returns-2 c = let e = sym (c .before .before .before .check .ensures) ∙ c .before .w .given .1 in rw e
+returns-2 c =
+    let e = sym (c .before .before .before .check .ensures .0) ∙ c .before .w .given .1 in
+    answered _ _ _ (rw e)
 
 pub turn-spec : {M : Type 1} → statement M
 turn-spec =

@@ -1,11 +1,7 @@
--- The bench programs of 01, and its cases about the check, starred and others, as one table with one claim: each row's check answers as it says.
--- The table of all starred cases is in crate remus.
+-- The bench programs, and ways to change them. What is asked of them stands in crate remus, in the one table of cases.
 use Prim.Native.Nat.{ℕ, _+_}
-use mathlib.Core.Path.{_≡_, refl}
 use mathlib.Core.List.{List, [], _∷_, _++_}
 use lib.ListN.{replicate, take, drop, set}
-use Rattle.load.specs.Check.{checkOf, numberOf, placeOf}
-use Rattle.load.specs.Open.{opened}
 
 abbrev pub zeros : ℕ → List ℕ
 zeros n = replicate n 0
@@ -71,45 +67,3 @@ graded =
 -- the program with another command at byte q
 abbrev pub withCommand : List ℕ → ℕ → List ℕ → List ℕ
 withCommand p q c = take q p ++ (c ++ drop (q + 8) p)
-
--- a program, and the number and place that its check gives
-pub record Case : Type 0 where
-  pub program : List ℕ
-  pub number : ℕ
-  pub place : ℕ
-
-abbrev case : List ℕ → ℕ → ℕ → Case
-case p n q = record { program = p; number = n; place = q }
-
-abbrev pub starred : List Case
-starred =
-    case clock 0 7  -- a program's size is that of 02 (viii)
-    ∷ case (take 43 clock) 1 43  -- "* Its first 43 bytes: 1, 43."
-    ∷ case (set clock 38 1) 4 36  -- "* Last command's a set to 1: 4, 36."
-    ∷ case nest 0 13
-    ∷ case toggle 0 31
-    ∷ case stocked 25 126  -- refused by name, at the command's byte
-    ∷ case (set stocked 130 1) 3 126  -- with a third operand, which it never took: 3 comes first
-    ∷ case (set stocked 128 29) 25 126  -- with an operand that names no location: 4 comes later
-    ∷ case ticking 0 31
-    ∷ case (set toggle 71 14) 3 70  -- no primitive has this number
-    ∷ case graded 0 19
-    -- 02 (vi): the toggle with one command out of order among those that deploy, supply, run and read at location 11
-    ∷ case (withCommand toggle 190 (command 5 0 3 11 0)) 6 190  -- source 0 again
-    ∷ case (withCommand (withCommand toggle 206 (command 8 0 1 0 0)) 214 (command 8 0 1 0 0)) 6 214  -- the sink again
-    ∷ case (withCommand toggle 190 (command 6 0 0 11 0)) 19 190  -- React before source 1 is supplied
-    ∷ case (withCommand toggle 198 (command 7 0 0 11 0)) 19 198  -- Consume before React
-    ∷ case (withCommand toggle 206 (command 6 0 0 11 0)) 20 206  -- a second React
-    ∷ case (withCommand toggle 206 (command 5 0 2 11 0)) 20 206  -- Supply after React, and source 0 again
-    ∷ case (withCommand toggle 182 (command 9 0 10 0 0)) 20 182  -- a second AllocPoly
-    ∷ case (withCommand toggle 86 (command 1 2 0 0 0)) 21 86  -- AllocMono of its own reactor
-    ∷ case (withCommand toggle 206 (command 5 2 2 11 0)) 5 206  -- a late Supply to no source: 5 comes first
-    ∷ []
-
-abbrev pub answers : List Case → List Case
-answers [] = []
-answers (r ∷ rs) = let c = checkOf (r .program) in case (r .program) (numberOf c) (placeOf c) ∷ answers rs
-
-pub starred-hold : answers starred ≡ starred
-unfolding opened
-starred-hold = refl
