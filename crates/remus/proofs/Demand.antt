@@ -80,7 +80,8 @@ soundness-kept p w t a few image = holds p w t a few image .sound
 pub demand-three : Demand
 demand-three p m ts a started =
     let h = start-succeeds p m .0 started in
-    lists p (length m) (λ w t e image. holds p w t a (omega (arith, h .few-words)) image) (h .room) (exact p .0 a .header) ts
+    lists p (length m) (λ w t e image. holds p w t a (omega (arith, h .words .1)) image) (h .room)
+    (exact p .0 a .header) ts
 
 pub refused-undone : (p : List ℕ) → IsAccepted p → Undoes p
 refused-undone p a = undoes p (exact p .0 a)

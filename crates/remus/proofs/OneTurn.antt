@@ -19,7 +19,7 @@ use Rattle.image.specs.Sound.{Sound}
 use Rattle.image.specs.Passes.{sound, soundOf}
 use Rattle.image.specs.Start.{wordsLegal}
 use Rattle.image.proofs.Memory.Each.{in-below}
-use Rattle.image.proofs.Memory.Starting.{words-legal}
+use Rattle.image.proofs.Starts.{words-legal}
 use Rattle.remus.specs.Turn.{Turn, Asked, fine, asked, askedOf, turnOf, byCheck, bySound, byAsked, byRun, refused as refused-turn}
 use Rattle.remus.specs.Walk.{State, Input, Walked, refused, stopped, left}
 use Rattle.remus.specs.Claim.{During, Allocates, Leaves, Fit, Ends, completed, too-deep, no-room, TurnClaim, Completed}
@@ -62,7 +62,9 @@ module _ (p w : List ℕ) (t : Input) (yes-program : IsAccepted p) (few : length
   pub turn-is : turnOf p w rd sk ≡ byAsked p w rd sk (askedOf p w rd sk)
   unfolding turnOf byCheck bySound
   turn-is =
-      let legal : wordsLegal (length w) ≡ true = words-legal p w .1 (omega (arith, image .fits, in-below p (image .main)), few) in
+      let legal : wordsLegal (length w) ≡ true =
+      words-legal _ .1 (omega (arith, image .fits, in-below p (image .main)), few)
+      in
       rw (accepted-size p yes-program) (sym (goes _ _ legal (rw judged refl)))
 
   module _ (inside : Inside p w t) where
