@@ -84,7 +84,7 @@ module _ (p m rd sk : List ℕ) where
 
     -- a turn that comes to its first step is refused by 14 or 15, if at all
     no-end : Ends p m t (turnOf p m rd sk) → Fault p m rd sk w
-    no-end (completed s l d h) = let z : _≡_ {A = ℕ} 0 1 = cc in absurd (omega arith)
+    no-end (completed s l d h c) = let z : _≡_ {A = ℕ} 0 1 = cc in absurd (omega arith)
     no-end (too-deep q d) = let z : w ≡ TooDeep q = cc in absurd (not-15 (ap refusalNumber z))
     no-end (no-room q d) = let z : w ≡ NoRoom q = cc in absurd (not-14 (ap refusalNumber z))
 

@@ -26,7 +26,7 @@ use Rattle.remus.specs.declared.Turned.the-variants.{Done, Refused}
 use Rattle.remus.proofs.Once.{walked-once}
 use Rattle.remus.proofs.Fits.{asking, asking-number, fits}
 use Rattle.remus.proofs.Sinks.{sinks-written}
-use Rattle.remus.proofs.Finished.{cleared, finished-length, finished-used}
+use Rattle.remus.proofs.Finished.{cleared, finished-length, finished-used, after-turn}
 use Rattle.remus.proofs.Lists.{TurnHolds}
 use Rattle.remus.proofs.Inside.{Ending, leaves, stops, Stop, deep, full, Inside}
 
@@ -77,8 +77,10 @@ module _ (p w : List ℕ) (t : Input) (yes-program : IsAccepted p) (few : length
         by (deep {q} m o c a b d) = too-deep q refl
         by (full {q} m o c a b d g) = no-room q refl
     ends r f (left s e q k) =
-        let l : Leaves p w t s = record { during = record { allowed = e; comes = q }; empty = k } in
+        let d : During p w t s = record { allowed = e; comes = q } in
+        let l : Leaves p w t s = record { during = d; empty = k } in
         completed s l refl (sinks-written p w t s (f .room) (inside .written s l))
+        (after-turn p (s .words) (inside .whole s l) w (inside .same-length s d) (inside .same-turns s d))
 
     -- a turn that 10 to 13 refuse ends neither with 14 nor with 15
     asked-low : (v : Refusal) → 14 ≤ refusalNumber v → askedOf p w rd sk ≡ asked v → ⊥

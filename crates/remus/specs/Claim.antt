@@ -5,14 +5,16 @@ use mathlib.Core.Path.{_≡_}
 use mathlib.Core.Logic.{_↔_, _≢_}
 use mathlib.Core.List.{List, [], _∷_}
 use lib.ListN.{length}
+use Rattle.value.specs.Value.{blank}
 use Rattle.program.specs.Bytes.{globals, mainOf}
 use Rattle.program.specs.Command.{Cmd}
-use Rattle.program.specs.Location.{sinks, sinkLoc, sizeOf}
+use Rattle.program.specs.Location.{sinks, sinkLoc, sizeOf, HasSlot}
 use Rattle.load.specs.Check.{IsAccepted}
 use Rattle.load.specs.declared.Refusal.{Refusal}
 use Rattle.load.specs.declared.Refusal.the-variants.{NoRoom, TooDeep}
-use Rattle.image.specs.Memory.{mostTurns, mostDepth, mainAt, word, used, turns, mark, content}
-use Rattle.image.specs.Sound.{Tiles, Depth, Sound}
+use Rattle.image.specs.Memory.{mostTurns, mostDepth, mainAt, word, used, turns, reactor, wired, next, mark, content}
+use Rattle.image.specs.Memory.{valueAt}
+use Rattle.image.specs.Sound.{Tiles, Deployed, InD, Depth, Sound}
 use Rattle.image.specs.Start.{startOf}
 use Rattle.image.specs.Start as Start
 use Rattle.remus.specs.Turn.{Turn, numberOf, turnOf, fine, askedOf}
@@ -20,6 +22,23 @@ use Rattle.remus.specs.Fault.{LegalReadings}
 use Rattle.remus.specs.Walk.{location, State, Reach, begun, Input, Walked, Walks}
 use Rattle.remus.specs.Point.{_∈_, Before, Within, Can, ReadsWell, Allocation, Made}
 use Rattle.remus.specs.declared.Turned.the-variants.{Done, Refused}
+
+-- Memory after a completed turn, word by word: w the words before it, v as main leaves, m after. What computes them is
+-- `finished`; nothing here speaks of it.
+pub record AfterTurn (p w v m : List ℕ) : Type 0 where
+  pub same-length : length m ≡ length w
+  pub same-used : used m ≡ used v
+  -- "word 1 grows by 1"
+  pub counted : turns m ≡ turns w + 1
+  -- the other words below u are those of deployments: of each, headers and D slots stay
+  pub tiled : Tiles p v (used v) mainAt
+  pub headers : (d : ℕ) → Deployed p v d
+      → (reactor m d ≡ reactor v d) × (wired m d ≡ wired v d) × (next m d ≡ next v d)
+  pub D-slots : (d l : ℕ) → Deployed p v d → InD p v (reactor v d) l → valueAt p m d l ≡ valueAt p v d l
+  -- "every slot but D slots is zeroed"
+  pub other-slots : (d l : ℕ) → Deployed p v d → HasSlot p (reactor v d) l → (InD p v (reactor v d) l → ⊥)
+      → valueAt p m d l ≡ blank
+  pub rest : (i : ℕ) → used v ≤ i → word m i ≡ 0
 
 -- ---- one turn: p the program, w the words before it, t what it brings
 module _ (p w : List ℕ) (t : Input) where
@@ -64,9 +83,10 @@ module _ (p w : List ℕ) (t : Input) where
     pub further : (i : ℕ) → 2 * sinks p (mainOf p) ≤ i → word sk i ≡ word (t .sinkSpace) i
     pub same-length : length sk ≡ length (t .sinkSpace)
 
-  -- how a turn ends that brings what it should: with 0 and every sink written, with 15, or with 14
+  -- how a turn ends that brings what it should: with 0, every sink written and memory cleared, with 15, or with 14
   pub data Ends (r : Turn) : Type 0 where
-    completed : (s : State) → Leaves s → r .answer ≡ Done (used (s .words)) → Written s (r .sinkSpace) → Ends r
+    completed : (s : State) → Leaves s → r .answer ≡ Done (used (s .words)) → Written s (r .sinkSpace)
+        → AfterTurn p w (s .words) (r .memory) → Ends r
     too-deep : (q : ℕ) → r .answer ≡ Refused (TooDeep q) → Ends r
     no-room : (q : ℕ) → r .answer ≡ Refused (NoRoom q) → Ends r
 
