@@ -7,21 +7,24 @@ use mathlib.Core.List.{List}
 use native.Mathlib.Omega.{arith}
 use lib.ListN.{length, replicate, length-replicate}
 use lib.Seq.{getD-set-same}
-use Rattle.value.proofs.Tests.{yes, goes, stops, le!, le×, le?, both?}
+use Rattle.value.proofs.Tests.{yes, goes, stops, le!, le×, Says, says-le, says-and}
 use Rattle.program.specs.Bytes.{mainOf}
 use Rattle.program.specs.Location.{sizeOf}
 use Rattle.load.specs.declared.Checked.the-variants.{Accepted, Refused as CheckRefused}
 use Rattle.load.specs.declared.Refusal.{Refusal}
 use Rattle.load.specs.declared.Refusal.the-variants.{MemoryLength, NoRoom}
-use Rattle.image.specs.Memory.{mainAt, word, used, withUsed, place}
+use Rattle.image.specs.Memory.{fewestWords, mostWords, mainAt, word, used, withUsed, place}
 use Rattle.image.specs.Start.{wordsLegal, startedOf, startBy, refused}
 use Rattle.image.specs.Cut.{placed}
 use Rattle.image.specs.Answer.{started}
 use Rattle.image.specs.declared.Started.the-variants.{Ready, Refused}
 
-pub legal-least : (n : ℕ) → wordsLegal n ≡ true → 2 ≤ n
+pub words-legal : (n : ℕ) → Says (wordsLegal n) ((fewestWords ≤ n) × (n ≤ mostWords))
 unfolding wordsLegal
-legal-least n e = le? (both? e .0)
+words-legal n = says-and says-le says-le
+
+pub legal-least : (n : ℕ) → wordsLegal n ≡ true → fewestWords ≤ n
+legal-least n e = words-legal n .0 e .0
 
 used-main : (n : ℕ) → 2 ≤ n → used (withUsed (replicate n 0) mainAt) ≡ 2
 unfolding used word withUsed

@@ -1,7 +1,7 @@
 -- Demand 3, whole: `demand-three`, for every accepted program, every memory on which its start succeeds and every list of turns; and
 -- `demand-once`, for one turn on any sound image. With `soundness-kept` and `refused-undone`. Assumes nothing.
 use Prim.Native.Nat.{ℕ, _≤_}
-use mathlib.Core.Path.{_≡_, refl, sym, subst}
+use mathlib.Core.Path.{_≡_, refl, sym, ap, subst}
 use mathlib.Core.Logic.{_⊎_, inl, inr}
 use mathlib.Core.List.{List}
 use native.Mathlib.Omega.{arith}
@@ -14,10 +14,11 @@ use Rattle.image.proofs.Exact.{rules-soundness}
 use Rattle.image.specs.Memory.{mostWords}
 use Rattle.image.specs.Sound.{Sound}
 use Rattle.image.specs.Passes.{sound}
-use Rattle.image.proofs.Memory.Starting.{start-succeeds}
+use Rattle.image.specs.Start.{Start}
+use Rattle.image.proofs.Memory.Starting.{starts, start-succeeds}
 use Rattle.remus.specs.Run.{ran, stopped, mainRun}
 use Rattle.remus.specs.Walk.{Input, State, step, stop}
-use Rattle.remus.specs.Claim.{During, Leaves, Allocates, Demand, DemandOnce, SoundnessKept}
+use Rattle.remus.specs.Claim.{During, Leaves, Allocates, Claim, Demand, DemandOnce, SoundnessKept}
 use Rattle.remus.specs.Undo.{Undoes}
 use Rattle.remus.proofs.Walk.Core as Core
 use Rattle.remus.proofs.Lists.{TurnHolds, lists}
@@ -49,6 +50,7 @@ module _ (p : List ℕ) (rules : Rules p) (w : List ℕ) (few : length w ≤ mos
   inside =
       record {
         tiled = Core.tiled p rules w few image t;
+        topmost = Core.topmost p rules w few image t;
         carried = Core.carried p rules w few image t;
         values = Core.values p rules w few image t;
         written = Core.written p rules w few image t;
@@ -80,7 +82,9 @@ soundness-kept p w t a few image = holds p w t a few image .sound
 pub demand-three : Demand
 demand-three p m ts a started =
     let h = start-succeeds p m .0 started in
-    lists p (length m) (λ w t e image. holds p w t a (omega (arith, h .few-words)) image) (h .room) (exact p .0 a .header) ts
+    subst (λ (v : List ℕ). Claim p v ts) (sym (ap (λ (s : Start). s .memory) (starts p m h)))
+    (lists p (length m) (λ w t e image. holds p w t a (omega (arith, h .words .1)) image) (h .room)
+    (exact p .0 a .header) ts)
 
 pub refused-undone : (p : List ℕ) → IsAccepted p → Undoes p
 refused-undone p a = undoes p (exact p .0 a)

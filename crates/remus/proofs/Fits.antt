@@ -1,19 +1,24 @@
--- What a turn brings: it is as it should be just where 10 to 13 do not refuse it. With the law between the test and the proposition on values of a kind.
-use Prim.Native.Nat.{ℕ, zero, suc, _+_, _<_}
-use mathlib.Core.Path.{_≡_, refl}
-use mathlib.Core.Bool.{true}
-use mathlib.Core.Logic.{_↔_, _⊎_, inl, inr}
+-- What a turn brings: 10 to 13 refuse it exactly for its first fault (`asking`), and not at all just where it is as it
+-- should be (`fits`). With the law between the test and the proposition on values of a kind.
+use Prim.Native.Nat.{ℕ, zero, suc, _+_, _≤_, _<_}
+use mathlib.Core.Path.{_≡_, refl, sym, ap, subst}
+use mathlib.Core.Bool.{Bool, true, false, true≢false, false≢true}
+use mathlib.Core.Logic.{_↔_, _⊎_, inl, inr, _≢_}
 use mathlib.Core.List.{List}
 use native.Mathlib.Omega.{arith}
-use Rattle.value.specs.Test.{_and_, _=?_}
+use Rattle.value.specs.Test.{_and_, _<?_, _=?_, guard}
 use Rattle.value.specs.Value.{markOf, value}
 use Rattle.value.specs.declared.Value.{Value}
-use Rattle.value.proofs.Tests.{lt!, lt?, le!, le?, eq!, eq?, both!, both?, either!, or!, or?, cases, guards}
-use Rattle.value.proofs.Sweeps.{sweeps?}
+use Rattle.value.proofs.Tests.{cases, clash, lt!, lt×, lt?, lt×?, le!, le×, le?, le×?, eq!, eq×, eq?, eq×?}
+use Rattle.value.proofs.Tests.{both!, both?, either!, or!, or?, guards, Says, says×}
+use Rattle.value.proofs.Sweeps.{Swept, swept, sweeps?}
 use Rattle.program.specs.Bytes.{globals, globalKind}
 use Rattle.program.specs.Kind.{contentLegal, legal, Content, OfKind}
+use Rattle.load.specs.Refusal.{refusalNumber}
 use Rattle.load.specs.declared.Refusal.{Refusal}
+use Rattle.load.specs.declared.Refusal.the-variants.{Reading}
 use Rattle.remus.specs.Turn.{Asked, fine, asked, askedOf, badReading, readingAt}
+use Rattle.remus.specs.Fault.{LegalReading, LegalReadings, Asking, count, reading, space, clock}
 use Rattle.remus.specs.Walk.{Input}
 use Rattle.remus.specs.Claim.{Fit}
 
@@ -40,19 +45,116 @@ legal-kind p k v = (λ e. to (or? e), from)
         let second = both! (eq! (h .0)) (content-legal p k (v .content) .1 (h .1)) in
         cases ((v .mark =? 0) and (v .content =? 0)) (λ e. either! _ e) (λ e. or! e second)
 
-module _ (p w : List ℕ) (t : Input) where
-  never : (v : Refusal) → asked v ≡ fine → ⊥
-  never v e = let z : _≡_ {A = ℕ} 0 1 = cc in omega arith
+-- ---- the readings
 
-  -- all readings are legal where the sweep over them comes to the end
-  readings-legal : ((badReading p (t .readings) =? globals p) ≡ true) ↔ ((k : ℕ) → k < globals p → OfKind p (globalKind p (k + 1)) (readingAt (t .readings) k))
+module _ (p rd : List ℕ) where
+  -- the test of reading k
+  abbrev ok : ℕ → Bool
+  ok k = legal p (globalKind p (k + 1)) (readingAt rd k)
+
+  ok-says : (k : ℕ) → Says (ok k) (LegalReading p rd k)
+  ok-says k = legal-kind p (globalKind p (k + 1)) (readingAt rd k)
+
+  -- all are legal where the sweep over them comes to the end
+  readings-legal : Says (badReading p rd =? globals p) (LegalReadings p rd)
   unfolding badReading
   readings-legal =
-      let s = sweeps? (λ k. legal p (globalKind p (k + 1)) (readingAt (t .readings) k)) 0 (globals p) (globals p) (omega arith) in (
-        λ e k l. legal-kind p (globalKind p (k + 1)) (readingAt (t .readings) k) .0 (s .0 e k (omega arith) l),
-        λ h. s .1 (λ k z l. legal-kind p (globalKind p (k + 1)) (readingAt (t .readings) k) .1 (h k l)),
+      let s = sweeps? ok 0 (globals p) (globals p) (omega arith) in
+      (λ e k l. ok-says k .0 (s .0 e k (omega arith) l), λ h. s .1 (λ k z l. ok-says k .1 (h k l)))
+
+  found : Swept ok 0 (globals p) (badReading p rd)
+  unfolding badReading
+  found = swept ok 0 (globals p)
+
+  -- reading k is the first that is not legal
+  abbrev FirstBad : ℕ → Type 0
+  FirstBad k = (k < globals p) × ((j : ℕ) → j < k → LegalReading p rd j) × (LegalReading p rd k → ⊥)
+
+  stops-bad : badReading p rd ≢ globals p → FirstBad (badReading p rd)
+  stops-bad n =
+      let less : badReading p rd < globals p = omega (arith, found .to, n) in (
+        less,
+        λ j l. ok-says j .0 (found .passed j (omega arith) l),
+        says× (ok-says _) .0 (found .stopped (omega arith)),
       )
 
+  bad-stops : (k : ℕ) → FirstBad k → badReading p rd ≡ k
+  bad-stops k b =
+      let less = b .0 in
+      cases (badReading p rd <? k)
+      (λ y.
+      let z : badReading p rd < k = lt? y in
+      clash (ok-says _ .1 (b .1 _ z)) (found .stopped (omega arith)))
+      (λ y.
+      cases (k <? badReading p rd)
+      (λ x. absurd (b .2 (ok-says k .0 (found .passed k (omega arith) (lt? x)))))
+      (λ x. omega (arith, lt×? x, lt×? y)))
+
+-- ---- 10 to 13
+
+-- where the ladder stops, and where it goes on
+rung : (t : Bool) (v w : Refusal) (more : Unit {0} → Asked) →
+    (guard t (asked v) more ≡ asked w) ↔ (((t ≡ false) × (v ≡ w)) ⊎ ((t ≡ true) × (more tt ≡ asked w)))
+unfolding guard
+rung true v w more = (λ e. inr (refl, e), λ h. elim h [ inl k ↦ absurd (true≢false (k .0)) | inr k ↦ k .1 ])
+rung false v w more =
+    (λ e. inl (refl, cc), λ h. elim h [ inl k ↦ ap asked (k .1) | inr k ↦ absurd (false≢true (k .0)) ])
+
+never : (v : Refusal) → asked v ≡ fine → ⊥
+never v e = let z : _≡_ {A = ℕ} 0 1 = cc in omega arith
+
+module _ (p m rd sk : List ℕ) where
+  says : (w : Refusal) → askedOf p m rd sk ≡ asked w → Asking p m rd sk w
+  unfolding askedOf
+  says w e =
+      elim (rung _ _ w _ .0 e) [
+        | inl a ↦ subst (Asking p m rd sk) (a .1) (count (eq×? (a .0)))
+        | inr a ↦
+            elim (rung _ _ w _ .0 (a .1)) [
+              | inl b ↦
+                  let f = stops-bad p rd (eq×? (b .0)) in
+                  subst (Asking p m rd sk) (b .1) (reading (eq? (a .0)) _ (f .0) (f .1) (f .2))
+              | inr b ↦
+                  let legal = readings-legal p rd .0 (b .0) in
+                  elim (rung _ _ w _ .0 (b .1)) [
+                    | inl c ↦ subst (Asking p m rd sk) (c .1) (space (eq? (a .0)) legal (le×? (c .0)))
+                    | inr c ↦
+                        elim (rung _ _ w _ .0 (c .1)) [
+                          | inl d ↦
+                              subst (Asking p m rd sk) (d .1) (clock (eq? (a .0)) legal (le? (c .0)) (lt×? (d .0)))
+                          | inr d ↦ absurd (never w (sym (d .1)))
+                        ]
+                  ]
+            ]
+      ]
+
+  given : {w : Refusal} → Asking p m rd sk w → askedOf p m rd sk ≡ asked w
+  unfolding askedOf
+  given {w} (count h) = rung _ _ w _ .1 (inl (eq× h, refl))
+  given {w} (reading a k l h n) =
+      let e = bad-stops p rd k (l, h, n) in
+      rung _ _ w _ .1 (inr (eq! a, rung _ _ w _ .1 (inl (eq× (λ z. omega arith), ap Reading e))))
+  given {w} (space a h l) =
+      rung _ _ w _ .1
+      (inr (eq! a, rung _ _ w _ .1 (inr (readings-legal p rd .1 h, rung _ _ w _ .1 (inl (le× l, refl))))))
+  given {w} (clock a h c l) =
+      rung _ _ w _ .1
+      (inr (
+        eq! a,
+        rung _ _ w _ .1
+            (inr (readings-legal p rd .1 h, rung _ _ w _ .1 (inr (le! c, rung _ _ w _ .1 (inl (lt× l, refl)))))),
+      ))
+
+  pub asking : (w : Refusal) → (askedOf p m rd sk ≡ asked w) ↔ Asking p m rd sk w
+  asking w = (says w, given)
+
+  pub asking-number : {w : Refusal} → Asking p m rd sk w → (10 ≤ refusalNumber w) × (refusalNumber w ≤ 13)
+  asking-number (count h) = (omega arith, omega arith)
+  asking-number (reading a k l h n) = (omega arith, omega arith)
+  asking-number (space a h l) = (omega arith, omega arith)
+  asking-number (clock a h c l) = (omega arith, omega arith)
+
+module _ (p w : List ℕ) (t : Input) where
   pub fits : Fit p w t ↔ (askedOf p w (t .readings) (t .sinkSpace) ≡ fine)
   unfolding askedOf
   fits =
@@ -61,7 +163,7 @@ module _ (p w : List ℕ) (t : Input) where
             guards P _ _ _ (never _) .1 (
               eq! (h .count),
               guards P _ _ _ (never _) .1 (
-                readings-legal .1 (h .legal),
+                readings-legal p (t .readings) .1 (h .legal),
                 guards P _ _ _ (never _) .1 (le! (h .room), guards P _ _ _ (never _) .1 (lt! (h .clock), refl)),
               ),
             ),
@@ -70,5 +172,6 @@ module _ (p w : List ℕ) (t : Input) where
             let b = guards P _ _ _ (never _) .0 (a .1) in
             let c = guards P _ _ _ (never _) .0 (b .1) in
             let d = guards P _ _ _ (never _) .0 (c .1) in
-            record { count = eq? (a .0); legal = readings-legal .0 (b .0); room = le? (c .0); clock = lt? (d .0) },
+            let legal = readings-legal p (t .readings) .0 (b .0) in
+            record { count = eq? (a .0); legal = legal; room = le? (c .0); clock = lt? (d .0) },
       )

@@ -1,6 +1,6 @@
 -- What has to be known of the walk inside one turn, p the program, w the words before it, t what it brings: the hypotheses from which the turn's claim
 -- follows.
-use Prim.Native.Nat.{ℕ, _+_, _-_, _<_}
+use Prim.Native.Nat.{ℕ, _+_, _-_, _≤_, _<_}
 use mathlib.Core.Path.{_≡_}
 use mathlib.Core.Logic.{_≢_}
 use mathlib.Core.List.{List}
@@ -10,13 +10,13 @@ use Rattle.program.specs.Command.{Cmd}
 use Rattle.program.specs.Location.{sinks, sinkLoc, sizeOf}
 use Rattle.load.specs.declared.Refusal.{Refusal}
 use Rattle.load.specs.declared.Refusal.the-variants.{NoRoom, TooDeep}
-use Rattle.image.specs.Memory.{mainAt, used, turns}
-use Rattle.image.specs.Sound.{Tiles}
+use Rattle.image.specs.Memory.{mostDepth, mainAt, used, turns}
+use Rattle.image.specs.Sound.{Tiles, Depth}
 use Rattle.image.specs.Whole.{Whole}
 use Rattle.remus.specs.Run.{ran, stopped, mainRun}
 use Rattle.remus.specs.Turn.{fine, askedOf}
 use Rattle.remus.specs.Walk.{State, Input, location, begun, stop, step}
-use Rattle.remus.specs.Point.{_∈_, Can, ReadsWell, Allocation, Made}
+use Rattle.remus.specs.Point.{_∈_, Within, Can, ReadsWell, Allocation, Made}
 use Rattle.remus.specs.Claim.{During, Point, Leaves}
 
 module _ (p w : List ℕ) (t : Input) where
@@ -33,6 +33,8 @@ module _ (p w : List ℕ) (t : Input) where
 
   pub record Inside : Type 0 where
     pub tiled : (s : State) (m : List ℕ) (o : ℕ) (c : Cmd) → Point p w t s m o c → Tiles p m (used m) mainAt
+    pub topmost : (s : State) (m : List ℕ) (o : ℕ) (c : Cmd) → Point p w t s m o c
+        → Within p m o × Depth p m o (length (s .pile)) × (length (s .pile) ≤ mostDepth)
     pub carried : (s : State) (m : List ℕ) (o : ℕ) (c : Cmd) → Point p w t s m o c → Can p m (s .notes) o c
     pub values : (s : State) (m : List ℕ) (o : ℕ) (c : Cmd) → Point p w t s m o c → ReadsWell p m (s .notes) o (t .readings) c
     -- every sink of main is noted as it leaves

@@ -9,3 +9,5 @@ pub mod Lists
 pub mod Inside
 pub mod OneTurn
 pub mod Demand
+pub mod Kept
+pub mod FirstFault

@@ -68,7 +68,7 @@ module _ (p : List ℕ) (n : ℕ) (each : EveryTurn p n) where
   all-from [] w e s = none-from w
   all-from (t ∷ ts) w e s = let h = each w t e s in one-from w t ts h (all-from ts (resultOf p w t .memory) (h .same-length ∙ e) (h .sound))
 
-  pub lists : mainAt + sizeOf p (mainOf p) ≤ n → HeaderRule p → (ts : List Input) → Claim p n ts
+  pub lists : mainAt + sizeOf p (mainOf p) ≤ n → HeaderRule p → (ts : List Input) → Claim p (startedOf p n) ts
   lists room header ts =
       let f = all-from ts (startedOf p n) (started-length p n room) (started-sound p n room header) in
       record {

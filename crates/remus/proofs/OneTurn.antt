@@ -1,54 +1,34 @@
 -- One turn: from what holds inside it to its claim, and to what the list of turns needs of it.
 use Prim.Native.Nat.{ℕ, _+_, _-_, _≤_, _<_}
 use mathlib.Core.Path.{_≡_, refl, ap, sym, _∙_, subst}
-use mathlib.Core.Bool.{Bool, true, false}
+use mathlib.Core.Bool.{true}
 use mathlib.Core.Logic.{_≢_, _↔_}
 use mathlib.Core.List.{List}
 use native.Mathlib.Omega.{arith}
 use lib.ListN.{length}
-use Rattle.value.specs.Test.{guard}
 use Rattle.value.proofs.Tests.{goes}
 use Rattle.program.specs.Location.{sizeOf}
 use Rattle.load.specs.Check.{IsAccepted}
 use Rattle.load.specs.declared.Refusal.{Refusal}
-use Rattle.load.specs.declared.Refusal.the-variants.{ReadingsLength, Reading, SinkSpace, Clock, NoRoom, TooDeep}
+use Rattle.load.specs.declared.Refusal.the-variants.{NoRoom, TooDeep}
 use Rattle.load.specs.Refusal.{refusalNumber}
 use Rattle.load.proofs.Exact.Ladder.{accepted-size}
-use Rattle.image.specs.Memory.{mostWords, used}
+use Rattle.image.specs.Memory.{mostWords, mostDepth, used}
 use Rattle.image.specs.Sound.{Sound}
 use Rattle.image.specs.Passes.{sound, soundOf}
 use Rattle.image.specs.Start.{wordsLegal}
 use Rattle.image.proofs.Memory.Each.{in-below}
-use Rattle.image.proofs.Memory.Starting.{words-legal}
+use Rattle.image.proofs.Starts.{words-legal}
 use Rattle.remus.specs.Turn.{Turn, Asked, fine, asked, askedOf, turnOf, byCheck, bySound, byAsked, byRun, refused as refused-turn}
 use Rattle.remus.specs.Walk.{State, Input, Walked, refused, stopped, left}
 use Rattle.remus.specs.Claim.{During, Allocates, Leaves, Fit, Ends, completed, too-deep, no-room, TurnClaim, Completed}
 use Rattle.remus.specs.declared.Turned.the-variants.{Done, Refused}
 use Rattle.remus.proofs.Once.{walked-once}
-use Rattle.remus.proofs.Fits.{fits}
+use Rattle.remus.proofs.Fits.{asking, asking-number, fits}
 use Rattle.remus.proofs.Sinks.{sinks-written}
-use Rattle.remus.proofs.Finished.{cleared, finished-length, finished-used}
+use Rattle.remus.proofs.Finished.{cleared, finished-length, finished-used, after-turn}
 use Rattle.remus.proofs.Lists.{TurnHolds}
 use Rattle.remus.proofs.Inside.{Ending, leaves, stops, Stop, deep, full, Inside}
-
--- ---- what 10 to 13 say
-
-guarded : {A : Type 0} (P : A → Type 0) (t : Bool) (bad : A) (more : Unit {0} → A) → P bad → P (more tt) → P (guard t bad more)
-unfolding guard
-guarded P true bad more a b = b
-guarded P false bad more a b = a
-
-asked-by : (p m rd sk : List ℕ) (P : Asked → Type 0) → P (asked (ReadingsLength (length rd))) → ((k : ℕ) → P (asked (Reading k)))
-    → ((n : ℕ) → P (asked (SinkSpace n))) → P (asked Clock) → P fine → P (askedOf p m rd sk)
-unfolding askedOf
-asked-by p m rd sk P a b c d e = guarded P _ _ _ a (guarded P _ _ _ (b _) (guarded P _ _ _ (c _) (guarded P _ _ _ d e)))
-
--- neither 14 nor 15
-asked-number : (p m rd sk : List ℕ) (v : Refusal) → askedOf p m rd sk ≡ asked v → refusalNumber v ≤ 13
-asked-number p m rd sk v =
-    asked-by p m rd sk (λ a. a ≡ asked v → refusalNumber v ≤ 13) (λ e. let z : v ≡ ReadingsLength (length rd) = cc in rw z (omega arith))
-    (λ k e. let z : v ≡ Reading k = cc in rw z (omega arith)) (λ n e. let z : v ≡ SinkSpace n = cc in rw z (omega arith))
-    (λ e. let z : v ≡ Clock = cc in rw z (omega arith)) (λ e. let z : _≡_ {A = ℕ} 0 1 = cc in absurd (omega arith))
 
 -- ---- the turn's own ladder, on a sound image of an accepted program
 
@@ -62,7 +42,9 @@ module _ (p w : List ℕ) (t : Input) (yes-program : IsAccepted p) (few : length
   pub turn-is : turnOf p w rd sk ≡ byAsked p w rd sk (askedOf p w rd sk)
   unfolding turnOf byCheck bySound
   turn-is =
-      let legal : wordsLegal (length w) ≡ true = words-legal p w .1 (omega (arith, image .fits, in-below p (image .main)), few) in
+      let legal : wordsLegal (length w) ≡ true =
+      words-legal _ .1 (omega (arith, image .fits, in-below p (image .main)), few)
+      in
       rw (accepted-size p yes-program) (sym (goes _ _ legal (rw judged refl)))
 
   module _ (inside : Inside p w t) where
@@ -95,18 +77,20 @@ module _ (p w : List ℕ) (t : Input) (yes-program : IsAccepted p) (few : length
         by (deep {q} m o c a b d) = too-deep q refl
         by (full {q} m o c a b d g) = no-room q refl
     ends r f (left s e q k) =
-        let l : Leaves p w t s = record { during = record { allowed = e; comes = q }; empty = k } in
+        let d : During p w t s = record { allowed = e; comes = q } in
+        let l : Leaves p w t s = record { during = d; empty = k } in
         completed s l refl (sinks-written p w t s (f .room) (inside .written s l))
+        (after-turn p (s .words) (inside .whole s l) w (inside .same-length s d) (inside .same-turns s d))
 
     -- a turn that 10 to 13 refuse ends neither with 14 nor with 15
     asked-low : (v : Refusal) → 14 ≤ refusalNumber v → askedOf p w rd sk ≡ asked v → ⊥
-    asked-low v h e = omega (arith, asked-number p w rd sk v e)
+    asked-low v h e = omega (arith, asking-number p w rd sk (asking p w rd sk v .0 e))
 
     abbrev TooDeepAt : ℕ → Type 0
     TooDeepAt q = (h : ℕ) × (m : List ℕ) × Allocates p w t q h m × (h + 1 ≡ 65)
 
     abbrev NoRoomAt : ℕ → Type 0
-    NoRoomAt q = (h : ℕ) × (m : List ℕ) × Allocates p w t q h m × (h + 1 ≢ 65) × (length w - used m < sizeOf p q)
+    NoRoomAt q = (h : ℕ) × (m : List ℕ) × Allocates p w t q h m × (h + 1 ≤ mostDepth) × (length w - used m < sizeOf p q)
 
     -- what a stop with v says of v
     abbrev Said : Refusal → Type 0
@@ -119,7 +103,12 @@ module _ (p w : List ℕ) (t : Input) (yes-program : IsAccepted p) (few : length
     )
     said s v (full {q} m o c a b d g) = (
       λ k e. let z : _≡_ {A = ℕ} 0 1 = cc in absurd (omega arith),
-      λ k e. let z : q ≡ k = cc in subst NoRoomAt z (length (s .pile), m, record { state = s; owner = o; command = c; point = a; is = b; height = refl }, d, g),
+      λ k e.
+          let z : q ≡ k = cc in
+          let at : Allocates p w t q (length (s .pile)) m =
+          record { state = s; owner = o; command = c; point = a; is = b; height = refl }
+          in
+          subst NoRoomAt z (length (s .pile), m, at, omega (arith, inside .topmost s m o c a .2, d), g),
     )
 
     -- what a result with the answer v says of v
@@ -141,7 +130,9 @@ module _ (p w : List ℕ) (t : Input) (yes-program : IsAccepted p) (few : length
       λ e. says r k (NoRoom q) (omega arith) e .1 q refl,
       λ h.
           let a = h .2 in
-          stop-answer r (a .state) (NoRoom q) k (full (h .1) (a .owner) (a .command) (a .point) (a .is) (rw (a .height) (h .3)) (h .4)) (a .point .during),
+          let low : length (a .state .pile) + 1 ≢ 65 = λ z. omega (arith, h .3, a .height, z) in
+          stop-answer r (a .state) (NoRoom q) k (full (h .1) (a .owner) (a .command) (a .point) (a .is) low (h .4))
+          (a .point .during),
     )
 
     left-with : (r : Turn) (u : ℕ) → Walked p w t r → r .answer ≡ Done u → (s : State) × Leaves p w t s × (used (s .words) ≡ u)
@@ -159,6 +150,7 @@ module _ (p w : List ℕ) (t : Input) (yes-program : IsAccepted p) (few : length
         record {
           result = result;
           tiled = inside .tiled;
+          topmost = inside .topmost;
           carried = inside .carried;
           values = inside .values;
           ends = ends;

@@ -5,21 +5,40 @@ use mathlib.Core.Path.{_≡_}
 use mathlib.Core.Logic.{_↔_, _≢_}
 use mathlib.Core.List.{List, [], _∷_}
 use lib.ListN.{length}
-use Rattle.program.specs.Bytes.{globals, globalKind, mainOf}
+use Rattle.value.specs.Value.{blank}
+use Rattle.program.specs.Bytes.{globals, mainOf}
 use Rattle.program.specs.Command.{Cmd}
-use Rattle.program.specs.Location.{sinks, sinkLoc, sizeOf}
-use Rattle.program.specs.Kind.{OfKind}
+use Rattle.program.specs.Location.{sinks, sinkLoc, sizeOf, HasSlot}
 use Rattle.load.specs.Check.{IsAccepted}
 use Rattle.load.specs.declared.Refusal.{Refusal}
 use Rattle.load.specs.declared.Refusal.the-variants.{NoRoom, TooDeep}
-use Rattle.image.specs.Memory.{mostTurns, mainAt, word, used, turns, mark, content}
-use Rattle.image.specs.Sound.{Tiles, Sound}
-use Rattle.image.specs.Start.{startOf, startedOf}
+use Rattle.image.specs.Memory.{mostTurns, mostDepth, mainAt, word, used, turns, reactor, wired, next, mark, content}
+use Rattle.image.specs.Memory.{valueAt}
+use Rattle.image.specs.Sound.{Tiles, Deployed, InD, Depth, Sound}
+use Rattle.image.specs.Start.{startOf}
 use Rattle.image.specs.Start as Start
-use Rattle.remus.specs.Turn.{Turn, turnOf, readingAt, fine, askedOf}
+use Rattle.remus.specs.Turn.{Turn, numberOf, turnOf, fine, askedOf}
+use Rattle.remus.specs.Fault.{LegalReadings}
 use Rattle.remus.specs.Walk.{location, State, Reach, begun, Input, Walked, Walks}
-use Rattle.remus.specs.Point.{_∈_, Before, Can, ReadsWell, Allocation, Made}
+use Rattle.remus.specs.Point.{_∈_, Before, Within, Can, ReadsWell, Allocation, Made}
 use Rattle.remus.specs.declared.Turned.the-variants.{Done, Refused}
+
+-- Memory after a completed turn, word by word: w the words before it, v as main leaves, m after. What computes them is
+-- `finished`; nothing here speaks of it.
+pub record AfterTurn (p w v m : List ℕ) : Type 0 where
+  pub same-length : length m ≡ length w
+  pub same-used : used m ≡ used v
+  -- "word 1 grows by 1"
+  pub counted : turns m ≡ turns w + 1
+  -- the other words below u are those of deployments: of each, headers and D slots stay
+  pub tiled : Tiles p v (used v) mainAt
+  pub headers : (d : ℕ) → Deployed p v d
+      → (reactor m d ≡ reactor v d) × (wired m d ≡ wired v d) × (next m d ≡ next v d)
+  pub D-slots : (d l : ℕ) → Deployed p v d → InD p v (reactor v d) l → valueAt p m d l ≡ valueAt p v d l
+  -- "every slot but D slots is zeroed"
+  pub other-slots : (d l : ℕ) → Deployed p v d → HasSlot p (reactor v d) l → (InD p v (reactor v d) l → ⊥)
+      → valueAt p m d l ≡ blank
+  pub rest : (i : ℕ) → used v ≤ i → word m i ≡ 0
 
 -- ---- one turn: p the program, w the words before it, t what it brings
 module _ (p w : List ℕ) (t : Input) where
@@ -51,7 +70,7 @@ module _ (p w : List ℕ) (t : Input) where
   -- unspent clock
   pub record Fit : Type 0 where
     pub count : length (t .readings) ≡ 2 * globals p
-    pub legal : (k : ℕ) → k < globals p → OfKind p (globalKind p (k + 1)) (readingAt (t .readings) k)
+    pub legal : LegalReadings p (t .readings)
     pub room : 2 * sinks p (mainOf p) ≤ length (t .sinkSpace)
     pub clock : turns w < mostTurns
 
@@ -64,9 +83,10 @@ module _ (p w : List ℕ) (t : Input) where
     pub further : (i : ℕ) → 2 * sinks p (mainOf p) ≤ i → word sk i ≡ word (t .sinkSpace) i
     pub same-length : length sk ≡ length (t .sinkSpace)
 
-  -- how a turn ends that brings what it should: with 0 and every sink written, with 15, or with 14
+  -- how a turn ends that brings what it should: with 0, every sink written and memory cleared, with 15, or with 14
   pub data Ends (r : Turn) : Type 0 where
-    completed : (s : State) → Leaves s → r .answer ≡ Done (used (s .words)) → Written s (r .sinkSpace) → Ends r
+    completed : (s : State) → Leaves s → r .answer ≡ Done (used (s .words)) → Written s (r .sinkSpace)
+        → AfterTurn p w (s .words) (r .memory) → Ends r
     too-deep : (q : ℕ) → r .answer ≡ Refused (TooDeep q) → Ends r
     no-room : (q : ℕ) → r .answer ≡ Refused (NoRoom q) → Ends r
 
@@ -75,6 +95,9 @@ module _ (p w : List ℕ) (t : Input) where
     pub result : Walked p w t (turnOf p w (t .readings) (t .sinkSpace))
     -- at every point deployments tile the words from 2 to u−1, as in a sound image
     pub tiled : (s : State) (m : List ℕ) (o : ℕ) (c : Cmd) → Point s m o c → Tiles p m (used m) mainAt
+    -- the topmost is one of them, and its depth is the pile's height, which is at most 64
+    pub topmost : (s : State) (m : List ℕ) (o : ℕ) (c : Cmd) → Point s m o c
+        → Within p m o × Depth p m o (length (s .pile)) × (length (s .pile) ≤ mostDepth)
     -- and the next command can be carried out
     pub carried : (s : State) (m : List ℕ) (o : ℕ) (c : Cmd) → Point s m o c → Can p m (s .notes) o c
     -- every value that it reads was made or supplied earlier in the turn and is of its kind
@@ -86,7 +109,8 @@ module _ (p w : List ℕ) (t : Input) where
         → (r .answer ≡ Refused (TooDeep q)) ↔ ((h : ℕ) × (m : List ℕ) × Allocates q h m × (h + 1 ≡ 65))
     -- "else, if its size exceeds n less u at that moment, with 14": and only then
     pub full : (r : Turn) (q : ℕ) → Walked p w t r
-        → (r .answer ≡ Refused (NoRoom q)) ↔ ((h : ℕ) × (m : List ℕ) × Allocates q h m × (h + 1 ≢ 65) × (length w - used m < sizeOf p q))
+        → (r .answer ≡ Refused (NoRoom q))
+        ↔ ((h : ℕ) × (m : List ℕ) × Allocates q h m × (h + 1 ≤ mostDepth) × (length w - used m < sizeOf p q))
     -- "When main leaves, the turn ends with 0.": and only then
     pub complete : (r : Turn) (u : ℕ) → Walked p w t r → (r .answer ≡ Done u) ↔ ((s : State) × Leaves s × (used (s .words) ≡ u))
     -- "A refused call leaves memory and sink space as at entry.", by 10 to 13 ("takes no step") or by 14 and 15 ("the words are then
@@ -123,20 +147,22 @@ pub data Grows (p : List ℕ) : List ℕ → List Input → ℕ → Type 0 where
   refused : {m : List ℕ} {t : Input} {ts : List Input} {r : Turn} {v : Refusal} {j : ℕ}
       → Walked p m t r → r .answer ≡ Refused v → Grows p (r .memory) ts j → Grows p m (t ∷ ts) j
 
--- p the program, n the memory's words, ts the list of turns. `startedOf p n` is what a start leaves in n words.
-pub record Claim (p : List ℕ) (n : ℕ) (ts : List Input) : Type 0 where
+-- p the program, v the words that its start has left, ts the list of turns
+pub record Claim (p v : List ℕ) (ts : List Input) : Type 0 where
   -- "Every turn's number, place, memory and sink words are those of this walk."
-  pub results : Walks p (startedOf p n) ts (turnsOf p (startedOf p n) ts)
+  pub results : Walks p v ts (turnsOf p v ts)
   -- what the walk of each turn is like
-  pub every-turn : (w : List ℕ) (t : Input) → TurnOf p (startedOf p n) ts w t → TurnClaim p w t
+  pub every-turn : (w : List ℕ) (t : Input) → TurnOf p v ts w t → TurnClaim p w t
   -- u is "2 plus main's size and the sizes allocated in completed turns"
-  pub grown : (k : ℕ) × Grows p (startedOf p n) ts k × (used (memoryAfter p (startedOf p n) ts) ≡ mainAt + sizeOf p (mainOf p) + k)
+  pub grown : (k : ℕ) × Grows p v ts k × (used (memoryAfter p v ts) ≡ mainAt + sizeOf p (mainOf p) + k)
 
--- ---- proved in proofs/Demand.antt and proofs/Once.antt: an element of each of these types
+-- ---- proved in proofs/Demand.antt, proofs/Once.antt and proofs/Kept.antt: an element of each of these types
 
 -- Demand 3.
 abbrev pub Demand : Type 0
-Demand = (p m : List ℕ) (ts : List Input) → IsAccepted p → Start.numberOf (startOf p m .answer) ≡ 0 → Claim p (length m) ts
+Demand =
+    (p m : List ℕ) (ts : List Input) → IsAccepted p → Start.numberOf (startOf p m .answer) ≡ 0
+    → Claim p (startOf p m .memory) ts
 
 -- The same for one turn, on any sound image of an accepted program.
 abbrev pub DemandOnce : Type 0
@@ -149,3 +175,9 @@ WalkedOnce = (p w : List ℕ) (t : Input) (r s : Turn) → Walked p w t r → Wa
 -- A turn on a sound image, completed or refused, leaves a sound image.
 abbrev pub SoundnessKept : Type 0
 SoundnessKept = (p w : List ℕ) (t : Input) → IsAccepted p → length w ≤ 16384 → Sound p w → Sound p (turnOf p w (t .readings) (t .sinkSpace) .memory)
+
+-- "A refused call leaves memory .. as at entry", and sink space too: whatever it was handed, accepted and sound or not.
+abbrev pub RefusedKeeps : Type 0
+RefusedKeeps =
+    (p m rd sk : List ℕ) → numberOf (turnOf p m rd sk .answer) ≢ 0
+    → (turnOf p m rd sk .memory ≡ m) × (turnOf p m rd sk .sinkSpace ≡ sk)

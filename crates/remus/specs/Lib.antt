@@ -3,6 +3,7 @@ pub mod Run
 pub mod Clear
 pub mod Undo
 pub mod Turn
+pub mod Fault
 pub mod Walk
 pub mod Point
 pub mod Claim

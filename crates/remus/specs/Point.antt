@@ -7,9 +7,9 @@ use mathlib.Core.Logic.{_≢_}
 use mathlib.Core.List.{List, _∷_}
 use Rattle.value.specs.Value.{blank, isBlank, deploymentMark}
 use Rattle.value.specs.Primitive.{operands, Offered}
-use Rattle.program.specs.Bytes.{reactors, globalKind, shapeOf, commandsIn}
+use Rattle.program.specs.Bytes.{reactors, globals, globalKind, shapeOf, commandsIn}
 use Rattle.program.specs.Command.{Cmd, cmdOf, allocMono, makePoly, constant, global, supply, react, consume, sink, allocPoly, primitive, none}
-use Rattle.program.specs.Location.{sources, sinks, sinkLoc, sizeOf, cmdAt, shapeThere}
+use Rattle.program.specs.Location.{sources, sinks, sinkLoc, sizeOf, HasSlot, cmdAt, shapeThere}
 use Rattle.program.specs.Kind.{kindOf, OfKind}
 use Rattle.image.specs.Memory.{used, reactor, mark, content, valueAt, sizeAt}
 use Rattle.image.specs.Sound.{Deployed, OnChain, PointSlot}
@@ -27,7 +27,7 @@ pub record Before (p : List ℕ) (s : State) (m : List ℕ) (o : ℕ) (c : Cmd) 
   pub index : ℕ
   pub lower : List Frame
   pub top : s .pile ≡ record { at = o; next = index } ∷ lower
-  pub goes-on : index < commandsIn p (reactor (s .words) o)
+  pub goes-on : index ≢ commandsIn p (reactor (s .words) o)
   pub is : cmdOf p (reactor (s .words) o) index ≡ c
   pub wiring : ready p (s .words) o index ≡ m
 
@@ -84,7 +84,9 @@ module _ (p m : List ℕ) (ns : List Note) (o : ℕ) where
   pub record ReadsWell (rd : List ℕ) (c : Cmd) : Type 0 where
     pub noted : (d l : ℕ) → Reads c d l → location d l ∈ ns
     pub kinds : (d l : ℕ) → Reads c d l → OfKind p (kindOf p (reactor m d) l) (valueAt p m d l)
-    pub outside : (x : ℕ) → c ≡ global x → OfKind p (globalKind p x) (globalValue rd m x)
+    pub outside : (x : ℕ) → c ≡ global x → (x ≤ globals p) × OfKind p (globalKind p x) (globalValue rd m x)
+    -- what is read lies in a deployment within the used words, at a location that has words
+    pub inside : (d l : ℕ) → Reads c d l → Within p m d × HasSlot p (reactor m d) l
 
 -- "An allocation is an AllocMono, or an AllocPoly whose operator isn't blank and has no deployment there." q is the reactor to be
 -- deployed.

@@ -1,7 +1,8 @@
--- One turn of an accepted program on a sound image, for any readings and sink space: every state of its walk has the invariant (`holds`); at each point
--- the next command can be carried out (`carried`) and reads well (`values`); the walk ends, as the recursive run does (`walk-ends`); a step stops at an
--- allocation that is too deep or has no room, and only there (`stops`, `stops-deep`, `stops-full`); as main leaves, its sinks are noted (`written`) and
--- the image is whole (`whole`); the used words grow by what is allocated (`made`).
+-- One turn of an accepted program on a sound image, for any readings and sink space: every state of its walk has the
+-- invariant (`holds`); at each point the topmost has its depth (`topmost`), and the next command can be carried out
+-- (`carried`) and reads well (`values`); the walk ends, as the recursive run does (`walk-ends`); a step stops at an
+-- allocation that is too deep or has no room, and only there (`stops`, `stops-deep`, `stops-full`); as main leaves, its
+-- sinks are noted (`written`) and the image is whole (`whole`); the used words grow by what is allocated (`made`).
 use Prim.Native.Nat.{ℕ, _+_, _-_, _≤_, _<_}
 use mathlib.Core.Path.{_≡_, refl, sym, _∙_, ap, subst}
 use mathlib.Core.List.{List, [], _∷_}
@@ -15,23 +16,25 @@ use Rattle.load.specs.Rules.{Rules}
 use Rattle.load.specs.declared.Refusal.{Refusal}
 use Rattle.load.specs.declared.Refusal.the-variants.{NoRoom, TooDeep}
 use Rattle.image.specs.Memory.{mostDepth, mainAt, used, turns, reactor}
-use Rattle.image.specs.Sound.{Tiles, Sound}
+use Rattle.image.specs.Sound.{Tiles, Depth, Sound}
 use Rattle.image.specs.Whole.{Whole}
 use Rattle.remus.specs.Run.{Ran, ran, stopped, mainRun}
 use Rattle.remus.specs.Turn.{fine, askedOf}
 use Rattle.remus.specs.Walk.{Note, location, Frame, State, Next, go, stop, over, step, Reach, stay, on, begun, Input}
-use Rattle.remus.specs.Point.{_∈_, Can, ReadsWell, Allocation, Makes, Made, stay as none-made, on as and-made}
+use Rattle.remus.specs.Point.{_∈_, Within, Can, ReadsWell, Allocation, Makes, Made, stay as none-made}
+use Rattle.remus.specs.Point.{on as and-made}
 use Rattle.remus.specs.Claim.{During, Point, Allocates, Leaves}
 use Rattle.remus.proofs.Walk.Facts.{Facts, facts}
 use Rattle.remus.proofs.Walk.Story.{cmd}
-use Rattle.remus.proofs.Walk.Pile.{frame, state, Inv}
+use Rattle.remus.proofs.Walk.Pile.{frame, state, Inv, height-bound}
+use Rattle.remus.proofs.Walk.Top.{top-frame, lower-heights}
 use Rattle.remus.proofs.Walk.Moves.{ready-kept}
 use Rattle.remus.proofs.Walk.Outcome.{Stopping, deep, full}
 use Rattle.remus.proofs.Walk.Walking.{Legal, Stops, Comes, same-point, one-allocation, step-outcome}
 use Rattle.remus.proofs.Walk.Readings.{globals-legal}
 use Rattle.remus.proofs.Walk.Begin as Begin
 use Rattle.remus.proofs.Walk.End.{sinks-noted, whole-end}
-use Rattle.remus.proofs.Walk.Points.{can-here, reads-here}
+use Rattle.remus.proofs.Walk.Points.{within, can-here, reads-here}
 use Rattle.remus.proofs.Walk.Meets.{Meets, reached, run-meets}
 
 -- p the program, w the words before the turn, t what it brings
@@ -65,24 +68,42 @@ module _ (p : List ℕ) (rules : Rules p) (w : List ℕ) (few : length w ≤ 163
 
   -- ---- points
 
-  -- the invariant on the words before the next command
-  record At (m : List ℕ) (o : ℕ) (c : Cmd) (ns : List Note) : Type 0 where
+  -- the invariant on the words before the next command, with the pile at height h
+  record At (m : List ℕ) (o : ℕ) (c : Cmd) (ns : List Note) (h : ℕ) : Type 0 where
     index : ℕ
     lower : List Frame
     inv : Inv p w (state m (frame o index ∷ lower) ns)
     less : index < commandsIn p (reactor m o)
     is : cmd p m o index ≡ c
+    height : length lower + 1 ≡ h
 
-  at : (s : State) (m : List ℕ) (o : ℕ) (c : Cmd) → Point p w t s m o c → At m o c (s .notes)
+  at : (s : State) (m : List ℕ) (o : ℕ) (c : Cmd) → Point p w t s m o c → At m o c (s .notes) (length (s .pile))
   at s m o c q =
       let b = q .before in
       let v = subst (λ (fs : List Frame). Inv p w (state (s .words) fs (s .notes))) (b .top) (holds (q .during)) in
-      let r = ready-kept p known v (b .goes-on) in
-      subst (λ (x : List ℕ). At x o c (s .notes)) (b .wiring)
-      (record { index = b .index; lower = b .lower; inv = r .inv; less = rw (r .same) (b .goes-on); is = rw (r .same) (b .is) })
+      let less : b .index < commandsIn p (reactor (s .words) o) = omega (arith, top-frame p v .bound, b .goes-on) in
+      let r = ready-kept p known v less in
+      subst (λ (x : List ℕ). At x o c (s .notes) (length (s .pile))) (b .wiring)
+      (record {
+        index = b .index;
+        lower = b .lower;
+        inv = r .inv;
+        less = rw (r .same) less;
+        is = rw (r .same) (b .is);
+        height = rw (b .top) (omega arith);
+      })
 
   pub tiled : (s : State) (m : List ℕ) (o : ℕ) (c : Cmd) → Point p w t s m o c → Tiles p m (used m) mainAt
   tiled s m o c q = at s m o c q .inv .story .good .tiles
+
+  pub topmost : (s : State) (m : List ℕ) (o : ℕ) (c : Cmd) → Point p w t s m o c
+      → Within p m o × Depth p m o (length (s .pile)) × (length (s .pile) ≤ mostDepth)
+  topmost s m o c q =
+      let a = at s m o c q in (
+        within p known (a .inv) (a .less) (top-frame p (a .inv) .deployed),
+        subst (Depth p m o) (a .height) (lower-heights p (a .inv .piled .heights) .0),
+        height-bound p (holds (q .during)),
+      )
 
   pub carried : (s : State) (m : List ℕ) (o : ℕ) (c : Cmd) → Point p w t s m o c → Can p m (s .notes) o c
   carried s m o c q = let a = at s m o c q in can-here p known (a .inv) (a .less) c (a .is)

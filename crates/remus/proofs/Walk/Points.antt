@@ -39,7 +39,7 @@ module _ (p : List ℕ) (u : Facts p) {w m : List ℕ} {ns : List Note} {o i : �
   command-at : (j : ℕ) {c : Cmd} → j < i → cmd p m o j ≡ c → cmdAt p (reactor m o) (own p m o j) ≡ c
   command-at j l e = cmd-there p (reactor m o) j (omega arith) ∙ e
 
-  within : {d : ℕ} → Deployed p m d → Within p m d
+  pub within : {d : ℕ} → Deployed p m d → Within p m d
   within t = record { deployed = t; legal = in-reactor p (v .story .good .tiles) t; inside = in-fits p (v .story .good .tiles) t }
 
   operand : (k b : ℕ) → DeploymentBefore p (reactor m o) i k b → Operand p m ns o b
@@ -120,5 +120,6 @@ module _ (p : List ℕ) (u : Facts p) {w m : List ℕ} {ns : List Note} {o i : �
       record {
         noted = λ d l r. read e r .0;
         kinds = λ d l r. read e r .1;
-        outside = λ x q. legal m x (static-here p u v h .globals i x h (e ∙ q) .1);
+        outside = λ x q. let g = static-here p u v h .globals i x h (e ∙ q) .1 in (g, legal m x g);
+        inside = λ d l r. let n = v .story .noted d l (read e r .0) in (within (n .deployed), n .has-slot);
       }

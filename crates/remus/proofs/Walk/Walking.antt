@@ -106,8 +106,8 @@ module _ (p : List ℕ) (u : Facts p) (rd : List ℕ) (legal : Legal p rd) where
             let top = same-top (b .top) in
             let at : o ≡ o′ = top .0 in
             let next : i ≡ b .index = top .1 in
-            let l : b .index < commandsIn p (reactor m o) = rw (← at) at (b .goes-on) in
-            omega arith
+            let n : b .index ≢ commandsIn p (reactor m o) = rw (← at) at (b .goes-on) in
+            n (sym next ∙ e)
 
     module _ (h : i < commandsIn p (reactor m o)) where
       abbrev m₁ : List ℕ
@@ -120,7 +120,7 @@ module _ (p : List ℕ) (u : Facts p) (rd : List ℕ) (legal : Legal p rd) where
       r = ready-kept p u v h
 
       point : Before p here m₁ o c₀
-      point = record { index = i; lower = fs; top = refl; goes-on = h; is = refl; wiring = refl }
+      point = record { index = i; lower = fs; top = refl; goes-on = λ z. omega (arith, h, z); is = refl; wiring = refl }
 
       onwards : {m′ : List ℕ} → Onward p m₁ m′ → Onward p m m′
       onwards f =

@@ -1,0 +1,60 @@
+-- What start promises, for every program and memory. Proved in proofs/Memory/Starting.antt: an element of each of these
+-- types.
+use Prim.Native.Nat.{ℕ, _+_, _≤_}
+use mathlib.Core.Path.{_≡_}
+use mathlib.Core.Logic.{_≢_, _↔_}
+use mathlib.Core.List.{List}
+use lib.ListN.{length}
+use Rattle.program.specs.Bytes.{mainOf}
+use Rattle.program.specs.Location.{sizeOf}
+use Rattle.load.specs.Check.{checkOf, IsAccepted}
+use Rattle.load.specs.declared.Checked.the-variants.{Refused as CheckRefused}
+use Rattle.load.specs.declared.Refusal.{Refusal}
+use Rattle.load.specs.declared.Refusal.the-variants.{MemoryLength, NoRoom}
+use Rattle.image.specs.Memory.{fewestWords, mostWords, mainAt}
+use Rattle.image.specs.Sound.{Sound}
+use Rattle.image.specs.Start.{numberOf, startedOf, startOf}
+use Rattle.image.specs.declared.Started.the-variants.{Ready, Refused}
+
+-- "n from 2 to 16,384"
+abbrev pub Words : List ℕ → Type 0
+Words m = (fewestWords ≤ length m) × (length m ≤ mostWords)
+
+-- main and the words before it have room
+abbrev pub Room : List ℕ → List ℕ → Type 0
+Room p m = mainAt + sizeOf p (mainOf p) ≤ length m
+
+pub record Startable (p m : List ℕ) : Type 0 where
+  pub accepted : IsAccepted p
+  pub words : Words m
+  pub room : Room p m
+
+-- a start that refuses all is shut out: `start-succeeds`
+abbrev pub StartSucceeds : Type 0
+StartSucceeds = (p m : List ℕ) → (numberOf (startOf p m .answer) ≡ 0) ↔ Startable p m
+
+-- "u = 2 + its size", and every word: `starts`
+abbrev pub Starts : Type 0
+Starts =
+    (p m : List ℕ) → Startable p m
+    → startOf p m ≡ record { answer = Ready (mainAt + sizeOf p (mainOf p)); memory = startedOf p (length m) }
+
+-- what start leaves is a sound image: `start-sound`
+abbrev pub StartSound : Type 0
+StartSound = (p m : List ℕ) → Startable p m → Sound p (startOf p m .memory)
+
+-- "A refused call leaves memory .. as at entry.": `start-keeps`
+abbrev pub StartKeeps : Type 0
+StartKeeps = (p m : List ℕ) → numberOf (startOf p m .answer) ≢ 0 → startOf p m .memory ≡ m
+
+-- the order of start's refusals: each where those before it are not given
+pub data StartFault (p m : List ℕ) : Refusal → Type 0 where
+  program : {w : Refusal} → checkOf p ≡ CheckRefused w → StartFault p m w
+  -- "n outside 2 to 16,384"
+  words : IsAccepted p → (Words m → ⊥) → StartFault p m (MemoryLength (length m))
+  -- "words left below the new deployment's size"
+  room : IsAccepted p → Words m → (Room p m → ⊥) → StartFault p m (NoRoom (mainOf p))
+
+-- the number and place of every refusal: `start-fault`
+abbrev pub StartFirstFault : Type 0
+StartFirstFault = (p m : List ℕ) (w : Refusal) → (startOf p m .answer ≡ Refused w) ↔ StartFault p m w

@@ -1,0 +1,112 @@
+-- A turn is refused before its first step exactly for its first fault: `first-fault`. Assumes nothing.
+use Prim.Native.Nat.{ℕ}
+use mathlib.Core.Path.{_≡_, refl, sym, _∙_, ap, subst}
+use mathlib.Core.Bool.{false}
+use mathlib.Core.Logic.{_↔_, _≢_}
+use mathlib.Core.List.{List}
+use native.Mathlib.Omega.{arith}
+use lib.ListN.{length}
+use Rattle.value.proofs.Tests.{cases, goes, stops, says×}
+use Rattle.load.specs.Check.{checkOf, IsAccepted}
+use Rattle.load.specs.Refusal.{refusalNumber}
+use Rattle.load.specs.declared.Checked.{Checked}
+use Rattle.load.specs.declared.Checked.the-variants.{Accepted, Refused as CheckRefused}
+use Rattle.load.specs.declared.Refusal.{Refusal}
+use Rattle.load.specs.declared.Refusal.the-variants.{MemoryLength, UnsoundImage, NoRoom, TooDeep}
+use Rattle.load.proofs.Exact.{exact}
+use Rattle.load.proofs.Exact.Ladder.{accepted-size}
+use Rattle.image.specs.Sound.{Sound}
+use Rattle.image.specs.Passes.{Judged, sound, unsound, soundOf}
+use Rattle.image.specs.Fault.{FaultAt}
+use Rattle.image.specs.Start.{wordsLegal}
+use Rattle.image.specs.Starting.{Words}
+use Rattle.image.proofs.Exact.{rules-soundness}
+use Rattle.image.proofs.Exact.Place.{exact-place}
+use Rattle.image.proofs.Starts.{words-legal}
+use Rattle.remus.specs.Turn.{Turn, Asked, fine, asked, askedOf, refused, byAsked, bySound, byCheck, turnOf}
+use Rattle.remus.specs.Walk.{Input}
+use Rattle.remus.specs.Claim.{Ends, completed, too-deep, no-room}
+use Rattle.remus.specs.Fault.{Fault, program, words, image, brought, FirstFault}
+use Rattle.remus.specs.declared.Turned.the-variants.{Refused}
+use Rattle.remus.proofs.Fits.{asking, fits}
+use Rattle.remus.proofs.OneTurn.{turn-is}
+use Rattle.remus.proofs.Demand.{demand-once}
+
+module _ (p m rd sk : List ℕ) where
+  abbrev t : Input
+  t = record { readings = rd; sinkSpace = sk }
+
+  -- ---- the turn's ladder, fault by fault
+
+  abbrev Refuses : Refusal → Type 0
+  Refuses v = turnOf p m rd sk ≡ refused p m rd sk v
+
+  at-program : (v : Refusal) → checkOf p ≡ CheckRefused v → Refuses v
+  unfolding turnOf byCheck
+  at-program v e = rw e refl
+
+  at-words : IsAccepted p → wordsLegal (length m) ≡ false → Refuses (MemoryLength (length m))
+  unfolding turnOf byCheck
+  at-words a e = rw (accepted-size p a) (sym (stops _ e refl))
+
+  module _ (a : IsAccepted p) (l : Words m) where
+    at-image : (q : ℕ) → soundOf p m ≡ unsound q → Refuses (UnsoundImage q)
+    unfolding turnOf byCheck bySound
+    at-image q e = rw (accepted-size p a) (sym (goes _ _ (words-legal _ .1 l) (rw e refl)))
+
+    judged : (soundOf p m ≡ sound) ↔ Sound p m
+    judged = rules-soundness p (exact p .0 a) m (l .1)
+
+    placed : (q : ℕ) → (soundOf p m ≡ unsound q) ↔ FaultAt p m q
+    placed = exact-place p (exact p .0 a .header .few-reactors) m (l .1)
+
+    at-asked : Sound p m → (v : Refusal) → askedOf p m rd sk ≡ asked v → Refuses v
+    unfolding byAsked
+    at-asked s v e = turn-is p m t a (l .1) s (judged .1 s) ∙ rw e refl
+
+  answers : (v : Refusal) → Refuses v → turnOf p m rd sk .answer ≡ Refused v
+  unfolding refused
+  answers v e = ap (λ (x : Turn). x .answer) e
+
+  -- ---- both ways
+
+  back : (w : Refusal) → Fault p m rd sk w → turnOf p m rd sk .answer ≡ Refused w
+  back w (program e) = answers w (at-program w e)
+  back w (words a n) = answers w (at-words a (says× (words-legal _) .1 n))
+  back w (image {q} a l f) = answers w (at-image a l q (placed a l q .1 f))
+  back w (brought a l s f) = answers w (at-asked a l s w (asking p m rd sk w .1 f))
+
+  module _ (w : Refusal) (not-14 : refusalNumber w ≢ 14) (not-15 : refusalNumber w ≢ 15)
+      (e : turnOf p m rd sk .answer ≡ Refused w) where
+    -- the fault v is the one
+    same : (v : Refusal) → Refuses v → Fault p m rd sk v → Fault p m rd sk w
+    same v q f = let a = answers v q in let z : v ≡ w = cc in subst (Fault p m rd sk) z f
+
+    -- a turn that comes to its first step is refused by 14 or 15, if at all
+    no-end : Ends p m t (turnOf p m rd sk) → Fault p m rd sk w
+    no-end (completed s l d h c) = let z : _≡_ {A = ℕ} 0 1 = cc in absurd (omega arith)
+    no-end (too-deep q d) = let z : w ≡ TooDeep q = cc in absurd (not-15 (ap refusalNumber z))
+    no-end (no-room q d) = let z : w ≡ NoRoom q = cc in absurd (not-14 (ap refusalNumber z))
+
+    module _ (a : IsAccepted p) (l : Words m) where
+      by-asked : Sound p m → (x : Asked) → askedOf p m rd sk ≡ x → Fault p m rd sk w
+      by-asked s fine q =
+          let c = demand-once p m t a (l .1) s in no-end (c .ends (turnOf p m rd sk) (fits p m t .1 q) (c .result))
+      by-asked s (asked v) q = same v (at-asked a l s v q) (brought a l s (asking p m rd sk v .0 q))
+
+      by-image : (j : Judged) → soundOf p m ≡ j → Fault p m rd sk w
+      by-image sound q = by-asked (judged a l .0 q) (askedOf p m rd sk) refl
+      by-image (unsound k) q = same _ (at-image a l k q) (image a l (placed a l k .0 q))
+
+    by-check : (c : Checked) → checkOf p ≡ c → Fault p m rd sk w
+    by-check (CheckRefused v) q = same v (at-program v q) (program q)
+    by-check (Accepted size) q =
+        let a : IsAccepted p = rw q refl in
+        cases (wordsLegal (length m)) (λ x. by-image a (words-legal _ .0 x) (soundOf p m) refl)
+        (λ x. same _ (at-words a x) (words a (says× (words-legal _) .0 x)))
+
+pub first-fault : FirstFault
+first-fault p m rd sk w not-14 not-15 = (
+  λ e. by-check p m rd sk w not-14 not-15 e (checkOf p) refl,
+  back p m rd sk w,
+)
