@@ -2,15 +2,15 @@
 -- types.
 use Prim.Native.Nat.{ℕ, _+_, _≤_}
 use mathlib.Core.Path.{_≡_}
-use mathlib.Core.Logic.{_≢_, _↔_}
+use mathlib.Core.Logic.{_≢_, _↔_, _⊎_}
 use mathlib.Core.List.{List}
 use lib.ListN.{length}
 use Rattle.program.specs.Bytes.{mainOf}
 use Rattle.program.specs.Location.{sizeOf}
-use Rattle.load.specs.Check.{checkOf, IsAccepted}
-use Rattle.load.specs.declared.Checked.the-variants.{Refused as CheckRefused}
+use Rattle.load.specs.Check.{IsAccepted}
+use Rattle.load.specs.Refusal.{refusalNumber, refusalPlace}
+use Rattle.load.specs.Fault.{Fault, CheckNumber}
 use Rattle.load.specs.declared.Refusal.{Refusal}
-use Rattle.load.specs.declared.Refusal.the-variants.{MemoryLength, NoRoom}
 use Rattle.image.specs.Memory.{fewestWords, mostWords, mainAt}
 use Rattle.image.specs.Sound.{Sound}
 use Rattle.image.specs.Start.{numberOf, startedOf, startOf}
@@ -47,14 +47,21 @@ StartSound = (p m : List ℕ) → Startable p m → Sound p (startOf p m .memory
 abbrev pub StartKeeps : Type 0
 StartKeeps = (p m : List ℕ) → numberOf (startOf p m .answer) ≢ 0 → startOf p m .memory ≡ m
 
--- the order of start's refusals: each where those before it are not given
-pub data StartFault (p m : List ℕ) : Refusal → Type 0 where
-  program : {w : Refusal} → checkOf p ≡ CheckRefused w → StartFault p m w
-  -- "n outside 2 to 16,384"
-  words : IsAccepted p → (Words m → ⊥) → StartFault p m (MemoryLength (length m))
-  -- "words left below the new deployment's size"
-  room : IsAccepted p → Words m → (Room p m → ⊥) → StartFault p m (NoRoom (mainOf p))
+-- The first fault of a start, by number and place: the program's own, then 8 for the memory's length, then 14 where main
+-- has no room.
+pub data StartFault (p m : List ℕ) : ℕ → ℕ → Type 0 where
+  program : {n q : ℕ} → Fault p n q → StartFault p m n q
+  words : IsAccepted p → (Words m → ⊥) → StartFault p m 8 (length m)
+  room : IsAccepted p → Words m → (Room p m → ⊥) → StartFault p m 14 (mainOf p)
 
--- the number and place of every refusal: `start-fault`
+-- number and place of every refusal: `start-fault`
 abbrev pub StartFirstFault : Type 0
-StartFirstFault = (p m : List ℕ) (w : Refusal) → (startOf p m .answer ≡ Refused w) ↔ StartFault p m w
+StartFirstFault =
+    (p m : List ℕ) (w : Refusal) → (startOf p m .answer ≡ Refused w) ↔ StartFault p m (refusalNumber w) (refusalPlace w)
+
+-- the numbers that start can give at all: `start-numbers`
+abbrev pub StartNumbers : Type 0
+StartNumbers =
+    (p m : List ℕ) →
+    let n = numberOf (startOf p m .answer) in
+    CheckNumber n ⊎ ((n ≡ 8) ⊎ (n ≡ 14))

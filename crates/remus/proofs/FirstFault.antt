@@ -1,20 +1,24 @@
--- A turn is refused before its first step exactly for its first fault: `first-fault`. Assumes nothing.
+-- A turn is refused before its first step exactly for its first fault: `first-fault`, and with it `turn-numbers`. Assumes
+-- nothing.
 use Prim.Native.Nat.{ℕ}
 use mathlib.Core.Path.{_≡_, refl, sym, _∙_, ap, subst}
 use mathlib.Core.Bool.{false}
-use mathlib.Core.Logic.{_↔_, _≢_}
+use mathlib.Core.Logic.{_↔_, _≢_, _⊎_, inl, inr, ⊎-elim}
 use mathlib.Core.List.{List}
 use native.Mathlib.Omega.{arith}
 use lib.ListN.{length}
-use Rattle.value.proofs.Tests.{cases, goes, stops, says×}
+use Rattle.value.proofs.Tests.{cases, same?, goes, stops, says×}
 use Rattle.load.specs.Check.{checkOf, IsAccepted}
-use Rattle.load.specs.Refusal.{refusalNumber}
+use Rattle.load.specs.Refusal.{refusalNumber, refusalPlace}
+use Rattle.load.specs.Fault.{Between, CheckNumber}
 use Rattle.load.specs.declared.Checked.{Checked}
 use Rattle.load.specs.declared.Checked.the-variants.{Accepted, Refused as CheckRefused}
 use Rattle.load.specs.declared.Refusal.{Refusal}
 use Rattle.load.specs.declared.Refusal.the-variants.{MemoryLength, UnsoundImage, NoRoom, TooDeep}
 use Rattle.load.proofs.Exact.{exact}
 use Rattle.load.proofs.Exact.Ladder.{accepted-size}
+use Rattle.load.proofs.Exact.Faults.{first-fault as check-fault, fault-given, fault-number}
+use Rattle.load.proofs.Refusals.{refusals-apart}
 use Rattle.image.specs.Sound.{Sound}
 use Rattle.image.specs.Passes.{Judged, sound, unsound, soundOf}
 use Rattle.image.specs.Fault.{FaultAt}
@@ -23,12 +27,14 @@ use Rattle.image.specs.Starting.{Words}
 use Rattle.image.proofs.Exact.{rules-soundness}
 use Rattle.image.proofs.Exact.Place.{exact-place}
 use Rattle.image.proofs.Starts.{words-legal}
-use Rattle.remus.specs.Turn.{Turn, Asked, fine, asked, askedOf, refused, byAsked, bySound, byCheck, turnOf}
+use Rattle.remus.specs.Turn.{Turn, numberOf, Asked, fine, asked, askedOf, refused, byAsked, bySound, byCheck}
+use Rattle.remus.specs.Turn.{turnOf}
 use Rattle.remus.specs.Walk.{Input}
 use Rattle.remus.specs.Claim.{Ends, completed, too-deep, no-room}
-use Rattle.remus.specs.Fault.{Fault, program, words, image, brought, FirstFault}
-use Rattle.remus.specs.declared.Turned.the-variants.{Refused}
-use Rattle.remus.proofs.Fits.{asking, fits}
+use Rattle.remus.specs.Fault.{Fault, program, words, image, brought, FirstFault, TurnNumbers}
+use Rattle.remus.specs.declared.Turned.{Turned}
+use Rattle.remus.specs.declared.Turned.the-variants.{Done, Refused}
+use Rattle.remus.proofs.Fits.{given-asking, asking, asking-number, fits}
 use Rattle.remus.proofs.OneTurn.{turn-is}
 use Rattle.remus.proofs.Demand.{demand-once}
 
@@ -70,43 +76,74 @@ module _ (p m rd sk : List ℕ) where
 
   -- ---- both ways
 
-  back : (w : Refusal) → Fault p m rd sk w → turnOf p m rd sk .answer ≡ Refused w
-  back w (program e) = answers w (at-program w e)
-  back w (words a n) = answers w (at-words a (says× (words-legal _) .1 n))
-  back w (image {q} a l f) = answers w (at-image a l q (placed a l q .1 f))
-  back w (brought a l s f) = answers w (at-asked a l s w (asking p m rd sk w .1 f))
+  -- a refusal is given with the number and place of the fault
+  given : {n q : ℕ} → Fault p m rd sk n q → (v : Refusal) × Refuses v × (refusalNumber v ≡ n) × (refusalPlace v ≡ q)
+  given (program f) = let g = fault-given p f in (g .0, at-program (g .0) (g .1), g .2, g .3)
+  given (words a n) = (MemoryLength (length m), at-words a (says× (words-legal _) .1 n), refl, refl)
+  given (image {q} a l f) = (UnsoundImage q, at-image a l q (placed a l q .1 f), refl, refl)
+  given (brought a l s f) = let g = given-asking p m rd sk f in (g .0, at-asked a l s (g .0) (g .1), g .2, g .3)
+
+  abbrev FaultOf : Refusal → Type 0
+  FaultOf w = Fault p m rd sk (refusalNumber w) (refusalPlace w)
+
+  back : (w : Refusal) → FaultOf w → turnOf p m rd sk .answer ≡ Refused w
+  back w f = let g = given f in answers (g .0) (g .1) ∙ ap Refused (refusals-apart (g .0) w (g .2) (g .3))
 
   module _ (w : Refusal) (not-14 : refusalNumber w ≢ 14) (not-15 : refusalNumber w ≢ 15)
       (e : turnOf p m rd sk .answer ≡ Refused w) where
-    -- the fault v is the one
-    same : (v : Refusal) → Refuses v → Fault p m rd sk v → Fault p m rd sk w
-    same v q f = let a = answers v q in let z : v ≡ w = cc in subst (Fault p m rd sk) z f
+    -- the fault of v is the one
+    same : (v : Refusal) → Refuses v → FaultOf v → FaultOf w
+    same v q f = let a = answers v q in let z : v ≡ w = cc in subst FaultOf z f
 
     -- a turn that comes to its first step is refused by 14 or 15, if at all
-    no-end : Ends p m t (turnOf p m rd sk) → Fault p m rd sk w
+    no-end : Ends p m t (turnOf p m rd sk) → FaultOf w
     no-end (completed s l d h c) = let z : _≡_ {A = ℕ} 0 1 = cc in absurd (omega arith)
     no-end (too-deep q d) = let z : w ≡ TooDeep q = cc in absurd (not-15 (ap refusalNumber z))
     no-end (no-room q d) = let z : w ≡ NoRoom q = cc in absurd (not-14 (ap refusalNumber z))
 
     module _ (a : IsAccepted p) (l : Words m) where
-      by-asked : Sound p m → (x : Asked) → askedOf p m rd sk ≡ x → Fault p m rd sk w
+      by-asked : Sound p m → (x : Asked) → askedOf p m rd sk ≡ x → FaultOf w
       by-asked s fine q =
           let c = demand-once p m t a (l .1) s in no-end (c .ends (turnOf p m rd sk) (fits p m t .1 q) (c .result))
       by-asked s (asked v) q = same v (at-asked a l s v q) (brought a l s (asking p m rd sk v .0 q))
 
-      by-image : (j : Judged) → soundOf p m ≡ j → Fault p m rd sk w
+      by-image : (j : Judged) → soundOf p m ≡ j → FaultOf w
       by-image sound q = by-asked (judged a l .0 q) (askedOf p m rd sk) refl
-      by-image (unsound k) q = same _ (at-image a l k q) (image a l (placed a l k .0 q))
+      by-image (unsound k) q = same (UnsoundImage k) (at-image a l k q) (image a l (placed a l k .0 q))
 
-    by-check : (c : Checked) → checkOf p ≡ c → Fault p m rd sk w
-    by-check (CheckRefused v) q = same v (at-program v q) (program q)
+    by-check : (c : Checked) → checkOf p ≡ c → FaultOf w
+    by-check (CheckRefused v) q = same v (at-program v q) (program (check-fault p v .0 q))
     by-check (Accepted size) q =
         let a : IsAccepted p = rw q refl in
         cases (wordsLegal (length m)) (λ x. by-image a (words-legal _ .0 x) (soundOf p m) refl)
-        (λ x. same _ (at-words a x) (words a (says× (words-legal _) .0 x)))
+        (λ x. same (MemoryLength (length m)) (at-words a x) (words a (says× (words-legal _) .0 x)))
 
 pub first-fault : FirstFault
 first-fault p m rd sk w not-14 not-15 = (
   λ e. by-check p m rd sk w not-14 not-15 e (checkOf p) refl,
   back p m rd sk w,
 )
+
+-- ---- the numbers
+
+fault-told : {p m rd sk : List ℕ} {n q : ℕ} → Fault p m rd sk n q → CheckNumber n ⊎ Between 8 15 n
+fault-told (program f) = inl (fault-number f)
+fault-told (words a n) = inr (omega arith, omega arith)
+fault-told (image a l f) = inr (omega arith, omega arith)
+fault-told (brought a l s f) = let b = asking-number f in inr (omega arith, omega arith)
+
+pub turn-numbers : TurnNumbers
+turn-numbers p m rd sk = by (turnOf p m rd sk .answer) refl
+  where
+    told : (w : Refusal) → turnOf p m rd sk .answer ≡ Refused w → CheckNumber (refusalNumber w) ⊎ Between 8 15 (refusalNumber w)
+    told w e =
+        ⊎-elim (λ q. inr (omega arith, omega arith))
+        (λ x.
+        ⊎-elim (λ q. inr (omega arith, omega arith)) (λ y. fault-told (first-fault p m rd sk w x y .0 e))
+        (same? (refusalNumber w) 15))
+        (same? (refusalNumber w) 14)
+
+    by : (a : Turned) → turnOf p m rd sk .answer ≡ a →
+        CheckNumber (numberOf (turnOf p m rd sk .answer)) ⊎ Between 8 15 (numberOf (turnOf p m rd sk .answer))
+    by (Done u) e = rw e (inl (inl (omega arith)))
+    by (Refused w) e = rw e (told w e)

@@ -1,22 +1,26 @@
 -- What a turn brings: 10 to 13 refuse it exactly for its first fault (`asking`), and not at all just where it is as it
 -- should be (`fits`). With the law between the test and the proposition on values of a kind.
-use Prim.Native.Nat.{ℕ, zero, suc, _+_, _≤_, _<_}
-use mathlib.Core.Path.{_≡_, refl, sym, ap, subst}
-use mathlib.Core.Bool.{Bool, true, false, true≢false, false≢true}
+use Prim.Native.Nat.{ℕ, zero, suc, _+_, _*_, _≤_, _<_}
+use mathlib.Core.Path.{_≡_, refl, sym, _∙_, ap, subst}
+use mathlib.Core.Bool.{Bool, true}
 use mathlib.Core.Logic.{_↔_, _⊎_, inl, inr, _≢_}
 use mathlib.Core.List.{List}
 use native.Mathlib.Omega.{arith}
-use Rattle.value.specs.Test.{_and_, _<?_, _=?_, guard}
+use lib.ListN.{length}
+use Rattle.value.specs.Test.{_and_, _<?_, _=?_}
 use Rattle.value.specs.Value.{markOf, value}
 use Rattle.value.specs.declared.Value.{Value}
-use Rattle.value.proofs.Tests.{cases, clash, lt!, lt×, lt?, lt×?, le!, le×, le?, le×?, eq!, eq×, eq?, eq×?}
-use Rattle.value.proofs.Tests.{both!, both?, either!, or!, or?, guards, Says, says×}
+use Rattle.value.proofs.Tests.{cases, clash, lt!, lt×, lt?, lt×?, le!, le×, le?, eq!, eq×, eq?, both!, both?, either!, or! }
+use Rattle.value.proofs.Tests.{or?, goes, stops, guards, Says, says-lt, says-le, says-eq, says×, says-guard}
 use Rattle.value.proofs.Sweeps.{Swept, swept, sweeps?}
-use Rattle.program.specs.Bytes.{globals, globalKind}
+use Rattle.program.specs.Bytes.{globals, globalKind, mainOf}
+use Rattle.program.specs.Location.{sinks}
 use Rattle.program.specs.Kind.{contentLegal, legal, Content, OfKind}
-use Rattle.load.specs.Refusal.{refusalNumber}
+use Rattle.load.specs.Refusal.{refusalNumber, refusalPlace}
+use Rattle.load.specs.Fault.{Between}
 use Rattle.load.specs.declared.Refusal.{Refusal}
-use Rattle.load.specs.declared.Refusal.the-variants.{Reading}
+use Rattle.load.specs.declared.Refusal.the-variants.{ReadingsLength, Reading, SinkSpace, Clock}
+use Rattle.load.proofs.Refusals.{refusals-apart}
 use Rattle.remus.specs.Turn.{Asked, fine, asked, askedOf, badReading, readingAt}
 use Rattle.remus.specs.Fault.{LegalReading, LegalReadings, Asking, count, reading, space, clock}
 use Rattle.remus.specs.Walk.{Input}
@@ -92,67 +96,69 @@ module _ (p rd : List ℕ) where
 
 -- ---- 10 to 13
 
--- where the ladder stops, and where it goes on
-rung : (t : Bool) (v w : Refusal) (more : Unit {0} → Asked) →
-    (guard t (asked v) more ≡ asked w) ↔ (((t ≡ false) × (v ≡ w)) ⊎ ((t ≡ true) × (more tt ≡ asked w)))
-unfolding guard
-rung true v w more = (λ e. inr (refl, e), λ h. elim h [ inl k ↦ absurd (true≢false (k .0)) | inr k ↦ k .1 ])
-rung false v w more =
-    (λ e. inl (refl, cc), λ h. elim h [ inl k ↦ ap asked (k .1) | inr k ↦ absurd (false≢true (k .0)) ])
-
 never : (v : Refusal) → asked v ≡ fine → ⊥
 never v e = let z : _≡_ {A = ℕ} 0 1 = cc in omega arith
 
 module _ (p m rd sk : List ℕ) where
-  says : (w : Refusal) → askedOf p m rd sk ≡ asked w → Asking p m rd sk w
+  abbrev AskingFor : Refusal → Type 0
+  AskingFor w = Asking p m rd sk (refusalNumber w) (refusalPlace w)
+
+  -- the refusal w is the one found
+  as-asking : (v w : Refusal) → asked v ≡ asked w → AskingFor v → AskingFor w
+  as-asking v w e f = let same : v ≡ w = cc in subst AskingFor same f
+
+  found-asking : (w : Refusal) → askedOf p m rd sk ≡ asked w → AskingFor w
   unfolding askedOf
-  says w e =
-      elim (rung _ _ w _ .0 e) [
-        | inl a ↦ subst (Asking p m rd sk) (a .1) (count (eq×? (a .0)))
-        | inr a ↦
-            elim (rung _ _ w _ .0 (a .1)) [
-              | inl b ↦
-                  let f = stops-bad p rd (eq×? (b .0)) in
-                  subst (Asking p m rd sk) (b .1) (reading (eq? (a .0)) _ (f .0) (f .1) (f .2))
-              | inr b ↦
-                  let legal = readings-legal p rd .0 (b .0) in
-                  elim (rung _ _ w _ .0 (b .1)) [
-                    | inl c ↦ subst (Asking p m rd sk) (c .1) (space (eq? (a .0)) legal (le×? (c .0)))
-                    | inr c ↦
-                        elim (rung _ _ w _ .0 (c .1)) [
-                          | inl d ↦
-                              subst (Asking p m rd sk) (d .1) (clock (eq? (a .0)) legal (le? (c .0)) (lt×? (d .0)))
-                          | inr d ↦ absurd (never w (sym (d .1)))
-                        ]
-                  ]
+  found-asking w e =
+      let Is : Asked → Type 0 = λ a. a ≡ asked w in
+      elim (says-guard Is says-eq _ _ .0 e) [
+        | inl a ↦ as-asking _ w (a .1) (count (a .0))
+        | inr a ↦ elim (says-guard Is (readings-legal p rd) _ _ .0 (a .1)) [
+          | inl b ↦
+              let f = stops-bad p rd (λ q. b .0 (readings-legal p rd .0 (eq! q))) in
+              as-asking _ w (b .1) (reading (a .0) (f .0) (f .1) (f .2))
+          | inr b ↦ elim (says-guard Is says-le _ _ .0 (b .1)) [
+            | inl c ↦ as-asking _ w (c .1) (space (a .0) (b .0) (omega (arith, c .0)))
+            | inr c ↦ elim (says-guard Is says-lt _ _ .0 (c .1)) [
+              | inl d ↦ as-asking _ w (d .1) (clock (a .0) (b .0) (c .0) (omega (arith, d .0)))
+              | inr d ↦ absurd (never w (sym (d .1)))
             ]
+          ]
+        ]
       ]
 
-  given : {w : Refusal} → Asking p m rd sk w → askedOf p m rd sk ≡ asked w
+  -- a refusal is given with the number and place of the fault
+  pub given-asking : {n q : ℕ} → Asking p m rd sk n q →
+      (v : Refusal) × (askedOf p m rd sk ≡ asked v) × (refusalNumber v ≡ n) × (refusalPlace v ≡ q)
   unfolding askedOf
-  given {w} (count h) = rung _ _ w _ .1 (inl (eq× h, refl))
-  given {w} (reading a k l h n) =
+  given-asking (count h) = (ReadingsLength (length rd), sym (stops _ (eq× h) refl), refl, refl)
+  given-asking (reading {k} a l h n) =
       let e = bad-stops p rd k (l, h, n) in
-      rung _ _ w _ .1 (inr (eq! a, rung _ _ w _ .1 (inl (eq× (λ z. omega arith), ap Reading e))))
-  given {w} (space a h l) =
-      rung _ _ w _ .1
-      (inr (eq! a, rung _ _ w _ .1 (inr (readings-legal p rd .1 h, rung _ _ w _ .1 (inl (le× l, refl))))))
-  given {w} (clock a h c l) =
-      rung _ _ w _ .1
-      (inr (
-        eq! a,
-        rung _ _ w _ .1
-            (inr (readings-legal p rd .1 h, rung _ _ w _ .1 (inr (le! c, rung _ _ w _ .1 (inl (lt× l, refl)))))),
-      ))
+      (Reading (badReading p rd), sym (goes _ _ (eq! a) (stops _ (eq× (λ z. omega arith)) refl)), refl, e)
+  given-asking (space a h l) = (
+    SinkSpace (2 * sinks p (mainOf p)),
+    sym (goes _ _ (eq! a) (goes _ _ (readings-legal p rd .1 h) (stops _ (le× l) refl))),
+    refl,
+    refl,
+  )
+  given-asking (clock a h c l) = (
+    Clock,
+    sym (goes _ _ (eq! a) (goes _ _ (readings-legal p rd .1 h) (goes _ _ (le! c) (stops _ (lt× l) refl)))),
+    refl,
+    refl,
+  )
 
-  pub asking : (w : Refusal) → (askedOf p m rd sk ≡ asked w) ↔ Asking p m rd sk w
-  asking w = (says w, given)
+  pub asking : (w : Refusal) → (askedOf p m rd sk ≡ asked w) ↔ AskingFor w
+  asking w = (
+    found-asking w,
+    (λ f. let g = given-asking f in g .1 ∙ ap asked (refusals-apart (g .0) w (g .2) (g .3))),
+  )
 
-  pub asking-number : {w : Refusal} → Asking p m rd sk w → (10 ≤ refusalNumber w) × (refusalNumber w ≤ 13)
-  asking-number (count h) = (omega arith, omega arith)
-  asking-number (reading a k l h n) = (omega arith, omega arith)
-  asking-number (space a h l) = (omega arith, omega arith)
-  asking-number (clock a h c l) = (omega arith, omega arith)
+pub asking-number : {p m rd sk : List ℕ} {n q : ℕ} → Asking p m rd sk n q → Between 10 13 n
+asking-number (count h) = (omega arith, omega arith)
+asking-number (reading a l h n) = (omega arith, omega arith)
+asking-number (space a h l) = (omega arith, omega arith)
+asking-number (clock a h c l) = (omega arith, omega arith)
 
 module _ (p w : List ℕ) (t : Input) where
   pub fits : Fit p w t ↔ (askedOf p w (t .readings) (t .sinkSpace) ≡ fine)

@@ -84,7 +84,7 @@ module _ (p w : List ℕ) (t : Input) (yes-program : IsAccepted p) (few : length
 
     -- a turn that 10 to 13 refuse ends neither with 14 nor with 15
     asked-low : (v : Refusal) → 14 ≤ refusalNumber v → askedOf p w rd sk ≡ asked v → ⊥
-    asked-low v h e = omega (arith, asking-number p w rd sk (asking p w rd sk v .0 e))
+    asked-low v h e = omega (arith, asking-number (asking p w rd sk v .0 e))
 
     abbrev TooDeepAt : ℕ → Type 0
     TooDeepAt q = (h : ℕ) × (m : List ℕ) × Allocates p w t q h m × (h + 1 ≡ 65)

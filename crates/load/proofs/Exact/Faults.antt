@@ -406,37 +406,37 @@ module _ (p : List ℕ) where
       (sym (goes _ _ (eq! (t .whole)) (sym e)))
 
   -- a refusal is given with the number and place of the fault
-  abbrev Given : ℕ → ℕ → Type 0
+  abbrev pub Given : ℕ → ℕ → Type 0
   Given n q = (v : Refusal) × (checkOf p ≡ Refused v) × (refusalNumber v ≡ n) × (refusalPlace v ≡ q)
 
-  given : {n q : ℕ} → Fault p n q → Given n q
-  given (length-wrong h) =
+  pub fault-given : {n q : ℕ} → Fault p n q → Given n q
+  fault-given (length-wrong h) =
       (ProgramLength (length p), ladder ∙ sym (stops _ (says× length-says .1 h) refl), refl, refl)
-  given (header-byte {i} b l) =
+  fault-given (header-byte {i} b l) =
       let e : headerPlace ≡ i = header-is i l in
       let m : i < headerEnd = header-bounds p i (l .0) .1 in
       (TableByte headerPlace, length-past b (sym (stops _ (eq× (λ q. omega arith)) refl)), refl, e)
-  given (tables-cut b h l) =
+  fault-given (tables-cut b h l) =
       (ProgramLength (length p), header-past b h (sym (stops _ (le× l) refl)), refl, refl)
-  given (table-byte {i} b h l) =
+  fault-given (table-byte {i} b h l) =
       let fails = says× (table-says h) .1 (λ none. none i (l .0)) in
       (TableByte tablePlace, cut-past b h (sym (stops _ fails refl)), refl, table-is h i l)
-  given (not-whole b h none d) =
+  fault-given (not-whole b h none d) =
       (ProgramLength (length p), table-past b h none (sym (stops _ (eq× d) refl)), refl, refl)
-  given (command {r} {k} {n} a few passed f) =
+  fault-given (command {r} {k} {n} a few passed f) =
       let number = at-command (commandAt p r k) f in (
         atCommand n (commandAt p r k),
         tables-past (a .0) (command-refuses p (a .0) (a .1) (a .2) few passed f),
         number .0,
         number .1,
       )
-  given (missing {r} a passed lacks) =
+  fault-given (missing {r} a passed lacks) =
       (Missing (entryAt p r), tables-past (a .0) (missing-refuses p (a .0) (a .1) (a .2) passed lacks), refl, refl)
 
 pub first-fault : FirstFault
 first-fault p w = (
   found p w,
-  (λ f. let g = given p f in g .1 ∙ ap Refused (refusals-apart (g .0) w (g .2) (g .3))),
+  (λ f. let g = fault-given p f in g .1 ∙ ap Refused (refusals-apart (g .0) w (g .2) (g .3))),
 )
 
 -- ---- the numbers
@@ -458,18 +458,18 @@ first-told (misplaced f y h) = inl (omega arith)
 first-told (unlike f y l h) = inl (omega arith)
 first-told (disordered f y l a o) = order-told o
 
-fault-told : {p : List ℕ} {n q : ℕ} → Fault p n q → CheckNumber n
-fault-told (length-wrong h) = inl (omega arith)
-fault-told (header-byte b l) = inl (omega arith)
-fault-told (tables-cut b h l) = inl (omega arith)
-fault-told (table-byte b h l) = inl (omega arith)
-fault-told (not-whole b h none d) = inl (omega arith)
-fault-told (command a few passed f) = first-told f
-fault-told (missing a passed lacks) = inl (omega arith)
+pub fault-number : {p : List ℕ} {n q : ℕ} → Fault p n q → CheckNumber n
+fault-number (length-wrong h) = inl (omega arith)
+fault-number (header-byte b l) = inl (omega arith)
+fault-number (tables-cut b h l) = inl (omega arith)
+fault-number (table-byte b h l) = inl (omega arith)
+fault-number (not-whole b h none d) = inl (omega arith)
+fault-number (command a few passed f) = first-told f
+fault-number (missing a passed lacks) = inl (omega arith)
 
 pub check-numbers : CheckNumbers
 check-numbers p = by (checkOf p) refl
   where
     by : (c : Checked) → checkOf p ≡ c → CheckNumber (numberOf (checkOf p))
     by (Accepted size) e = rw e (inl (omega arith))
-    by (Refused w) e = rw e (fault-told (first-fault p w .0 e))
+    by (Refused w) e = rw e (fault-number (first-fault p w .0 e))
