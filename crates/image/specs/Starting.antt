@@ -47,8 +47,8 @@ StartSound = (p m : List ℕ) → Startable p m → Sound p (startOf p m .memory
 abbrev pub StartKeeps : Type 0
 StartKeeps = (p m : List ℕ) → numberOf (startOf p m .answer) ≢ 0 → startOf p m .memory ≡ m
 
--- The first fault of a start, by number and place: the program's own, then 8 for the memory's length, then 14 where main
--- has no room.
+-- The first fault of a start, by number and place: the program's own, then 8 for the memory's length, then 14 where
+-- main has no room.
 pub data StartFault (p m : List ℕ) : ℕ → ℕ → Type 0 where
   program : {n q : ℕ} → Fault p n q → StartFault p m n q
   words : IsAccepted p → (Words m → ⊥) → StartFault p m 8 (length m)
@@ -59,9 +59,10 @@ abbrev pub StartFirstFault : Type 0
 StartFirstFault =
     (p m : List ℕ) (w : Refusal) → (startOf p m .answer ≡ Refused w) ↔ StartFault p m (refusalNumber w) (refusalPlace w)
 
--- the numbers that start can give at all: `start-numbers`
+-- the numbers that start can give at all: the check's, 8 and 14
+abbrev pub StartNumber : ℕ → Type 0
+StartNumber n = CheckNumber n ⊎ (n ≡ 8) ⊎ (n ≡ 14)
+
+-- proved as `start-numbers`
 abbrev pub StartNumbers : Type 0
-StartNumbers =
-    (p m : List ℕ) →
-    let n = numberOf (startOf p m .answer) in
-    CheckNumber n ⊎ ((n ≡ 8) ⊎ (n ≡ 14))
+StartNumbers = (p m : List ℕ) → StartNumber (numberOf (startOf p m .answer))

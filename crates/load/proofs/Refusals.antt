@@ -6,8 +6,10 @@ use Rattle.value.specs.Test.{pick, _=?_}
 use Rattle.load.specs.Refusal.{refusalNumber, refusalPlace, RefusalsApart}
 use Rattle.load.specs.declared.Refusal.{Refusal}
 use Rattle.load.specs.declared.Refusal.the-variants.{ProgramLength, TableByte, Command, Operand, PortOrKind}
-use Rattle.load.specs.declared.Refusal.the-variants.{SetTwice, Missing, MemoryLength, UnsoundImage, ReadingsLength}
-use Rattle.load.specs.declared.Refusal.the-variants.{Reading, SinkSpace, Clock, NoRoom, TooDeep, TooEarly, TooLate}
+use Rattle.load.specs.declared.Refusal.the-variants.{SetTwice, Missing, MemoryLength, UnsoundImage}
+use Rattle.load.specs.declared.Refusal.the-variants.{ReadingsLength}
+use Rattle.load.specs.declared.Refusal.the-variants.{Reading, SinkSpace, Clock, NoRoom, TooDeep, TooEarly}
+use Rattle.load.specs.declared.Refusal.the-variants.{TooLate}
 use Rattle.load.specs.declared.Refusal.the-variants.{NotLower, Withdrawn}
 
 -- the refusal of number n at place q

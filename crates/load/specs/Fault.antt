@@ -1,5 +1,5 @@
--- Why a program is refused: of all its faults the first, by number and place. 01, "Check, start, turn"; what 02 (vi) split
--- off and 02 (x) withdrew. All is said by positions: nothing here speaks of a test, of a ladder of tests or of the scan.
+-- Why a program is refused: of all its faults the first, by number and place: 01, "Check, start, turn"; 02 (vi), (x).
+-- All is said by positions: nothing here speaks of tests that compute, of their ladder or of the scan.
 use Prim.Native.Nat.{ℕ, _+_, _≤_, _<_}
 use mathlib.Core.Path.{_≡_}
 use mathlib.Core.Logic.{_↔_, _≢_, _⊎_}
@@ -10,9 +10,11 @@ use Rattle.value.specs.Primitive.{rowOf, table, operands, remainder}
 use Rattle.value.specs.declared.Takes.{Takes}
 use Rattle.value.specs.declared.Takes.the-variants.{TwoNumbers, OneTruth, TwoTruths, OneOfAny, TruthThenTwo, TwoAlike}
 use Rattle.program.specs.Bytes.{byte, mostBytes, mostShapes, mostReactors, mostGlobals, headerEnd, shapes, reactors}
-use Rattle.program.specs.Bytes.{globals, globalKind, shapeAt, sourcesIn, sinksIn, sourceKind, sinkKind, entryAt, shapeOf}
+use Rattle.program.specs.Bytes.{globals, globalKind, shapeAt, sourcesIn, sinksIn, sourceKind, sinkKind, entryAt}
+use Rattle.program.specs.Bytes.{shapeOf}
 use Rattle.program.specs.Bytes.{declared, running, mainOf, commandsIn, tablesEnd, wholeLength, commandAt}
-use Rattle.program.specs.Command.{Cmd, Sequence, cmdOf, bytesOf, sequenceOf, D, R, neither, allocMono, makePoly, constant}
+use Rattle.program.specs.Command.{Cmd, Sequence, cmdOf, bytesOf, sequenceOf, D, R, neither, allocMono, makePoly}
+use Rattle.program.specs.Command.{constant}
 use Rattle.program.specs.Command.{global, supply, react, consume, sink, allocPoly, primitive, none}
 use Rattle.program.specs.Location.{sinks, commandLoc, shapeThere}
 use Rattle.program.specs.Kind.{kindOf, Content}
@@ -30,7 +32,7 @@ use Rattle.load.specs.declared.Checked.the-variants.{Refused}
 abbrev pub Between : ℕ → ℕ → ℕ → Type 0
 Between low high x = (low ≤ x) × (x ≤ high)
 
--- k may be the kind of port x, where shape s has `count` of them: a used port's is lower than the shape, an unused one's 0
+-- k may be the kind of port x, where shape s has `count` of them: a used port's is lower than the shape, any other's 0
 abbrev pub Port : ℕ → ℕ → ℕ → ℕ → Type 0
 Port s count x k = (x < count → k < reactorKind s) × (count ≤ x → k ≡ 0)
 
@@ -42,8 +44,8 @@ module _ (p : List ℕ) where
     global-count : mostGlobals < globals p → HeaderFault 3
     spare-header : {i : ℕ} → 4 ≤ i → i < headerEnd → byte p i ≢ 0 → HeaderFault i
 
-  -- global x is byte 7 + x; a shape's bytes are two counts, seven source kinds, seven sink kinds; main's shape is at fault
-  -- at main's entry
+  -- global x is byte 7 + x; a shape's bytes are two counts, seven source kinds, seven sink kinds; main's shape is at
+  -- fault at main's entry
   pub data TableFault : ℕ → Type 0 where
     global-kind : {x : ℕ} → 1 ≤ x → x ≤ globals p → truthKind < globalKind p x → TableFault (7 + x)
     source-count : {s : ℕ} → s < shapes p → 7 < sourcesIn p s → TableFault (shapeAt p s)
@@ -181,7 +183,8 @@ module _ (p : List ℕ) where
     length-wrong : (Between headerEnd mostBytes (length p) → ⊥) → Fault 1 (length p)
     header-byte : {i : ℕ} → Between headerEnd mostBytes (length p) → Lowest (HeaderFault p) i → Fault 2 i
     tables-cut : Between headerEnd mostBytes (length p) → HeaderRule p → length p < tablesEnd p → Fault 1 (length p)
-    table-byte : {i : ℕ} → Between (tablesEnd p) mostBytes (length p) → HeaderRule p → Lowest (TableFault p) i → Fault 2 i
+    table-byte : {i : ℕ} → Between (tablesEnd p) mostBytes (length p) → HeaderRule p → Lowest (TableFault p) i
+        → Fault 2 i
     not-whole : Between (tablesEnd p) mostBytes (length p) → HeaderRule p → ((i : ℕ) → TableFault p i → ⊥)
         → length p ≢ wholeLength p → Fault 1 (length p)
     command : {r k n : ℕ} → Reached r → k < commandsIn p r → Passed p r k → First p r k (cmdOf p r k) n
@@ -196,7 +199,7 @@ FirstFault = (p : List ℕ) (w : Refusal) → (checkOf p ≡ Refused w) ↔ Faul
 
 -- the numbers that the check can give at all
 abbrev pub CheckNumber : ℕ → Type 0
-CheckNumber n = (n ≤ 7) ⊎ (Between 19 21 n ⊎ (n ≡ 25))
+CheckNumber n = (n ≤ 7) ⊎ Between 19 21 n ⊎ (n ≡ 25)
 
 abbrev pub CheckNumbers : Type 0
 CheckNumbers = (p : List ℕ) → CheckNumber (numberOf (checkOf p))

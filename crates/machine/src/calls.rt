@@ -104,8 +104,10 @@ fn turn_accepted(
 // sink space as they were.
 pub fn turn(program: &[u8], memory: &mut [u32], readings: &[u32], sinks: &mut [u32]) -> Turned
     ensures { λ r. ⌜ turned r (now (memory .exit)) (now (sinks .exit)) ≡ T.turnOf (now (program .entry)) (now (memory .entry)) (now (readings .entry)) (now (sinks .entry)) ⌝ }
-    ensures { λ r. ⌜ T.numberOf r ≡ T.numberOf (T.turnOf (now (program .entry)) (now (memory .entry)) (now (readings .entry)) (now (sinks .entry)) .answer) ⌝ }
-    ensures { λ r. ⌜ T.placeOf r ≡ T.placeOf (T.turnOf (now (program .entry)) (now (memory .entry)) (now (readings .entry)) (now (sinks .entry)) .answer) ⌝ }
+    ensures { λ r. ⌜ T.numberOf r ≡ T.numberOf (T.turnOf (now (program .entry)) (now (memory .entry))
+        (now (readings .entry)) (now (sinks .entry)) .answer) ⌝ }
+    ensures { λ r. ⌜ T.placeOf r ≡ T.placeOf (T.turnOf (now (program .entry)) (now (memory .entry))
+        (now (readings .entry)) (now (sinks .entry)) .answer) ⌝ }
 {
     match check(program) {
         Checked::Accepted(size) => turn_accepted(size, program, memory, readings, sinks),

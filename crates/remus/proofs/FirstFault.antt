@@ -1,16 +1,14 @@
--- A turn is refused before its first step exactly for its first fault: `first-fault`, and with it `turn-numbers`. Assumes
--- nothing.
+-- A turn is refused before its first step exactly for its first fault: `first-fault`, and with it `turn-numbers`.
 use Prim.Native.Nat.{ℕ}
 use mathlib.Core.Path.{_≡_, refl, sym, _∙_, ap, subst}
 use mathlib.Core.Bool.{false}
-use mathlib.Core.Logic.{_↔_, _≢_, _⊎_, inl, inr, ⊎-elim}
+use mathlib.Core.Logic.{_↔_, _≢_, inl, inr, ⊎-elim}
 use mathlib.Core.List.{List}
 use native.Mathlib.Omega.{arith}
 use lib.ListN.{length}
 use Rattle.value.proofs.Tests.{cases, same?, goes, stops, says×}
 use Rattle.load.specs.Check.{checkOf, IsAccepted}
 use Rattle.load.specs.Refusal.{refusalNumber, refusalPlace}
-use Rattle.load.specs.Fault.{Between, CheckNumber}
 use Rattle.load.specs.declared.Checked.{Checked}
 use Rattle.load.specs.declared.Checked.the-variants.{Accepted, Refused as CheckRefused}
 use Rattle.load.specs.declared.Refusal.{Refusal}
@@ -31,7 +29,7 @@ use Rattle.remus.specs.Turn.{Turn, numberOf, Asked, fine, asked, askedOf
 use Rattle.remus.specs.Turn.{turnOf}
 use Rattle.remus.specs.Walk.{Input}
 use Rattle.remus.specs.Claim.{Ends, completed, too-deep, no-room}
-use Rattle.remus.specs.Fault.{Fault, program, words, image, brought, FirstFault, TurnNumbers}
+use Rattle.remus.specs.Fault.{Fault, program, words, image, brought, FirstFault, TurnNumber, TurnNumbers}
 use Rattle.remus.specs.declared.Turned.{Turned}
 use Rattle.remus.specs.declared.Turned.the-variants.{Done, Refused}
 use Rattle.remus.proofs.Fits.{given-asking, asking, asking-number, fits}
@@ -126,7 +124,7 @@ first-fault p m rd sk w not-14 not-15 = (
 
 -- ---- the numbers
 
-fault-told : {p m rd sk : List ℕ} {n q : ℕ} → Fault p m rd sk n q → CheckNumber n ⊎ Between 8 15 n
+fault-told : {p m rd sk : List ℕ} {n q : ℕ} → Fault p m rd sk n q → TurnNumber n
 fault-told (program f) = inl (fault-number f)
 fault-told (words a n) = inr (omega arith, omega arith)
 fault-told (image a l f) = inr (omega arith, omega arith)
@@ -135,7 +133,7 @@ fault-told (brought a l s f) = let b = asking-number f in inr (omega arith, omeg
 pub turn-numbers : TurnNumbers
 turn-numbers p m rd sk = by (turnOf p m rd sk .answer) refl
   where
-    told : (w : Refusal) → turnOf p m rd sk .answer ≡ Refused w → CheckNumber (refusalNumber w) ⊎ Between 8 15 (refusalNumber w)
+    told : (w : Refusal) → turnOf p m rd sk .answer ≡ Refused w → TurnNumber (refusalNumber w)
     told w e =
         ⊎-elim (λ q. inr (omega arith, omega arith))
         (λ x.
@@ -143,7 +141,6 @@ turn-numbers p m rd sk = by (turnOf p m rd sk .answer) refl
         (same? (refusalNumber w) 15))
         (same? (refusalNumber w) 14)
 
-    by : (a : Turned) → turnOf p m rd sk .answer ≡ a →
-        CheckNumber (numberOf (turnOf p m rd sk .answer)) ⊎ Between 8 15 (numberOf (turnOf p m rd sk .answer))
+    by : (a : Turned) → turnOf p m rd sk .answer ≡ a → TurnNumber (numberOf (turnOf p m rd sk .answer))
     by (Done u) e = rw e (inl (inl (omega arith)))
     by (Refused w) e = rw e (told w e)

@@ -1,6 +1,6 @@
 -- What a turn brings: 10 to 13 refuse it exactly for its first fault (`asking`), and not at all just where it is as it
 -- should be (`fits`). With the law between the test and the proposition on values of a kind.
-use Prim.Native.Nat.{ℕ, zero, suc, _+_, _*_, _≤_, _<_}
+use Prim.Native.Nat.{ℕ, zero, suc, _+_, _*_, _<_}
 use mathlib.Core.Path.{_≡_, refl, sym, _∙_, ap, subst}
 use mathlib.Core.Bool.{Bool, true}
 use mathlib.Core.Logic.{_↔_, _⊎_, inl, inr, _≢_}
@@ -10,7 +10,8 @@ use lib.ListN.{length}
 use Rattle.value.specs.Test.{_and_, _<?_, _=?_}
 use Rattle.value.specs.Value.{markOf, value}
 use Rattle.value.specs.declared.Value.{Value}
-use Rattle.value.proofs.Tests.{cases, clash, lt!, lt×, lt?, lt×?, le!, le×, le?, eq!, eq×, eq?, both!, both?, either!, or! }
+use Rattle.value.proofs.Tests.{cases, clash, lt!, lt×, lt?, lt×?, le!, le×, le?, eq!, eq×, eq?, both!, both?, either! }
+use Rattle.value.proofs.Tests.{or! }
 use Rattle.value.proofs.Tests.{or?, goes, stops, guards, Says, says-lt, says-le, says-eq, says×, says-guard}
 use Rattle.value.proofs.Sweeps.{Swept, swept, sweeps?}
 use Rattle.program.specs.Bytes.{globals, globalKind, mainOf}

@@ -1,5 +1,5 @@
--- All starred cases of 01 and those of the requests, as one table with a single claim: what each row asks, the definitions
--- answer as the row says. Sizes, and n and u with them, are those of 02 (viii).
+-- All starred cases of 01 and those of the requests, as one table with a single claim: what each row asks, the
+-- definitions answer as the row says. Sizes, and n and u with them, are those of 02 (viii).
 use Prim.Native.Nat.{ℕ, zero, suc, _+_, _*_}
 use mathlib.Core.Path.{_≡_, refl}
 use mathlib.Core.Bool.{true, false}
@@ -159,7 +159,7 @@ aboutCheck =
     ∷ checked graded 0 19  -- 02 (iv)
     -- 02 (vi): the toggle with one command out of order among those that deploy, supply, run and read at location 11
     ∷ checked (withCommand toggle 190 (command 5 0 3 11 0)) 6 190  -- source 0 again
-    ∷ checked (withCommand (withCommand toggle 206 (command 8 0 1 0 0)) 214 (command 8 0 1 0 0)) 6 214  -- the sink again
+    ∷ checked (withCommand (withCommand toggle 206 (command 8 0 1 0 0)) 214 (command 8 0 1 0 0)) 6 214  -- the sink
     ∷ checked (withCommand toggle 190 (command 6 0 0 11 0)) 19 190  -- React before source 1 is supplied
     ∷ checked (withCommand toggle 198 (command 7 0 0 11 0)) 19 198  -- Consume before React
     ∷ checked (withCommand toggle 206 (command 6 0 0 11 0)) 20 206  -- a second React

@@ -1,6 +1,6 @@
--- For which fault a turn is refused before its first step, by number and place. Each case says what its fault is and that
--- what comes before it is right, so that nothing here speaks of a ladder of tests: 01, "Check, start, turn". Proved in
--- proofs/FirstFault.antt: `first-fault`, `turn-numbers`.
+-- For which fault a turn is refused before its first step, by number and place: 01, "Check, start, turn". Each case
+-- says what its fault is and that what comes before it is right, so that nothing here speaks of a ladder of tests.
+-- Proved in proofs/FirstFault.antt: `first-fault`, `turn-numbers`.
 use Prim.Native.Nat.{ℕ, _+_, _*_, _≤_, _<_}
 use mathlib.Core.Path.{_≡_}
 use mathlib.Core.Logic.{_↔_, _≢_, _⊎_}
@@ -56,9 +56,9 @@ FirstFault =
     (p m rd sk : List ℕ) (w : Refusal) → refusalNumber w ≢ 14 → refusalNumber w ≢ 15
     → (turnOf p m rd sk .answer ≡ Refused w) ↔ Fault p m rd sk (refusalNumber w) (refusalPlace w)
 
--- the numbers that a turn can give at all
+-- the numbers that a turn can give at all: the check's, and 8 to 15
+abbrev pub TurnNumber : ℕ → Type 0
+TurnNumber n = CheckNumber n ⊎ Between 8 15 n
+
 abbrev pub TurnNumbers : Type 0
-TurnNumbers =
-    (p m rd sk : List ℕ) →
-    let n = numberOf (turnOf p m rd sk .answer) in
-    CheckNumber n ⊎ Between 8 15 n
+TurnNumbers = (p m rd sk : List ℕ) → TurnNumber (numberOf (turnOf p m rd sk .answer))

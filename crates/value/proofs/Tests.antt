@@ -310,7 +310,8 @@ says-need {t = false} n f g = ((λ e. absurd (omega arith)), (λ h. absurd (fals
 
 -- A ladder comes to an answer at its first rung, where A does not hold, or past it.
 module _ {A : Type 0} where
-  pub says-rung : {t : Bool} → Says t A → (n m rest : ℕ) → (need t n rest ≡ m) ↔ (((A → ⊥) × (n ≡ m)) ⊎ (A × (rest ≡ m)))
+  pub says-rung : {t : Bool} → Says t A → (n m rest : ℕ) →
+      (need t n rest ≡ m) ↔ (((A → ⊥) × (n ≡ m)) ⊎ (A × (rest ≡ m)))
   unfolding pick
   says-rung {t = true} s n m rest =
       let a = s .0 refl in

@@ -2,28 +2,30 @@
 use Prim.Native.Nat.{ℕ, _+_, _*_, _-_, _/_, _%_, _≤_, _<_}
 use mathlib.Core.Path.{_≡_, refl, sym, _∙_, ap, ap₂, subst}
 use mathlib.Core.Bool.{Bool, false, not}
-use mathlib.Core.Logic.{_↔_, ⊎-elim, Iff·trans}
+use mathlib.Core.Logic.{_↔_, ⊎-elim}
 use mathlib.Core.List.{List}
 use native.Mathlib.Omega.{arith}
 use native.Mathlib.Nat.{mul-le-mul-left, mul-suc}
 use Rattle.value.specs.Test.{sweep, _<?_, _=?_, _or_}
-use Rattle.value.specs.Value.{reactorKind, truthKind}
+use Rattle.value.specs.Value.{reactorKind}
 use Rattle.value.proofs.Tests.{clash, below, same?, lt!, lt×, lt?, lt×?, le×, le×?, eq!, eq?, eq×?, left×, right×}
-use Rattle.value.proofs.Tests.{true-and, yes, no, implies, Says, says-lt, says-le, says-eq, says-and, says×}
+use Rattle.value.proofs.Tests.{true-and, yes, no, implies, Says, says-le, says-eq, says-and, says×}
 use Rattle.value.proofs.Sweeps.{Passes, swept}
-use Rattle.program.specs.Bytes.{byte, headerEnd, shapes, reactors, globals, globalKind, shapeAt, sourcesIn, sinksIn}
-use Rattle.program.specs.Bytes.{sourceKind, sinkKind, entryAt, shapeOf, declared, running, mainOf, tablesEnd}
+use Rattle.program.specs.Bytes.{headerEnd, shapes, reactors, globals, globalKind, shapeAt}
+use Rattle.program.specs.Bytes.{entryAt, shapeOf, mainOf, tablesEnd}
 use Rattle.load.specs.Tables.{between, headerLegal, portLegal, shapeLegal, mainLegal, entryLegal, tableLegal}
 use Rattle.load.specs.Rules.{HeaderRule, ShapeRule, MainRule}
 use Rattle.load.specs.Fault.{Between, Port, HeaderFault, format, shape-count, reactor-count, global-count}
-use Rattle.load.specs.Fault.{spare-header, TableFault, global-kind, source-count, sink-count, source-kind, sink-kind}
+use Rattle.load.specs.Fault.{spare-header, TableFault, global-kind, source-count, sink-count, source-kind}
+use Rattle.load.specs.Fault.{sink-kind}
 use Rattle.load.specs.Fault.{no-shape, main-shape, D-count, R-count, spare-entry, Lowest}
 use Rattle.load.proofs.Exact.Bounds.{main-last}
 use Rattle.load.proofs.Exact.Widths.{chosen, rows, row-of, column-of, sixteen, first-four}
-use Rattle.load.proofs.Exact.Bytes.{format-byte, shapes-byte, reactors-byte, globals-byte, zero-byte, sources-byte}
+use Rattle.load.proofs.Exact.Bytes.{format-byte, shapes-byte, reactors-byte, globals-byte, zero-byte}
+use Rattle.load.proofs.Exact.Bytes.{sources-byte}
 use Rattle.load.proofs.Exact.Bytes.{sinks-byte, source-byte, sink-byte, shape, shape-byte, declared-byte}
 use Rattle.load.proofs.Exact.Bytes.{running-byte, last-byte, main-legal, global-byte, globals-end, shapes-end}
-use Rattle.load.proofs.Exact.Bytes.{entries-end, header-first}
+use Rattle.load.proofs.Exact.Bytes.{entries-end}
 
 -- ---- a sweep, where a place fails its test exactly if it is at fault and those before it passed
 
@@ -45,7 +47,9 @@ module _ (ok : ℕ → Bool) (F : ℕ → Type 0) (from n end : ℕ) (e : from +
   pub none-exact : Says (place =? end) ((i : ℕ) → F i → ⊥)
   none-exact = (
     (λ q i f. not-before i (let w : place ≡ end = eq? q in let b : i < end = bounds i f .1 in omega arith) f),
-    (λ h. eq! (⊎-elim (λ l. absurd (h place (at-fault l))) (λ l. let t = swept ok from n .to in omega arith) (below place end))),
+    (λ h.
+        let t = swept ok from n .to in
+        eq! (⊎-elim (λ l. absurd (h place (at-fault l))) (λ l. omega arith) (below place end))),
   )
 
   pub lowest-found : (place =? end) ≡ false → Lowest F place
@@ -152,8 +156,10 @@ module _ (p : List ℕ) where
     table-bounds i (global-kind l m h) = (omega arith, omega (arith, globals-end p, shapes-end p, entries-end p))
     table-bounds i (source-count {s} l h) = let w = in-shape s 0 l (omega arith) in (omega arith, omega arith)
     table-bounds i (sink-count {s} l h) = in-shape s 1 l (omega arith)
-    table-bounds i (source-kind {s} {x} l m h) = let w = in-shape s (2 + x) l (omega arith) in (omega arith, omega arith)
-    table-bounds i (sink-kind {s} {x} l m h) = let w = in-shape s (9 + x) l (omega arith) in (omega arith, omega arith)
+    table-bounds i (source-kind {s} {x} l m h) =
+        let w = in-shape s (2 + x) l (omega arith) in (omega arith, omega arith)
+    table-bounds i (sink-kind {s} {x} l m h) =
+        let w = in-shape s (9 + x) l (omega arith) in (omega arith, omega arith)
     table-bounds i (no-shape {r} l h) = let w = in-entry r 0 l (omega arith) in (omega arith, omega arith)
     table-bounds i (main-shape l h) =
         let w = in-entry (mainOf p) 0 (main-last header) (omega arith) in (omega arith, omega arith)
@@ -175,7 +181,8 @@ module _ (p : List ℕ) where
     main-says : (r : ℕ) → r ≡ mainOf p → Before (entryAt p r) → shapeOf p r < shapes p →
         Says (mainLegal p (shapeOf p r)) (MainRule p)
     main-says r e =
-        subst (λ q. Before (entryAt p q) → shapeOf p q < shapes p → Says (mainLegal p (shapeOf p q)) (MainRule p)) (sym e)
+        subst
+        (λ q. Before (entryAt p q) → shapeOf p q < shapes p → Says (mainLegal p (shapeOf p q)) (MainRule p)) (sym e)
         (λ before l. main-legal p (shapes-right (mainOf p) (shapeOf p (mainOf p)) l before))
 
     -- what an entry's first byte is asked beyond its range
@@ -199,7 +206,8 @@ module _ (p : List ℕ) where
         (λ x m e.
         subst (TableFault p) (omega arith) (sink-kind l m (fails (sink-byte p s x m) (port-says s _ x _) .0 e)))
 
-    entry-first : (r : ℕ) → r < reactors p → Before (entryAt p r) → entryLegal p r 0 ≡ false → TableFault p (entryAt p r)
+    entry-first : (r : ℕ) → r < reactors p → Before (entryAt p r) → entryLegal p r 0 ≡ false →
+        TableFault p (entryAt p r)
     entry-first r l before e =
         ⊎-elim
         (λ m.
@@ -258,10 +266,12 @@ module _ (p : List ℕ) where
 
     -- and back
 
-    at-shape : (s k i : ℕ) → s < shapes p → k < 16 → shapeAt p s + k ≡ i → shapeLegal p s k ≡ false → tableLegal p i ≡ false
+    at-shape : (s k i : ℕ) → s < shapes p → k < 16 → shapeAt p s + k ≡ i → shapeLegal p s k ≡ false →
+        tableLegal p i ≡ false
     at-shape s k i l m q e = ap (tableLegal p) (sym q) ∙ shape-test s k l m ∙ e
 
-    at-entry : (r k i : ℕ) → r < reactors p → k < 4 → entryAt p r + k ≡ i → entryLegal p r k ≡ false → tableLegal p i ≡ false
+    at-entry : (r k i : ℕ) → r < reactors p → k < 4 → entryAt p r + k ≡ i → entryLegal p r k ≡ false →
+        tableLegal p i ≡ false
     at-entry r k i l m q e = ap (tableLegal p) (sym q) ∙ entry-test r k l m ∙ e
 
     table-back : {i : ℕ} → Before i → TableFault p i → tableLegal p i ≡ false

@@ -136,7 +136,8 @@ module _ (p : List ℕ) where
   -- ---- entries: the same, by columns
 
   module _ (r : ℕ) where
-    pub shape-byte : entryLegal p r 0 ≡ ((shapeOf p r <? shapes p) and (not (r =? mainOf p) or mainLegal p (shapeOf p r)))
+    pub shape-byte :
+        entryLegal p r 0 ≡ ((shapeOf p r <? shapes p) and (not (r =? mainOf p) or mainLegal p (shapeOf p r)))
     unfolding entryLegal shapeOf pick _=?_
     shape-byte = ap (λ (i : ℕ). (byte p i <? shapes p) and (not (r =? mainOf p) or mainLegal p (byte p i))) (omega arith)
 

@@ -79,7 +79,9 @@ module _ (p : List ℕ) (r : ℕ) where
   unfolding complete
   complete-exact s g =
       Iff·trans says-eq (Iff·trans (sweeps (λ l. settled (standingAt s l)) 0 174 174 refl) (
-        (λ h l. exact-at s g l .0 (cases (l <? 174) (λ y. h l (omega arith) (lt? y)) (λ y. beyond s (g .sized) l (lt×? y)))),
+        (λ h l.
+            exact-at s g l .0
+            (cases (l <? 174) (λ y. h l (omega arith) (lt? y)) (λ y. beyond s (g .sized) l (lt×? y)))),
         (λ h i l m. exact-at s g i .1 (h i)),
       ))
 

@@ -1,6 +1,6 @@
 -- A program is refused for its first fault, with its place: `first-fault`, and with it `check-numbers`.
 use Prim.Native.Nat.{ℕ, zero, suc, _+_, _-_, _≤_, _<_}
-use mathlib.Core.Path.{_≡_, refl, sym, _∙_, ap, subst, subst₂}
+use mathlib.Core.Path.{_≡_, refl, sym, _∙_, ap, subst₂}
 use mathlib.Core.Bool.{Bool, true, false}
 use mathlib.Core.Logic.{_↔_, _≢_, inl, inr, ⊎-elim, Iff·trans}
 use mathlib.Core.List.{List}
@@ -23,10 +23,11 @@ use Rattle.load.specs.Order.{OutOfOrder, source-again, sink-again, early
 use Rattle.load.specs.Order.{second-react, second-poly, not-lower}
 use Rattle.load.specs.Accepted.{TablesRight, ReactorAccepted}
 use Rattle.load.specs.Fault.{Between, HeaderFault, TableFault, Lowest, First, misformed, withdrawn, misplaced}
-use Rattle.load.specs.Fault.{unlike, disordered, Passed, Lacks, react-missing, poly-missing, sink-missing, Reached}
-use Rattle.load.specs.Fault.{Fault, length-wrong, header-byte, tables-cut, table-byte, not-whole, command, missing}
+use Rattle.load.specs.Fault.{unlike, disordered, Passed, Lacks, react-missing, poly-missing, sink-missing}
+use Rattle.load.specs.Fault.{Reached}
+use Rattle.load.specs.Fault.{Fault, length-wrong, header-byte, tables-cut, table-byte, not-whole, command}
+use Rattle.load.specs.Fault.{missing}
 use Rattle.load.specs.Fault.{FirstFault, CheckNumber, CheckNumbers}
-use Rattle.load.specs.declared.Scan.{Scan}
 use Rattle.load.specs.declared.Scanned.{Scanned}
 use Rattle.load.specs.declared.Refusal.{Refusal}
 use Rattle.load.specs.declared.Refusal.the-variants.{ProgramLength, TableByte, Missing}
@@ -204,8 +205,8 @@ module _ (p : List ℕ) (t : TablesRight p) where
   accepted-not z w e = let x : _≡_ {A = ℕ} 0 1 = cc in omega arith
 
   module _ (w : Refusal) where
-    command-fault : (r : ℕ) → Reached p r → whole r .code ≢ 0 → Refused (atCommand (whole r .code) (whole r .place)) ≡ Refused w →
-        Fault p (refusalNumber w) (refusalPlace w)
+    command-fault : (r : ℕ) → Reached p r → whole r .code ≢ 0 →
+        Refused (atCommand (whole r .code) (whole r .place)) ≡ Refused w → Fault p (refusalNumber w) (refusalPlace w)
     command-fault r a d e =
         let f = scan-found p r (commandsIn p r) (beginOf p r) d in
         let k = f .0 in
@@ -214,8 +215,8 @@ module _ (p : List ℕ) (t : TablesRight p) where
         let number = at-command (commandAt p r k) first in
         let l = f .1 in
         let passed = passed-exact p r t (a .1) k (omega arith) .0 (f .2) in
-        as-fault p _ w (ap (λ (v : Scanned). Refused (atCommand (v .code) (v .place))) (sym s) ∙ e) (number .0) (number .1)
-        (command a (f .1) passed first)
+        as-fault p _ w (ap (λ (v : Scanned). Refused (atCommand (v .code) (v .place))) (sym s) ∙ e)
+        (number .0) (number .1) (command a (f .1) passed first)
 
     reactor-found : (r : ℕ) → r < reactors p → ((q : ℕ) → q < r → ReactorAccepted p q) → accepts r ≡ false →
         rest (reactors p) 0 ≡ Refused w → Fault p (refusalNumber w) (refusalPlace w)
@@ -248,11 +249,12 @@ module _ (p : List ℕ) (t : TablesRight p) where
 
   -- ---- and back
 
-  accepted-before : (r : ℕ) → r < reactors p → ((q : ℕ) → q < r → ReactorRule p q) → (q : ℕ) → q < r → ReactorAccepted p q
+  accepted-before : (r : ℕ) → r < reactors p → ((q : ℕ) → q < r → ReactorRule p q) →
+      (q : ℕ) → q < r → ReactorAccepted p q
   accepted-before r low h q l = reactor-exact p q t (omega arith) .1 (h q l)
 
-  command-refuses : {r k n : ℕ} → r < reactors p → ((q : ℕ) → q < r → ReactorRule p q) → k < commandsIn p r → Passed p r k →
-      First p r k (cmdOf p r k) n → rest (reactors p) 0 ≡ Refused (atCommand n (commandAt p r k))
+  command-refuses : {r k n : ℕ} → r < reactors p → ((q : ℕ) → q < r → ReactorRule p q) → k < commandsIn p r →
+      Passed p r k → First p r k (cmdOf p r k) n → rest (reactors p) 0 ≡ Refused (atCommand n (commandAt p r k))
   command-refuses {r} {k} {n} low h few passed f =
       let s = stopped p r t low k few (passed-exact p r t low k (omega arith) .1 passed) n f in
       reach r low (accepted-before r low h)
@@ -260,8 +262,8 @@ module _ (p : List ℕ) (t : TablesRight p) where
       (λ z. first-counts f (ap (λ (v : Scanned). v .code) (sym s) ∙ z))
       ∙ ap (λ (v : Scanned). Refused (atCommand (v .code) (v .place))) s
 
-  missing-refuses : {r : ℕ} → r < reactors p → ((q : ℕ) → q < r → ReactorRule p q) → Passed p r (commandsIn p r) → Lacks p r →
-      rest (reactors p) 0 ≡ Refused (Missing (entryAt p r))
+  missing-refuses : {r : ℕ} → r < reactors p → ((q : ℕ) → q < r → ReactorRule p q) →
+      Passed p r (commandsIn p r) → Lacks p r → rest (reactors p) 0 ≡ Refused (Missing (entryAt p r))
   missing-refuses {r} low h passed lacks =
       let z = passed-exact p r t low (commandsIn p r) (omega arith) .1 passed in
       reach r low (accepted-before r low h)
@@ -317,8 +319,8 @@ module _ (p : List ℕ) where
     -- no table byte at fault, and the whole length: the tables are right
     right : length p ≤ mostBytes → ((i : ℕ) → TableFault p i → ⊥) → length p ≡ wholeLength p → TablesRight p
     right few none e =
-        let passes = sweeps? (tableLegal p) headerEnd (tablesEnd p - headerEnd) (tablesEnd p) count .0 (table-says .1 none) in
-        let s = tables p h .0 passes in
+        let swept = sweeps? (tableLegal p) headerEnd (tablesEnd p - headerEnd) (tablesEnd p) count in
+        let s = tables p h .0 (swept .0 (table-says .1 none)) in
         record {
           few-bytes = few;
           header = h;
@@ -374,7 +376,7 @@ module _ (p : List ℕ) where
             | inr b ↦ elim (says-guard Is says-le _ _ .0 (b .1)) [
               | inl c ↦
                   as-fault p _ w (c .1) refl refl
-                  (tables-cut (a .0) (b .0) (⊎-elim (λ l. l) (λ l. absurd (c .0 l)) (below (length p) (tablesEnd p))))
+                  (tables-cut (a .0) (b .0) (omega (arith, c .0)))
               | inr c ↦ found-table (c .0, a .0 .1) (b .0) (c .1)
             ]
           ]

@@ -1,5 +1,5 @@
 -- A command is refused for the first test that it fails, where the tables hold what they should: `refusal-first`.
-use Prim.Native.Nat.{ℕ, _≤_, _<_}
+use Prim.Native.Nat.{ℕ, _≤_}
 use mathlib.Core.Path.{_≡_, refl, sym, _∙_, subst}
 use mathlib.Core.Logic.{_↔_, _≢_, inl, inr, ⊎-map, Iff·trans}
 use mathlib.Core.List.{List}
@@ -7,7 +7,7 @@ use native.Mathlib.Omega.{arith}
 use Rattle.value.specs.Test.{need, _<?_}
 use Rattle.value.proofs.Tests.{cases, Says, says×, says-rung}
 use Rattle.program.specs.Bytes.{declared, commandsIn}
-use Rattle.program.specs.Command.{Cmd, cmdOf, decode, bytesOf, sequenceOf, allocMono, makePoly, constant, global, supply}
+use Rattle.program.specs.Command.{Cmd, cmdOf, bytesOf, sequenceOf, allocMono, makePoly, constant, global, supply}
 use Rattle.program.specs.Command.{react, consume, sink, allocPoly, primitive, none}
 use Rattle.load.specs.Scan.{inSequence, formed, remaining, located, agreed, disorder, refusalOf}
 use Rattle.load.specs.Rules.{ZeroBytes}
@@ -42,8 +42,10 @@ places-map f g h none u = u
 
 located-as : (p : List ℕ) (r k : ℕ) → k ≤ commandsIn p r → (c : Cmd) → PlacedAt p r k c ↔ Located p r k c
 located-as p r k few c = (
-  places-map (λ l. value-exact p r k l few .0) (λ l. deployment-exact p r k l few .0) (λ l. point-exact p r k l few .0) c,
-  places-map (λ l. value-exact p r k l few .1) (λ l. deployment-exact p r k l few .1) (λ l. point-exact p r k l few .1) c,
+  places-map (λ l. value-exact p r k l few .0) (λ l. deployment-exact p r k l few .0)
+      (λ l. point-exact p r k l few .0) c,
+  places-map (λ l. value-exact p r k l few .1) (λ l. deployment-exact p r k l few .1)
+      (λ l. point-exact p r k l few .1) c,
 )
 
 -- ---- one command
@@ -129,7 +131,8 @@ module _ {p : List ℕ} {r k : ℕ} {s : Scan} (g : Holding p r k s) (t : Tables
   -- past 3, past 25, past 4
   formed-past : Formed p r k c → {n : ℕ} → from-25 ≡ n → refusalOf p r s (bytesOf p r k) c ≡ n
   formed-past f {n} e =
-      ladder ∙ says-rung sequence-test 3 n from-3 .1 (inr (f .0, says-rung formed-test 3 n from-25 .1 (inr ((f .1, f .2), e))))
+      let bytes = says-rung formed-test 3 n from-25 .1 (inr ((f .1, f .2), e)) in
+      ladder ∙ says-rung sequence-test 3 n from-3 .1 (inr (f .0, bytes))
 
   remaining-past : Formed p r k c → Remaining c → {n : ℕ} → from-4 ≡ n → refusalOf p r s (bytesOf p r k) c ≡ n
   remaining-past f y {n} e = formed-past f (says-rung (remaining-says c) 25 n from-4 .1 (inr (y, e)))
@@ -144,7 +147,8 @@ module _ {p : List ℕ} {r k : ℕ} {s : Scan} (g : Holding p r k s) (t : Tables
       ∙ cases (inSequence (sequenceOf c) (s .next <? declared p r))
       (λ y.
       let q = sequence-test .0 y in
-      says-rung sequence-test 3 3 from-3 .1 (inr (q, says-rung formed-test 3 3 from-25 .1 (inl ((λ f. h (q, f .0, f .1)), refl)))))
+      let bytes = says-rung formed-test 3 3 from-25 .1 (inl ((λ f. h (q, f .0, f .1)), refl)) in
+      says-rung sequence-test 3 3 from-3 .1 (inr (q, bytes)))
       (λ y. says-rung sequence-test 3 3 from-3 .1 (inl (says× sequence-test .0 y, refl)))
   given (withdrawn f h) = formed-past f (says-rung (remaining-says c) 25 25 from-4 .1 (inl (h, refl)))
   given (misplaced f y h) = remaining-past f y (says-rung located-test 4 4 from-5 .1 (inl (h, refl)))

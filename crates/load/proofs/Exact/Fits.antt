@@ -1,5 +1,5 @@
--- The rules, read as the check reads them: what one command asks of those before it. `Fits p r k c`: c may be command k of
--- reactor r.
+-- The rules, read as the check reads them: what one command asks of those before it. `Fits p r k c`: c may be command
+-- k of reactor r.
 use Prim.Native.Nat.{ℕ, _<_}
 use mathlib.Core.Path.{_≡_}
 use mathlib.Core.List.{List}

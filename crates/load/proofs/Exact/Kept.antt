@@ -131,7 +131,8 @@ module _ {p : List ℕ} {r k : ℕ} {s : Scan}
       let seven = t .every-shape _ (held .1 .1) .few-sources in
       serves _ e f b (standingAt s b + 2 ^ x) (f .placed .1) refl (λ l q. q) refl
       (deployed-supply p r _ k b (standingAt s b) x a seven (f .agreed .0) e (f .timely .0) (f .timely .1) (held .0))
-  change (react b) e f = serves _ e f b reacted (f .placed) refl (λ l q. q) refl (inl (refl, already-now p r (Reacts p r b) k e))
+  change (react b) e f =
+      serves _ e f b reacted (f .placed) refl (λ l q. q) refl (inl (refl, already-now p r (Reacts p r b) k e))
   change (consume x b) e f =
       gives _ e f _ refl (λ l q. q) (λ i l. ap (λ m. sinkKind p m x) (shape-of-deployment g b (f .placed)))
   change (sink x a) e f =

@@ -12,7 +12,8 @@ use Rattle.program.specs.Bytes.{commandsIn}
 use Rattle.program.specs.Command.{Cmd, cmdOf, givesValue, allocMono, makePoly, allocPoly, none}
 use Rattle.program.specs.Location.{sources, sinks, commandLoc, sinkLoc, locations, cmdAt}
 use Rattle.load.specs.Rules.{Value, Deployment, Point}
-use Rattle.load.proofs.Exact.Class.{Class, a-value, a-point, a-deployment, a-sink, nothing, classOf, IsMade, clash}
+use Rattle.load.proofs.Exact.Class.{Class, a-value, a-point, a-deployment, a-sink, nothing, classOf, IsMade}
+use Rattle.load.proofs.Exact.Class.{clash}
 use Rattle.load.proofs.Exact.Class.{shows-as, value-class}
 
 -- what stands at location l after the first k commands

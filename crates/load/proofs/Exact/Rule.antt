@@ -62,13 +62,15 @@ module _ (p : List ℕ) (r : ℕ) where
     deployment-there : (b : ℕ) → Deployment p r (commandLoc p r k) b → classAt p r k b ≡ a-deployment
     unfolding sequenceOf
     deployment-there b (inl m) =
-        deployment-exact p r k b few .1 (D-low b (allocMono (m .0)) refl (λ q. D≢neither (ap sequenceOf q)) (m .1), inl m)
+        let low = D-low b (allocMono (m .0)) refl (λ q. D≢neither (ap sequenceOf q)) (m .1) in
+        deployment-exact p r k b few .1 (low, inl m)
     deployment-there b (inr m) = deployment-exact p r k b few .1 (m .0, inr m)
 
     point-there : (b : ℕ) → Point p r b → classAt p r k b ≡ a-point
     unfolding sequenceOf
     point-there b m =
-        point-exact p r k b few .1 (D-low b (makePoly (m .0)) refl (λ q. D≢neither (ap sequenceOf q)) (m .1), m)
+        let low = D-low b (makePoly (m .0)) refl (λ q. D≢neither (ap sequenceOf q)) (m .1) in
+        point-exact p r k b few .1 (low, m)
 
   -- ---- a primitive's operands
 
@@ -109,7 +111,8 @@ module _ (p : List ℕ) (r : ℕ) where
   right k (react b) few f = deployments k b few (f .placed)
   right k (consume x b) few f = (deployments k b few (f .placed), f .agreed)
   right k (sink x a) few f = (values k a few .0 (f .placed), f .agreed .0, f .agreed .1)
-  right k (allocPoly a b) few f = (values k a few .0 (f .placed .0), point-exact p r k b few .0 (f .placed .1) .1, f .agreed)
+  right k (allocPoly a b) few f =
+      (values k a few .0 (f .placed .0), point-exact p r k b few .0 (f .placed .1) .1, f .agreed)
   right k (primitive x a b c) few f = (
     (f .ranged, f .remaining),
     operands-of (commandLoc p r k) (rowOf x .takes) a b c .0 (

@@ -40,7 +40,8 @@ module _ (p : List ℕ) (r : ℕ) where
       ap (onward (scanOf m p r) p r s (decode (bytesOf p r (s .next)))) q
       ∙ ap (λ j. scanOf m p r (afterOf p r s (decode (bytesOf p r j)))) e
 
-  pub scan-stops : (m : ℕ) (s : Scan) → refusal s ≢ 0 → scanOf (suc m) p r s ≡ scanned (refusal s) (commandAt p r (s .next)) s
+  pub scan-stops : (m : ℕ) (s : Scan) → refusal s ≢ 0 →
+      scanOf (suc m) p r s ≡ scanned (refusal s) (commandAt p r (s .next)) s
   unfolding scanOf
   scan-stops m s h = onward-stops (scanOf m p r) s (decode (bytesOf p r (s .next))) (refusal s) h
 

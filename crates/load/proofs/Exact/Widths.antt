@@ -4,7 +4,8 @@ use mathlib.Core.Path.{_≡_, _∙_, ap, subst, subst₂}
 use mathlib.Core.Bool.{Bool, true}
 use mathlib.Core.Logic.{_↔_}
 use native.Mathlib.Omega.{arith}
-use native.Mathlib.Nat.{div-add-mod', mod-lt, div-lt-iff-lt-mul, mul-add-div, div-eq-of-lt, mul-add-mod-self-left, mod-eq-of-lt, mul-comm, mul-suc, mul-le-mul-left, add-zero}
+use native.Mathlib.Nat.{div-add-mod', mod-lt, div-lt-iff-lt-mul, mul-add-div, div-eq-of-lt, mul-add-mod-self-left}
+use native.Mathlib.Nat.{mod-eq-of-lt, mul-comm, mul-suc, mul-le-mul-left, add-zero}
 use Rattle.value.specs.Test.{pick, _<?_}
 use Rattle.value.proofs.Tests.{cases, lt!, lt×, lt?, lt×?, picks}
 use Rattle.value.proofs.Sweeps.{Passes}
