@@ -1,7 +1,7 @@
 -- The check accepts exactly the programs that 01's rules allow: `exact`, both ways, for every string of bytes.
 -- Header and tables: Widths, Bytes. The ladder of refusals: Ladder, Parts. One reactor's scan says what its tables hold after each
 -- prefix of commands, as equations over that prefix: Holds, with what it takes and what follows. `kinds-agree` is in Reactor.
--- Order says for what a command out of order is refused.
+-- Order says for what a command out of order is refused; ByteFaults, First and Faults, for which fault a program is.
 -- Bounds has the counts that the rules give, Static and Deduced what stands before each command. Assumes nothing.
 pub mod Widths
 pub mod Bytes

@@ -1,5 +1,5 @@
 -- One turn: from what holds inside it to its claim, and to what the list of turns needs of it.
-use Prim.Native.Nat.{ℕ, _+_, _-_, _≤_, _<_}
+use Prim.Native.Nat.{ℕ, _+_, _≤_}
 use mathlib.Core.Path.{_≡_, refl, ap, sym, _∙_, subst}
 use mathlib.Core.Bool.{true}
 use mathlib.Core.Logic.{_≢_, _↔_}
@@ -7,13 +7,12 @@ use mathlib.Core.List.{List}
 use native.Mathlib.Omega.{arith}
 use lib.ListN.{length}
 use Rattle.value.proofs.Tests.{goes}
-use Rattle.program.specs.Location.{sizeOf}
 use Rattle.load.specs.Check.{IsAccepted}
 use Rattle.load.specs.declared.Refusal.{Refusal}
 use Rattle.load.specs.declared.Refusal.the-variants.{NoRoom, TooDeep}
 use Rattle.load.specs.Refusal.{refusalNumber}
 use Rattle.load.proofs.Exact.Ladder.{accepted-size}
-use Rattle.image.specs.Memory.{mostWords, mostDepth, used}
+use Rattle.image.specs.Memory.{mostWords, used}
 use Rattle.image.specs.Sound.{Sound}
 use Rattle.image.specs.Passes.{sound, soundOf}
 use Rattle.image.specs.Start.{wordsLegal}
@@ -21,7 +20,8 @@ use Rattle.image.proofs.Memory.Each.{in-below}
 use Rattle.image.proofs.Starts.{words-legal}
 use Rattle.remus.specs.Turn.{Turn, Asked, fine, asked, askedOf, turnOf, byCheck, bySound, byAsked, byRun, refused as refused-turn}
 use Rattle.remus.specs.Walk.{State, Input, Walked, refused, stopped, left}
-use Rattle.remus.specs.Claim.{During, Allocates, Leaves, Fit, Ends, completed, too-deep, no-room, TurnClaim, Completed}
+use Rattle.remus.specs.Claim.{During, Allocates, TooDeepAt, NoRoomAt, Leaves, Fit, Ends, completed, too-deep}
+use Rattle.remus.specs.Claim.{no-room, TurnClaim, Completed}
 use Rattle.remus.specs.declared.Turned.the-variants.{Done, Refused}
 use Rattle.remus.proofs.Once.{walked-once}
 use Rattle.remus.proofs.Fits.{asking, asking-number, fits}
@@ -86,19 +86,18 @@ module _ (p w : List ℕ) (t : Input) (yes-program : IsAccepted p) (few : length
     asked-low : (v : Refusal) → 14 ≤ refusalNumber v → askedOf p w rd sk ≡ asked v → ⊥
     asked-low v h e = omega (arith, asking-number (asking p w rd sk v .0 e))
 
-    abbrev TooDeepAt : ℕ → Type 0
-    TooDeepAt q = (h : ℕ) × (m : List ℕ) × Allocates p w t q h m × (h + 1 ≡ 65)
-
-    abbrev NoRoomAt : ℕ → Type 0
-    NoRoomAt q = (h : ℕ) × (m : List ℕ) × Allocates p w t q h m × (h + 1 ≤ mostDepth) × (length w - used m < sizeOf p q)
-
     -- what a stop with v says of v
     abbrev Said : Refusal → Type 0
-    Said v = ((q : ℕ) → v ≡ TooDeep q → TooDeepAt q) × ((q : ℕ) → v ≡ NoRoom q → NoRoomAt q)
+    Said v = ((q : ℕ) → v ≡ TooDeep q → TooDeepAt p w t q) × ((q : ℕ) → v ≡ NoRoom q → NoRoomAt p w t q)
 
     said : (s : State) (v : Refusal) → Stop p w t s v → Said v
     said s v (deep {q} m o c a b d) = (
-      λ k e. let z : q ≡ k = cc in subst TooDeepAt z (length (s .pile), m, record { state = s; owner = o; command = c; point = a; is = b; height = refl }, d),
+      λ k e.
+          let z : q ≡ k = cc in
+          let at : Allocates p w t q (length (s .pile)) m =
+          record { state = s; owner = o; command = c; point = a; is = b; height = refl }
+          in
+          subst (TooDeepAt p w t) z (length (s .pile), m, at, d),
       λ k e. let z : _≡_ {A = ℕ} 0 1 = cc in absurd (omega arith),
     )
     said s v (full {q} m o c a b d g) = (
@@ -108,7 +107,7 @@ module _ (p w : List ℕ) (t : Input) (yes-program : IsAccepted p) (few : length
           let at : Allocates p w t q (length (s .pile)) m =
           record { state = s; owner = o; command = c; point = a; is = b; height = refl }
           in
-          subst NoRoomAt z (length (s .pile), m, at, omega (arith, inside .topmost s m o c a .2, d), g),
+          subst (NoRoomAt p w t) z (length (s .pile), m, at, omega (arith, inside .topmost s m o c a .2, d), g),
     )
 
     -- what a result with the answer v says of v
@@ -117,7 +116,7 @@ module _ (p w : List ℕ) (t : Input) (yes-program : IsAccepted p) (few : length
     says r (stopped {w = x} s e q k) v h a = let z : x ≡ v = cc in subst Said z (said s x (inside .stopping s x (record { allowed = e; comes = q }) k))
     says r (left s e q k) v h a = let z : _≡_ {A = ℕ} 0 1 = cc in absurd (omega arith)
 
-    deep-ends : (r : Turn) (q : ℕ) → Walked p w t r → (r .answer ≡ Refused (TooDeep q)) ↔ TooDeepAt q
+    deep-ends : (r : Turn) (q : ℕ) → Walked p w t r → (r .answer ≡ Refused (TooDeep q)) ↔ TooDeepAt p w t q
     deep-ends r q k = (
       λ e. says r k (TooDeep q) (omega arith) e .0 q refl,
       λ h.
@@ -125,7 +124,7 @@ module _ (p w : List ℕ) (t : Input) (yes-program : IsAccepted p) (few : length
           stop-answer r (a .state) (TooDeep q) k (deep (h .1) (a .owner) (a .command) (a .point) (a .is) (rw (a .height) (h .3))) (a .point .during),
     )
 
-    full-ends : (r : Turn) (q : ℕ) → Walked p w t r → (r .answer ≡ Refused (NoRoom q)) ↔ NoRoomAt q
+    full-ends : (r : Turn) (q : ℕ) → Walked p w t r → (r .answer ≡ Refused (NoRoom q)) ↔ NoRoomAt p w t q
     full-ends r q k = (
       λ e. says r k (NoRoom q) (omega arith) e .1 q refl,
       λ h.

@@ -61,6 +61,14 @@ module _ (p w : List ℕ) (t : Input) where
     pub is : Allocation p m owner command q
     pub height : length (state .pile) ≡ h
 
+  -- an allocation of reactor q would have depth 65
+  abbrev pub TooDeepAt : ℕ → Type 0
+  TooDeepAt q = (h : ℕ) × (m : List ℕ) × Allocates q h m × (h + 1 ≡ 65)
+
+  -- one that is not too deep has a larger size than there are words left
+  abbrev pub NoRoomAt : ℕ → Type 0
+  NoRoomAt q = (h : ℕ) × (m : List ℕ) × Allocates q h m × (h + 1 ≤ mostDepth) × (length w - used m < sizeOf p q)
+
   -- main leaves in state s
   pub record Leaves (s : State) : Type 0 where
     pub during : During s
@@ -105,12 +113,9 @@ module _ (p w : List ℕ) (t : Input) where
     -- what a turn that brings what it should comes to, and nothing else
     pub ends : (r : Turn) → Fit → Walked p w t r → Ends r
     -- "Its depth is the pile's height plus 1. At 65 the turn ends with 15;": and only then
-    pub deep : (r : Turn) (q : ℕ) → Walked p w t r
-        → (r .answer ≡ Refused (TooDeep q)) ↔ ((h : ℕ) × (m : List ℕ) × Allocates q h m × (h + 1 ≡ 65))
+    pub deep : (r : Turn) (q : ℕ) → Walked p w t r → (r .answer ≡ Refused (TooDeep q)) ↔ TooDeepAt q
     -- "else, if its size exceeds n less u at that moment, with 14": and only then
-    pub full : (r : Turn) (q : ℕ) → Walked p w t r
-        → (r .answer ≡ Refused (NoRoom q))
-        ↔ ((h : ℕ) × (m : List ℕ) × Allocates q h m × (h + 1 ≤ mostDepth) × (length w - used m < sizeOf p q))
+    pub full : (r : Turn) (q : ℕ) → Walked p w t r → (r .answer ≡ Refused (NoRoom q)) ↔ NoRoomAt q
     -- "When main leaves, the turn ends with 0.": and only then
     pub complete : (r : Turn) (u : ℕ) → Walked p w t r → (r .answer ≡ Done u) ↔ ((s : State) × Leaves s × (used (s .words) ≡ u))
     -- "A refused call leaves memory and sink space as at entry.", by 10 to 13 ("takes no step") or by 14 and 15 ("the words are then
