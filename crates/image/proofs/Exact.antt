@@ -170,4 +170,4 @@ exact-soundness p few m small = (
 
 -- the same, of a program that keeps the rules
 pub rules-soundness : (p : List ℕ) → Rules p → (m : List ℕ) → length m ≤ mostWords → (soundOf p m ≡ sound) ↔ Sound p m
-rules-soundness p rules = exact-soundness p (rules .header .few-reactors)
+rules-soundness p rules = exact-soundness p (rules .tables .header .few-reactors)

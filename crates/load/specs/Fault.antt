@@ -21,9 +21,8 @@ use Rattle.program.specs.Kind.{kindOf, Content}
 use Rattle.load.specs.Refusal.{refusalNumber, refusalPlace}
 use Rattle.load.specs.Check.{numberOf, checkOf}
 use Rattle.load.specs.Rules.{HeaderRule, MainRule, ZeroBytes, Value, Deployment, Point, Reacts, Allocates, Sets}
-use Rattle.load.specs.Rules.{ReactorRule}
+use Rattle.load.specs.Rules.{ReactorRule, TablesRight}
 use Rattle.load.specs.Order.{Never, OutOfOrder}
-use Rattle.load.specs.Accepted.{TablesRight}
 use Rattle.load.specs.declared.Refusal.{Refusal}
 use Rattle.load.specs.declared.Checked.the-variants.{Refused}
 
@@ -32,7 +31,7 @@ use Rattle.load.specs.declared.Checked.the-variants.{Refused}
 abbrev pub Between : ℕ → ℕ → ℕ → Type 0
 Between low high x = (low ≤ x) × (x ≤ high)
 
--- k may be the kind of port x, where shape s has `count` of them: a used port's is lower than the shape, any other's 0
+-- k may be the kind of port x, where shape s has `count` of them: below the kind of s itself, or 0 if x is not used
 abbrev pub Port : ℕ → ℕ → ℕ → ℕ → Type 0
 Port s count x k = (x < count → k < reactorKind s) × (count ≤ x → k ≡ 0)
 

@@ -9,8 +9,7 @@ use Rattle.program.specs.Bytes.{reactors, commandsIn}
 use Rattle.program.specs.Location.{commandLoc, shapeThere}
 use Rattle.program.specs.Kind.{kindOf}
 use Rattle.load.specs.Scan.{kindAt, isValue, isPoint, isDeployment, scanOf, beginOf}
-use Rattle.load.specs.Rules.{Value}
-use Rattle.load.specs.Accepted.{TablesRight}
+use Rattle.load.specs.Rules.{Value, TablesRight}
 use Rattle.load.specs.declared.Scan.{Scan}
 
 -- what the tables of reactor r hold after its first k commands: where a value stands, its kind, and the shape of each

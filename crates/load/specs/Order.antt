@@ -9,8 +9,7 @@ use Rattle.program.specs.Bytes.{reactors, sourcesIn, commandsIn}
 use Rattle.program.specs.Command.{Cmd, cmdOf, allocMono, supply, react, consume, sink, allocPoly}
 use Rattle.program.specs.Location.{shapeThere}
 use Rattle.load.specs.Scan.{located, agreed, disorder, scanOf, beginOf}
-use Rattle.load.specs.Rules.{Supplies, Reacts, Allocates, Sets}
-use Rattle.load.specs.Accepted.{TablesRight}
+use Rattle.load.specs.Rules.{Supplies, Reacts, Allocates, Sets, TablesRight}
 
 module _ (p : List ℕ) (r : ℕ) where
   -- of reactor r's first k commands none has P

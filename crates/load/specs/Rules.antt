@@ -150,17 +150,19 @@ module _ (p : List ℕ) (r : ℕ) where
 
 -- ---- a program
 
-pub record Rules (p : List ℕ) : Type 0 where
-  -- "At most 65,535 bytes"
+-- header, tables and length; all but the commands
+pub record TablesRight (p : List ℕ) : Type 0 where
   pub few-bytes : length p ≤ mostBytes
   pub header : HeaderRule p
-  -- "G kind bytes, each 0 or 1, for globals 1 to G."
   pub global-kinds : (x : ℕ) → 1 ≤ x → x ≤ globals p → globalKind p x ≤ truthKind
   pub every-shape : (s : ℕ) → s < shapes p → ShapeRule p s
   pub entries : (r : ℕ) → r < reactors p → EntryRule p r
   pub main : MainRule p
   -- the length is "what the counts call for"
   pub whole : length p ≡ wholeLength p
+
+pub record Rules (p : List ℕ) : Type 0 where
+  pub tables : TablesRight p
   pub every-reactor : (r : ℕ) → r < reactors p → ReactorRule p r
 
 -- Demand 2, exact acceptance: `exact` in proofs/Exact.antt.

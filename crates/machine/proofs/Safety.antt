@@ -53,4 +53,4 @@ module _ (p : List ℕ) (rules : Rules p) (m rd : List ℕ) (few : length m ≤ 
 pub sure : (p : List ℕ) (size : ℕ) → checkOf p ≡ Accepted size → Sure p
 sure p size e m rd few h =
     let rules = exact p .0 (ap numberOf e) in
-    safe p rules m rd few (exact-soundness p (rules .header .few-reactors) m few .0 h)
+    safe p rules m rd few (exact-soundness p (rules .tables .header .few-reactors) m few .0 h)

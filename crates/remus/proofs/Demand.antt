@@ -84,7 +84,7 @@ demand-three p m ts a started =
     let h = start-succeeds p m .0 started in
     subst (λ (v : List ℕ). Claim p v ts) (sym (ap (λ (s : Start). s .memory) (starts p m h)))
     (lists p (length m) (λ w t e image. holds p w t a (omega (arith, h .words .1)) image) (h .room)
-    (exact p .0 a .header) ts)
+    (exact p .0 a .tables .header) ts)
 
 pub refused-undone : (p : List ℕ) → IsAccepted p → Undoes p
 refused-undone p a = undoes p (exact p .0 a)

@@ -62,7 +62,7 @@ module _ (p m rd sk : List ℕ) where
     judged = rules-soundness p (exact p .0 a) m (l .1)
 
     placed : (q : ℕ) → (soundOf p m ≡ unsound q) ↔ FaultAt p m q
-    placed = exact-place p (exact p .0 a .header .few-reactors) m (l .1)
+    placed = exact-place p (exact p .0 a .tables .header .few-reactors) m (l .1)
 
     at-asked : Sound p m → (v : Refusal) → askedOf p m rd sk ≡ asked v → Refuses v
     unfolding byAsked

@@ -9,8 +9,7 @@ use lib.ListN.{replicate, length-replicate}
 use Rattle.program.specs.Bytes.{reactors, shapeOf, sourceKind}
 use Rattle.program.specs.Location.{sources, sinks, commandLoc, sinkLoc, locations}
 use Rattle.load.specs.Scan.{standingAt, kindAt, stand, withSources, withSinks, beginOf, aValue, unsetSink}
-use Rattle.load.specs.Rules.{Sets}
-use Rattle.load.specs.Accepted.{TablesRight}
+use Rattle.load.specs.Rules.{Sets, TablesRight}
 use Rattle.load.specs.declared.Scan.{Scan}
 use Rattle.value.proofs.Zeros.{zeros-at}
 use Rattle.value.proofs.Below.{last-or-below}

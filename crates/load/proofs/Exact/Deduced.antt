@@ -10,8 +10,7 @@ use Rattle.program.specs.Bytes.{reactors, shapeOf, sourcesIn, sourceKind, sinkK
 use Rattle.program.specs.Command.{Cmd, cmdOf, sequenceOf, givesValue, D, allocMono, makePoly, constant, global, supply, react, consume, sink, allocPoly, primitive, none}
 use Rattle.program.specs.Location.{sources, commandLoc, cmdAt, shapeMade, shapeThere}
 use Rattle.program.specs.Kind.{kindMade, kindIn, kindOf}
-use Rattle.load.specs.Rules.{Deployment, Supplies, Reacts, Allocates, Sets, ReactorRule, Rules}
-use Rattle.load.specs.Accepted.{TablesRight}
+use Rattle.load.specs.Rules.{Deployment, Supplies, Reacts, Allocates, Sets, ReactorRule, Rules, TablesRight}
 use Rattle.load.proofs.Exact.Seen.{one}
 use Rattle.load.proofs.Exact.Class.{a-value, a-point, a-deployment, IsMade, shows-as, clash}
 use Rattle.load.proofs.Exact.Places.{classAt, loc-lt, cmd-there, by-place, value-low, made-where, point-exact}
@@ -21,7 +20,7 @@ use Rattle.load.proofs.Exact.Fits.{Fits, ValueAt, Stepwise}
 use Rattle.load.proofs.Exact.Rule.{rule-exact}
 use Rattle.load.proofs.Exact.KindLaws.{given-same}
 use Rattle.load.proofs.Exact.Holds.{kind-at-depth}
-use Rattle.load.proofs.Exact.Reactor.{tables-right, first-run, first-fits}
+use Rattle.load.proofs.Exact.Reactor.{first-run, first-fits}
 use Rattle.load.proofs.Exact.Static.{ValueBefore, source, made, DeploymentBefore, mono, poly, PointBefore, Static, Single}
 
 module _ (p : List ℕ) (r : ℕ) (u : ReactorRule p r) where
@@ -158,8 +157,11 @@ module _ (p : List ℕ) (r : ℕ) (u : ReactorRule p r) where
                 ),
               );
           reacts = λ i b h e.
-              let f = fit i _ h e in
-              (shapeThere p r b, deployment-before i b (omega arith) (f .placed), λ x l. let s = f .timely .1 x l in (s .0, s .2 .0, s .1, s .2 .1));
+              let f = fit i _ h e in (
+                shapeThere p r b,
+                deployment-before i b (omega arith) (f .placed),
+                λ x l. let s = f .timely .1 x l in (s .0, s .2 .0, s .1, s .2 .1),
+              );
           consumes = λ i x b h e.
               let f = fit i _ h e in (
                 shapeThere p r b,
@@ -172,8 +174,10 @@ module _ (p : List ℕ) (r : ℕ) (u : ReactorRule p r) where
               let f = fit i _ h e in
               (value-before i a (omega arith) (f .placed), f .agreed .0, sink-kind p r x ∙ sym (f .agreed .1));
           polys = λ i a b h e.
-              let f = fit i _ h e in
-              (value-before i a (omega arith) (f .placed .0), (shapeThere p r b, point-before i b (omega arith) (f .placed .1), f .agreed));
+              let f = fit i _ h e in (
+                value-before i a (omega arith) (f .placed .0),
+                (shapeThere p r b, point-before i b (omega arith) (f .placed .1), f .agreed),
+              );
           primitives = λ i x a b c h e.
               let f = fit i _ h e in (
                 (f .ranged, f .remaining),
@@ -181,11 +185,14 @@ module _ (p : List ℕ) (r : ℕ) (u : ReactorRule p r) where
                 ⊎-map (λ q. q) (value-before i b (omega arith)) (f .placed .1),
                 ⊎-map (λ q. q) (value-before i c (omega arith)) (f .placed .2),
                 f .agreed,
-                own-kind i _ h e ∙ given-same x _ _ (f .ranged) (⊎-map (λ q. q) (λ v. kind-deep i b _ (omega arith) v (value-low p r i b (omega arith) v)) (f .placed .1)),
+                own-kind i _ h e
+                    ∙ given-same x _ _ (f .ranged)
+                    (⊎-map (λ q. q) (λ v. kind-deep i b _ (omega arith) v (value-low p r i b (omega arith) v))
+                    (f .placed .1)),
               );
           no-kind = λ i h e. own-kind i _ h refl ∙ no-value _ (cmdOf p r i) e;
         }
 
 -- of each reactor of a program that keeps the rules
 pub all-static : (p : List ℕ) → Rules p → (r : ℕ) → r < reactors p → Static p r × Single p r
-all-static p u r h = (static p r (u .every-reactor r h) (tables-right p u) h, single p r (u .every-reactor r h))
+all-static p u r h = (static p r (u .every-reactor r h) (u .tables) h, single p r (u .every-reactor r h))

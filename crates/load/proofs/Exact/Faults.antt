@@ -18,10 +18,10 @@ use Rattle.load.specs.Scan.{refusalOf, scanned, scanOf, beginOf, complet
 use Rattle.load.specs.Refusal.{refusalNumber, refusalPlace, atCommand}
 use Rattle.load.specs.Tables.{headerLegal, tableLegal}
 use Rattle.load.specs.Check.{numberOf, ended, reactorsOf, checkOf}
-use Rattle.load.specs.Rules.{HeaderRule, ReactorRule}
+use Rattle.load.specs.Rules.{HeaderRule, ReactorRule, TablesRight}
 use Rattle.load.specs.Order.{OutOfOrder, source-again, sink-again, early-react, early-consume, late-supply}
 use Rattle.load.specs.Order.{second-react, second-poly, not-lower}
-use Rattle.load.specs.Accepted.{TablesRight, ReactorAccepted}
+use Rattle.load.specs.Accepted.{ReactorAccepted}
 use Rattle.load.specs.Fault.{Between, HeaderFault, TableFault, Lowest, First, misformed, withdrawn, misplaced}
 use Rattle.load.specs.Fault.{unlike, disordered, Passed, Lacks, react-missing, poly-missing, sink-missing}
 use Rattle.load.specs.Fault.{Reached}

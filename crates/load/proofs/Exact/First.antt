@@ -10,10 +10,9 @@ use Rattle.program.specs.Bytes.{declared, commandsIn}
 use Rattle.program.specs.Command.{Cmd, cmdOf, bytesOf, sequenceOf, allocMono, makePoly, constant, global, supply}
 use Rattle.program.specs.Command.{react, consume, sink, allocPoly, primitive, none}
 use Rattle.load.specs.Scan.{inSequence, formed, remaining, located, agreed, disorder, refusalOf}
-use Rattle.load.specs.Rules.{ZeroBytes}
+use Rattle.load.specs.Rules.{ZeroBytes, TablesRight}
 use Rattle.load.specs.Order.{OutOfOrder, source-again, sink-again, early-react, early-consume, late-supply}
 use Rattle.load.specs.Order.{second-react, second-poly, not-lower}
-use Rattle.load.specs.Accepted.{TablesRight}
 use Rattle.load.specs.Fault.{Ranged, Remaining, Placed, Agreed, InSequence, Formed, Located, First, misformed}
 use Rattle.load.specs.Fault.{withdrawn, misplaced, unlike, disordered}
 use Rattle.load.specs.declared.Scan.{Scan}

@@ -10,8 +10,7 @@ use Rattle.program.specs.Command.{Cmd, cmdOf, allocMono, makePoly, constant, gl
 use Rattle.program.specs.Location.{sinkLoc, shapeThere, commandLoc, shapeMade}
 use Rattle.program.specs.Kind.{kindMade, kindIn}
 use Rattle.load.specs.Scan.{freePoint, usedPoint, unsetSink, setSink, standingAt, aValue, waiting}
-use Rattle.load.specs.Rules.{Supplies, Reacts, Allocates, Sets}
-use Rattle.load.specs.Accepted.{TablesRight}
+use Rattle.load.specs.Rules.{Supplies, Reacts, Allocates, Sets, TablesRight}
 use Rattle.load.specs.declared.Scan.{Scan}
 use Rattle.load.proofs.Exact.Bits.{bit, none-yet, some-room}
 use Rattle.load.specs.Order.{Never}

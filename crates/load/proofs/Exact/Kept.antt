@@ -12,8 +12,7 @@ use Rattle.program.specs.Command.{Cmd, cmdOf, madeBy, allocMono, makePoly, cons
 use Rattle.program.specs.Location.{commandLoc, sinkLoc, cmdAt, pointShape, shapeMade, shapeThere}
 use Rattle.program.specs.Kind.{kindMade, kindIn}
 use Rattle.load.specs.Scan.{standingAt, kindAt, stand, standingAfter, advance, afterOf, aValue, freePoint, usedPoint, setSink, reacted, waiting}
-use Rattle.load.specs.Rules.{Supplies, Reacts, Allocates, Sets}
-use Rattle.load.specs.Accepted.{TablesRight}
+use Rattle.load.specs.Rules.{Supplies, Reacts, Allocates, Sets, TablesRight}
 use Rattle.load.specs.declared.Scan.{Scan}
 use Rattle.load.proofs.Exact.Bits.{bit, add-bit, keep-bit}
 use Rattle.load.specs.Order.{Never}

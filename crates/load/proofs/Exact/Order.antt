@@ -12,9 +12,8 @@ use Rattle.program.specs.Bytes.{sourcesIn}
 use Rattle.program.specs.Command.{Cmd, cmdOf, allocMono, makePoly, constant, global, supply, react, consume, sink, allocPoly, primitive, none}
 use Rattle.program.specs.Location.{sinkLoc, shapeThere}
 use Rattle.load.specs.Scan.{standingAt, kindAt, isSupplied, readyAt, disorder}
-use Rattle.load.specs.Rules.{Reacts}
+use Rattle.load.specs.Rules.{Reacts, TablesRight}
 use Rattle.load.specs.Order.{Never, Supplied, OutOfOrder, source-again, sink-again, early-react, early-consume, late-supply, second-react, second-poly, not-lower, ExactOrder}
-use Rattle.load.specs.Accepted.{TablesRight}
 use Rattle.load.specs.declared.Scan.{Scan}
 use Rattle.load.proofs.Exact.Bits.{bit}
 use Rattle.load.proofs.Exact.Class.{a-deployment}

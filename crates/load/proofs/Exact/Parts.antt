@@ -5,7 +5,8 @@ use mathlib.Core.Logic.{_↔_}
 use native.Mathlib.Omega.{arith}
 use Rattle.program.specs.Bytes.{reactors, tablesEnd, commandsAt, wholeLength}
 use Rattle.load.specs.Check.{IsAccepted}
-use Rattle.load.specs.Accepted.{TablesRight, ReactorAccepted}
+use Rattle.load.specs.Rules.{TablesRight}
+use Rattle.load.specs.Accepted.{ReactorAccepted}
 use Rattle.load.proofs.Exact.Bytes.{header, tables, header-first}
 use Rattle.load.proofs.Exact.Ladder.{accepted}
 use Rattle.load.proofs.Exact.Bounds.{commands-follow}

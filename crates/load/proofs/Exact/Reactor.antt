@@ -8,8 +8,8 @@ use native.Mathlib.Nat.{eq-or-lt-of-le}
 use Rattle.program.specs.Bytes.{reactors, commandsIn}
 use Rattle.program.specs.Command.{cmdOf}
 use Rattle.load.specs.Scan.{scanOf, beginOf}
-use Rattle.load.specs.Rules.{ReactorRule, Rules}
-use Rattle.load.specs.Accepted.{TablesRight, ReactorAccepted}
+use Rattle.load.specs.Rules.{ReactorRule, Rules, TablesRight}
+use Rattle.load.specs.Accepted.{ReactorAccepted}
 use Rattle.load.specs.Kinds.{KindsFound}
 use Rattle.load.specs.declared.Scan.{Scan}
 use Rattle.load.specs.declared.Scanned.{Scanned}
@@ -82,34 +82,11 @@ reactor-exact p r t low = Iff·trans (steps-exact p r t low) (rule-exact p r)
 
 -- ---- a whole program
 
--- the tables of a program that keeps the rules
-pub tables-right : (p : List ℕ) → Rules p → TablesRight p
-tables-right p u =
-    record {
-      few-bytes = u .few-bytes;
-      header = u .header;
-      global-kinds = u .global-kinds;
-      every-shape = u .every-shape;
-      entries = u .entries;
-      main = u .main;
-      whole = u .whole;
-    }
-
 -- The rules are those of the tables, with every reactor accepted.
 pub rules-exact : (p : List ℕ) → (TablesRight p × ((r : ℕ) → r < reactors p → ReactorAccepted p r)) ↔ Rules p
 rules-exact p = (
-  (λ h.
-      record {
-        few-bytes = h .0 .few-bytes;
-        header = h .0 .header;
-        global-kinds = h .0 .global-kinds;
-        every-shape = h .0 .every-shape;
-        entries = h .0 .entries;
-        main = h .0 .main;
-        whole = h .0 .whole;
-        every-reactor = λ r low. reactor-exact p r (h .0) low .0 (h .1 r low);
-      }),
-  (λ u. let t = tables-right p u in (t, λ r low. reactor-exact p r t low .1 (u .every-reactor r low))),
+  (λ h. record { tables = h .0; every-reactor = λ r low. reactor-exact p r (h .0) low .0 (h .1 r low) }),
+  (λ u. (u .tables, λ r low. reactor-exact p r (u .tables) low .1 (u .every-reactor r low))),
 )
 
 -- ---- the kind table

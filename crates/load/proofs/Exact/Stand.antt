@@ -8,7 +8,7 @@ use lib.Seq.{getD-set-same, getD-set-other}
 use Rattle.program.specs.Bytes.{reactors, shapeOf, commandsIn}
 use Rattle.program.specs.Location.{sources, sinks, commandLoc, sinkLoc, locations}
 use Rattle.load.specs.Scan.{standingAt, kindAt, stand}
-use Rattle.load.specs.Accepted.{TablesRight}
+use Rattle.load.specs.Rules.{TablesRight}
 use Rattle.load.specs.declared.Scan.{Scan}
 
 pub record Sized (s : Scan) : Type 0 where

@@ -15,8 +15,7 @@ use Rattle.program.specs.Bytes.{declared, sourcesIn, sinksIn, sourceKind, sinkK
 use Rattle.program.specs.Command.{Cmd, Sequence, D, R, neither, cmdOf, decode, bytesOf, sequenceOf, allocMono, makePoly, constant, global, supply, react, consume, sink, allocPoly, primitive, none}
 use Rattle.program.specs.Location.{sinks, sinkLoc, shapeThere}
 use Rattle.load.specs.Scan.{standingAt, kindAt, isSupplied, readyAt, inSequence, remaining, located, agreed, disorder, refusalOf, waiting, unsetSink, setSink}
-use Rattle.load.specs.Rules.{Sets}
-use Rattle.load.specs.Accepted.{TablesRight}
+use Rattle.load.specs.Rules.{Sets, TablesRight}
 use Rattle.load.specs.declared.Scan.{Scan}
 use Rattle.load.specs.Order.{Never}
 use Rattle.load.proofs.Exact.Seen.{tells-lo}

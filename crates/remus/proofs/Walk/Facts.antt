@@ -21,7 +21,7 @@ unfolding commandsIn
 facts p u =
     record {
       static = all-static p u;
-      running-some = λ r h. let q = u .entries r h .some-running in omega arith;
-      main-low = main-last (u .header);
-      main-bare = u .main .no-sources;
+      running-some = λ r h. let q = u .tables .entries r h .some-running in omega arith;
+      main-low = main-last (u .tables .header);
+      main-bare = u .tables .main .no-sources;
     }
