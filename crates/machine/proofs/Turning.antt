@@ -2,15 +2,12 @@
 -- Assumes nothing.
 use Prim.Native.Nat.{ℕ, _*_, _≤_, _<_}
 use mathlib.Core.Path.{_≡_, sym, subst}
-use mathlib.Core.Bool.{true}
 use mathlib.Core.List.{List}
 use lib.ListN.{length}
-use Rattle.value.proofs.Tests.{le?, both?}
 use Rattle.program.specs.Bytes.{mainOf}
 use Rattle.program.specs.Location.{sinks}
 use Rattle.load.specs.declared.Refusal.{Refusal}
-use Rattle.image.specs.Memory.{mostWords, mostTurns, mainAt, used, turns}
-use Rattle.image.specs.Start.{wordsLegal}
+use Rattle.image.specs.Memory.{mostTurns, mainAt, used, turns}
 use Rattle.remus.specs.Run.{ran, stopped, runOf, mainRun}
 use Rattle.remus.specs.Turn.{fine, askedOf}
 use Rattle.remus.specs.Claim.{Fit}
@@ -54,7 +51,3 @@ module _ (p m rd sk : List ℕ) (e : askedOf p m rd sk ≡ fine) where
 
   pub clock-left : turns m < mostTurns
   clock-left = fit .clock
-
-pub few-words : (n : ℕ) → wordsLegal n ≡ true → n ≤ mostWords
-unfolding wordsLegal
-few-words n e = le? (both? e .1)

@@ -1,6 +1,6 @@
 -- The lowest byte that fails its test is the lowest at fault: in the header, and where that is right in the tables.
-use Prim.Native.Nat.{ℕ, _+_, _*_, _-_, _/_, _%_, _≤_, _<_}
-use mathlib.Core.Path.{_≡_, refl, sym, _∙_, ap, ap₂, subst}
+use Prim.Native.Nat.{ℕ, _+_, _*_, _-_, _≤_, _<_}
+use mathlib.Core.Path.{_≡_, refl, sym, _∙_, ap, subst}
 use mathlib.Core.Bool.{Bool, false, not}
 use mathlib.Core.Logic.{_↔_, ⊎-elim}
 use mathlib.Core.List.{List}
@@ -20,7 +20,7 @@ use Rattle.load.specs.Fault.{spare-header, TableFault, global-kind, sour
 use Rattle.load.specs.Fault.{sink-kind}
 use Rattle.load.specs.Fault.{no-shape, main-shape, D-count, R-count, spare-entry, Lowest}
 use Rattle.load.proofs.Exact.Bounds.{main-last}
-use Rattle.load.proofs.Exact.Widths.{chosen, rows, row-of, column-of, sixteen, first-four}
+use Rattle.load.proofs.Exact.Widths.{chosen, rows, at-row, sixteen, first-four}
 use Rattle.load.proofs.Exact.Bytes.{format-byte, shapes-byte, reactors-byte, globals-byte, zero-byte}
 use Rattle.load.proofs.Exact.Bytes.{sources-byte}
 use Rattle.load.proofs.Exact.Bytes.{sinks-byte, source-byte, sink-byte, shape, shape-byte, declared-byte}
@@ -128,18 +128,16 @@ module _ (p : List ℕ) where
   shape-test s k l m =
       let i = shape-in s k l m in
       let at : shapeAt p s + k ≡ shapeAt p 0 + 16 * s + k = unfold shapeAt in omega arith in
-      let row = ap (λ (j : ℕ). (j - shapeAt p 0) / 16) at ∙ row-of 16 (shapeAt p 0) (omega arith) s k m in
-      let column = ap (λ (j : ℕ). (j - shapeAt p 0) % 16) at ∙ column-of 16 (shapeAt p 0) (omega arith) s k m in
-      sym (no _ (lt× (i .0)) (yes _ (lt! (i .1)) (sym (ap₂ (shapeLegal p) row column))))
+      let row = at-row 16 (shapeAt p 0) (omega arith) (shapeLegal p) (shapeAt p s + k) s k at m in
+      sym (no _ (lt× (i .0)) (yes _ (lt! (i .1)) (sym row)))
 
   entry-test : (r k : ℕ) → r < reactors p → k < 4 → tableLegal p (entryAt p r + k) ≡ entryLegal p r k
   unfolding tableLegal
   entry-test r k l m =
       let i = entry-in r k l m in
       let at : entryAt p r + k ≡ entryAt p 0 + 4 * r + k = unfold entryAt in omega arith in
-      let row = ap (λ (j : ℕ). (j - entryAt p 0) / 4) at ∙ row-of 4 (entryAt p 0) (omega arith) r k m in
-      let column = ap (λ (j : ℕ). (j - entryAt p 0) % 4) at ∙ column-of 4 (entryAt p 0) (omega arith) r k m in
-      sym (no _ (lt× (omega (arith, i .0, shapes-end p))) (no _ (lt× (i .0)) (sym (ap₂ (entryLegal p) row column))))
+      let row = at-row 4 (entryAt p 0) (omega arith) (entryLegal p) (entryAt p r + k) r k at m in
+      sym (no _ (lt× (omega (arith, i .0, shapes-end p))) (no _ (lt× (i .0)) (sym row)))
 
   in-shape : (s k : ℕ) → s < shapes p → k < 16 → (headerEnd ≤ shapeAt p s + k) × (shapeAt p s + k < tablesEnd p)
   in-shape s k l m =

@@ -1,6 +1,6 @@
 -- Bytes by where they stand: in parts, in rows of one width, in columns.
 use Prim.Native.Nat.{ℕ, zero, suc, _+_, _*_, _-_, _/_, _%_, _≤_, _<_}
-use mathlib.Core.Path.{_≡_, _∙_, ap, subst, subst₂}
+use mathlib.Core.Path.{_≡_, _∙_, ap, ap₂, subst, subst₂}
 use mathlib.Core.Bool.{Bool, true}
 use mathlib.Core.Logic.{_↔_}
 use native.Mathlib.Omega.{arith}
@@ -32,11 +32,16 @@ module _ (w base : ℕ) (wide : 0 < w) where
   offset : (s k : ℕ) → base + w * s + k - base ≡ w * s + k
   offset s k = omega arith
 
-  pub row-of : (s k : ℕ) → k < w → (base + w * s + k - base) / w ≡ s
+  row-of : (s k : ℕ) → k < w → (base + w * s + k - base) / w ≡ s
   row-of s k h = ap (λ (d : ℕ). d / w) (offset s k) ∙ mul-add-div wide s k ∙ ap (λ (d : ℕ). s + d) (div-eq-of-lt h) ∙ add-zero s
 
-  pub column-of : (s k : ℕ) → k < w → (base + w * s + k - base) % w ≡ k
+  column-of : (s k : ℕ) → k < w → (base + w * s + k - base) % w ≡ k
   column-of s k h = ap (λ (d : ℕ). d % w) (offset s k) ∙ mul-add-mod-self-left w s k ∙ mod-eq-of-lt h
+
+  pub at-row : {A : Type 0} (f : ℕ → ℕ → A) (i s k : ℕ) → i ≡ base + w * s + k → k < w →
+      f ((i - base) / w) ((i - base) % w) ≡ f s k
+  at-row f i s k e h =
+      ap₂ f (ap (λ (j : ℕ). (j - base) / w) e ∙ row-of s k h) (ap (λ (j : ℕ). (j - base) % w) e ∙ column-of s k h)
 
   -- to say a thing of each byte is to say it of each column of each row
   pub by-rows : (P : ℕ → ℕ → Type 0) (n end : ℕ) → base + w * n ≡ end →

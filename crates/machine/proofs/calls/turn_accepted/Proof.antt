@@ -1,4 +1,4 @@
-use Rattle.machine.proofs.Turning.{few-words}
+use Rattle.image.proofs.Starts.{words-legal}
 use Rattle.machine.specs.Answer.{turned}
 use Rattle.remus.specs.Turn.{byCheck, bySound, refused}
 use Rattle.value.proofs.Tests.{goes, passed, refused as no-pass, stops}
@@ -18,7 +18,7 @@ turn-on-sound-requires c κs =
     let at-words-legal = c .before .before .before .before .before .before .before .words-legal in
     let pre = c .before .before .before .before .before .before .before .before .before .before .before .before .pre in
     let e = sym (rw (c .before .before .enum-told .given .1) at (at-sound .ensures)) in
-    pre _ _ (few-words _ (passed (at-words-legal .ensures) (at-if1 .left))) e
+    pre _ _ (words-legal _ .0 (passed (at-words-legal .ensures) (at-if1 .left)) .1) e
 
 returns-2 : tie.Need-returns-2
 unfolding byCheck bySound
