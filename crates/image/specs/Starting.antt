@@ -11,7 +11,7 @@ use Rattle.load.specs.Check.{IsAccepted}
 use Rattle.load.specs.Refusal.{refusalNumber, refusalPlace}
 use Rattle.load.specs.Fault.{Fault, CheckNumber}
 use Rattle.load.specs.declared.Refusal.{Refusal}
-use Rattle.image.specs.Memory.{fewestWords, mostWords, mainAt}
+use Rattle.image.specs.Memory.{fewestWords, mostWords, mainAt, turns}
 use Rattle.image.specs.Sound.{Sound}
 use Rattle.image.specs.Start.{numberOf, startedOf, startOf}
 use Rattle.image.specs.declared.Started.the-variants.{Ready, Refused}
@@ -39,9 +39,15 @@ Starts =
     (p m : List ℕ) → Startable p m
     → startOf p m ≡ record { answer = Ready (mainAt + sizeOf p (mainOf p)); memory = startedOf p (length m) }
 
--- what start leaves is a sound image: `start-sound`
-abbrev pub StartSound : Type 0
-StartSound = (p m : List ℕ) → Startable p m → Sound p (startOf p m .memory)
+-- v after start: a sound image of no turn, by which each word is said. Main stands alone, unwired, its slots zero.
+pub record AfterStart (p m v : List ℕ) : Type 0 where
+  pub same-length : length v ≡ length m
+  pub no-turn : turns v ≡ 0
+  pub sound : Sound p v
+
+-- `start-leaves`
+abbrev pub StartLeaves : Type 0
+StartLeaves = (p m : List ℕ) → Startable p m → AfterStart p m (startOf p m .memory)
 
 -- "A refused call leaves memory .. as at entry.": `start-keeps`
 abbrev pub StartKeeps : Type 0

@@ -12,10 +12,11 @@ use Rattle.value.specs.declared.Takes.{Takes}
 use Rattle.value.specs.declared.Takes.the-variants.{TwoNumbers, OneTruth, TwoTruths, OneOfAny, TruthThenTwo, TwoAlike}
 use Rattle.program.specs.Bytes.{byte, mostBytes, mostShapes, mostReactors, mostGlobals, shapes, reactors, globals, globalKind, sourcesIn, sinksIn, sourceKind, sinkKind, entryAt, shapeOf, declared, running, mainOf, commandsIn, wholeLength}
 use Rattle.program.specs.Command.{Cmd, cmdOf, bytesOf, vOf, sequenceOf, givesValue, D, R, allocMono, makePoly, constant, global, supply, react, consume, sink, allocPoly, primitive, none}
-use Rattle.program.specs.Location.{sources, sinks, commandLoc, cmdAt, shapeThere}
+use Rattle.program.specs.Location.{sources, sinks, commandLoc, sizeOf, cmdAt, shapeThere}
 use Rattle.program.specs.Kind.{kindOf, Content}
 use Rattle.program.specs.declared.Command.{Command}
-use Rattle.load.specs.Check.{IsAccepted}
+use Rattle.load.specs.Check.{checkOf, IsAccepted}
+use Rattle.load.specs.declared.Checked.the-variants.{Accepted}
 
 -- ---- header and tables
 
@@ -168,3 +169,7 @@ pub record Rules (p : List ℕ) : Type 0 where
 -- Demand 2, exact acceptance: `exact` in proofs/Exact.antt.
 abbrev pub ExactAcceptance : Type 0
 ExactAcceptance = (p : List ℕ) → IsAccepted p ↔ Rules p
+
+-- The answer is then the size of main: `accepted-size` in proofs/Exact/Ladder.antt.
+abbrev pub AcceptedSize : Type 0
+AcceptedSize = (p : List ℕ) → IsAccepted p → checkOf p ≡ Accepted (sizeOf p (mainOf p))

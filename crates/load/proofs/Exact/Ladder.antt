@@ -14,6 +14,7 @@ use Rattle.load.specs.Tables.{headerLegal, tableLegal}
 use Rattle.load.specs.Scan.{scanOf, beginOf, complete}
 use Rattle.load.specs.Refusal.{refusalNumber}
 use Rattle.load.specs.Check.{numberOf, ended, reactorsOf, checkOf, IsAccepted}
+use Rattle.load.specs.Rules.{AcceptedSize}
 use Rattle.load.specs.Accepted.{ReactorAccepted}
 use Rattle.load.proofs.Refusals.{refusal-counts}
 use Rattle.load.proofs.Exact.Bytes.{header-first}
@@ -105,14 +106,13 @@ module _ (P : Checked → Type 0) (never : (w : Refusal) → P (Refused w) → �
             ),
       )
 
-module _ (p : List ℕ) where
-  pub accepted : IsAccepted p ↔ Passed p
-  accepted =
-      let w = passes (λ (c : Checked). numberOf c ≡ 0) (λ w e. omega (arith, refusal-counts w)) p in
-      (λ h. w .0 h .0, λ h. w .1 (h, refl))
+pub accepted : (p : List ℕ) → IsAccepted p ↔ Passed p
+accepted p =
+    let w = passes (λ (c : Checked). numberOf c ≡ 0) (λ w e. omega (arith, refusal-counts w)) p in
+    (λ h. w .0 h .0, λ h. w .1 (h, refl))
 
-  -- the place on success is the size of main
-  pub accepted-size : IsAccepted p → checkOf p ≡ Accepted (sizeOf p (mainOf p))
-  accepted-size h =
-      passes (λ (c : Checked). c ≡ Accepted (sizeOf p (mainOf p))) (λ w e. let z : refusalNumber w ≡ 0 = ap numberOf e in omega (arith, refusal-counts w)) p .1
-      (accepted .0 h, refl)
+pub accepted-size : AcceptedSize
+accepted-size p h =
+    passes (λ (c : Checked). c ≡ Accepted (sizeOf p (mainOf p)))
+    (λ w e. let z : refusalNumber w ≡ 0 = ap numberOf e in omega (arith, refusal-counts w)) p .1
+    (accepted p .0 h, refl)
