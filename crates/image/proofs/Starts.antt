@@ -10,6 +10,7 @@ use lib.Seq.{getD-set-same}
 use Rattle.value.proofs.Tests.{yes, goes, stops, le!, le×, Says, says-le, says-and}
 use Rattle.program.specs.Bytes.{mainOf}
 use Rattle.program.specs.Location.{sizeOf}
+use Rattle.load.specs.Fault.{Between}
 use Rattle.load.specs.declared.Checked.the-variants.{Accepted, Refused as CheckRefused}
 use Rattle.load.specs.declared.Refusal.{Refusal}
 use Rattle.load.specs.declared.Refusal.the-variants.{MemoryLength, NoRoom}
@@ -19,7 +20,7 @@ use Rattle.image.specs.Cut.{placed}
 use Rattle.image.specs.Answer.{started}
 use Rattle.image.specs.declared.Started.the-variants.{Ready, Refused}
 
-pub words-legal : (n : ℕ) → Says (wordsLegal n) ((fewestWords ≤ n) × (n ≤ mostWords))
+pub words-legal : (n : ℕ) → Says (wordsLegal n) (Between fewestWords mostWords n)
 unfolding wordsLegal
 words-legal n = says-and says-le says-le
 

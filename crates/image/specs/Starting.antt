@@ -9,7 +9,7 @@ use Rattle.program.specs.Bytes.{mainOf}
 use Rattle.program.specs.Location.{sizeOf}
 use Rattle.load.specs.Check.{IsAccepted}
 use Rattle.load.specs.Refusal.{refusalNumber, refusalPlace}
-use Rattle.load.specs.Fault.{Fault, CheckNumber}
+use Rattle.load.specs.Fault.{Between, Fault, CheckNumber}
 use Rattle.load.specs.declared.Refusal.{Refusal}
 use Rattle.image.specs.Memory.{fewestWords, mostWords, mainAt, turns}
 use Rattle.image.specs.Sound.{Sound}
@@ -18,7 +18,7 @@ use Rattle.image.specs.declared.Started.the-variants.{Ready, Refused}
 
 -- "n from 2 to 16,384"
 abbrev pub Words : List ℕ → Type 0
-Words m = (fewestWords ≤ length m) × (length m ≤ mostWords)
+Words m = Between fewestWords mostWords (length m)
 
 -- main and the words before it have room
 abbrev pub Room : List ℕ → List ℕ → Type 0

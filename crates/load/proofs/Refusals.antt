@@ -1,6 +1,6 @@
 -- Refusals by number and place: `refusals-apart`, and that 0 is no refusal's number.
 use Prim.Native.Nat.{ℕ, _≤_}
-use mathlib.Core.Path.{_≡_, refl, sym, _∙_, ap₂}
+use mathlib.Core.Path.{_≡_, refl, sym, _∙_, ap₂, subst}
 use native.Mathlib.Omega.{arith}
 use Rattle.value.specs.Test.{pick, _=?_}
 use Rattle.load.specs.Refusal.{refusalNumber, refusalPlace, RefusalsApart}
@@ -59,6 +59,13 @@ known-by (Withdrawn q) = refl
 
 pub refusals-apart : RefusalsApart
 refusals-apart v w n q = sym (known-by v) ∙ ap₂ at n q ∙ known-by w
+
+-- P holds of the refusal with number n and place q
+abbrev pub Told : (Refusal → Type 0) → ℕ → ℕ → Type 0
+Told P n q = (v : Refusal) × P v × (refusalNumber v ≡ n) × (refusalPlace v ≡ q)
+
+pub told : (P : Refusal → Type 0) (w : Refusal) → Told P (refusalNumber w) (refusalPlace w) → P w
+told P w t = subst P (refusals-apart (t .0) w (t .2) (t .3)) (t .1)
 
 pub refusal-counts : (w : Refusal) → 1 ≤ refusalNumber w
 refusal-counts (ProgramLength q) = omega arith

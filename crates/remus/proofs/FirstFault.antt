@@ -16,7 +16,7 @@ use Rattle.load.specs.declared.Refusal.the-variants.{MemoryLength, UnsoundImage
 use Rattle.load.proofs.Exact.{exact}
 use Rattle.load.proofs.Exact.Ladder.{accepted-size}
 use Rattle.load.proofs.Exact.Faults.{first-fault as check-fault, fault-given, fault-number}
-use Rattle.load.proofs.Refusals.{refusals-apart}
+use Rattle.load.proofs.Refusals.{Told, told}
 use Rattle.image.specs.Sound.{Sound}
 use Rattle.image.specs.Passes.{Judged, sound, unsound, soundOf}
 use Rattle.image.specs.Fault.{FaultAt}
@@ -75,7 +75,7 @@ module _ (p m rd sk : List ℕ) where
   -- ---- both ways
 
   -- a refusal is given with the number and place of the fault
-  given : {n q : ℕ} → Fault p m rd sk n q → (v : Refusal) × Refuses v × (refusalNumber v ≡ n) × (refusalPlace v ≡ q)
+  given : {n q : ℕ} → Fault p m rd sk n q → Told Refuses n q
   given (program f) = let g = fault-given p f in (g .0, at-program (g .0) (g .1), g .2, g .3)
   given (words a n) = (MemoryLength (length m), at-words a (says× (words-legal _) .1 n), refl, refl)
   given (image {q} a l f) = (UnsoundImage q, at-image a l q (placed a l q .1 f), refl, refl)
@@ -85,7 +85,7 @@ module _ (p m rd sk : List ℕ) where
   FaultOf w = Fault p m rd sk (refusalNumber w) (refusalPlace w)
 
   back : (w : Refusal) → FaultOf w → turnOf p m rd sk .answer ≡ Refused w
-  back w f = let g = given f in answers (g .0) (g .1) ∙ ap Refused (refusals-apart (g .0) w (g .2) (g .3))
+  back w f = answers w (told Refuses w (given f))
 
   module _ (w : Refusal) (not-14 : refusalNumber w ≢ 14) (not-15 : refusalNumber w ≢ 15)
       (e : turnOf p m rd sk .answer ≡ Refused w) where

@@ -1,7 +1,7 @@
 -- What a turn brings: 10 to 13 refuse it exactly for its first fault (`asking`), and not at all just where it is as it
 -- should be (`fits`). With the law between the test and the proposition on values of a kind.
 use Prim.Native.Nat.{ℕ, zero, suc, _+_, _*_, _<_}
-use mathlib.Core.Path.{_≡_, refl, sym, _∙_, ap, subst}
+use mathlib.Core.Path.{_≡_, refl, sym, subst}
 use mathlib.Core.Bool.{Bool, true}
 use mathlib.Core.Logic.{_↔_, _⊎_, inl, inr, _≢_}
 use mathlib.Core.List.{List}
@@ -21,7 +21,7 @@ use Rattle.load.specs.Refusal.{refusalNumber, refusalPlace}
 use Rattle.load.specs.Fault.{Between}
 use Rattle.load.specs.declared.Refusal.{Refusal}
 use Rattle.load.specs.declared.Refusal.the-variants.{ReadingsLength, Reading, SinkSpace, Clock}
-use Rattle.load.proofs.Refusals.{refusals-apart}
+use Rattle.load.proofs.Refusals.{Told, told}
 use Rattle.remus.specs.Turn.{Asked, fine, asked, askedOf, badReading, readingAt}
 use Rattle.remus.specs.Fault.{LegalReading, LegalReadings, Asking, count, reading, space, clock}
 use Rattle.remus.specs.Walk.{Input}
@@ -129,8 +129,7 @@ module _ (p m rd sk : List ℕ) where
       ]
 
   -- a refusal is given with the number and place of the fault
-  pub given-asking : {n q : ℕ} → Asking p m rd sk n q →
-      (v : Refusal) × (askedOf p m rd sk ≡ asked v) × (refusalNumber v ≡ n) × (refusalPlace v ≡ q)
+  pub given-asking : {n q : ℕ} → Asking p m rd sk n q → Told (λ v. askedOf p m rd sk ≡ asked v) n q
   unfolding askedOf
   given-asking (count h) = (ReadingsLength (length rd), sym (stops _ (eq× h) refl), refl, refl)
   given-asking (reading {k} a l h n) =
@@ -150,10 +149,7 @@ module _ (p m rd sk : List ℕ) where
   )
 
   pub asking : (w : Refusal) → (askedOf p m rd sk ≡ asked w) ↔ AskingFor w
-  asking w = (
-    found-asking w,
-    (λ f. let g = given-asking f in g .1 ∙ ap asked (refusals-apart (g .0) w (g .2) (g .3))),
-  )
+  asking w = (found-asking w, λ f. told (λ v. askedOf p m rd sk ≡ asked v) w (given-asking f))
 
 pub asking-number : {p m rd sk : List ℕ} {n q : ℕ} → Asking p m rd sk n q → Between 10 13 n
 asking-number (count h) = (omega arith, omega arith)

@@ -33,7 +33,7 @@ use Rattle.load.specs.declared.Refusal.{Refusal}
 use Rattle.load.specs.declared.Refusal.the-variants.{ProgramLength, TableByte, Missing}
 use Rattle.load.specs.declared.Checked.{Checked}
 use Rattle.load.specs.declared.Checked.the-variants.{Accepted, Refused}
-use Rattle.load.proofs.Refusals.{refusals-apart}
+use Rattle.load.proofs.Refusals.{Told, told}
 use Rattle.load.proofs.Exact.Bytes.{header, tables, header-first}
 use Rattle.load.proofs.Exact.ByteFaults.{none-exact, lowest-found, lowest-is, header-exact, header-bounds}
 use Rattle.load.proofs.Exact.ByteFaults.{table-exact, table-bounds}
@@ -408,10 +408,7 @@ module _ (p : List ℕ) where
       (sym (goes _ _ (eq! (t .whole)) (sym e)))
 
   -- a refusal is given with the number and place of the fault
-  abbrev pub Given : ℕ → ℕ → Type 0
-  Given n q = (v : Refusal) × (checkOf p ≡ Refused v) × (refusalNumber v ≡ n) × (refusalPlace v ≡ q)
-
-  pub fault-given : {n q : ℕ} → Fault p n q → Given n q
+  pub fault-given : {n q : ℕ} → Fault p n q → Told (λ v. checkOf p ≡ Refused v) n q
   fault-given (length-wrong h) =
       (ProgramLength (length p), ladder ∙ sym (stops _ (says× length-says .1 h) refl), refl, refl)
   fault-given (header-byte {i} b l) =
@@ -436,10 +433,7 @@ module _ (p : List ℕ) where
       (Missing (entryAt p r), tables-past (a .0) (missing-refuses p (a .0) (a .1) (a .2) passed lacks), refl, refl)
 
 pub first-fault : FirstFault
-first-fault p w = (
-  found p w,
-  (λ f. let g = fault-given p f in g .1 ∙ ap Refused (refusals-apart (g .0) w (g .2) (g .3))),
-)
+first-fault p w = (found p w, λ f. told (λ v. checkOf p ≡ Refused v) w (fault-given p f))
 
 -- ---- the numbers
 
