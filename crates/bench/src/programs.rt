@@ -1,7 +1,6 @@
 // The bench programs of document 01, and what the check and start say of them.
 use crate::text::put;
 use crate::text::put_decimal;
-ghost use Prim.Native.Nat.{_+_, _≤_};
 
 // The time to its one sink.
 pub const CLOCK: [u8; 44] = [
@@ -458,7 +457,7 @@ pub const AVERAGE: [u8; 95] = [
 ];
 
 // A line `name: check number, place`.
-fn put_check(name: &[u8], program: &[u8]) {
+pub(crate) fn put_check(name: &[u8], program: &[u8]) {
     let answer = machine::check(program);
     put(name);
     put(b": check ");
@@ -491,15 +490,24 @@ pub fn print_checks() {
     print_disorder();
 }
 
-// The toggle with another command at byte `at`: code, x, a and b.
-fn with_command(at: usize, command: [u8; 4]) -> [u8; 222]
-    requires { ⌜ at + 4 ≤ 222 ⌝ }
-{
+fn put_byte(program: &mut [u8], at: usize, b: u8) {
+    if at < program.len() {
+        program[at] = b;
+    }
+}
+
+// Another command at byte `at`: code, x, a and b.
+pub(crate) fn put_command(program: &mut [u8], at: u8, command: [u8; 4]) {
+    put_byte(program, at as usize, command[0]);
+    put_byte(program, at as usize + 1, command[1]);
+    put_byte(program, at as usize + 2, command[2]);
+    put_byte(program, at as usize + 3, command[3]);
+}
+
+// The toggle with another command.
+fn with_command(at: u8, command: [u8; 4]) -> [u8; 222] {
     let mut program = TOGGLE;
-    program[at] = command[0];
-    program[at + 1] = command[1];
-    program[at + 2] = command[2];
-    program[at + 3] = command[3];
+    put_command(&mut program, at, command);
     program
 }
 

@@ -4,10 +4,11 @@ use Prim.Native.Nat.{ℕ, _+_, _-_}
 use mathlib.Core.Path.{_≡_, refl, sym, ap, _∙_}
 use mathlib.Core.Bool.{Bool, true, false}
 use mathlib.Core.List.{List}
+use mathlib.Core.Logic.{⊎-elim}
 use native.Mathlib.Omega.{arith}
 use lib.ListN.{replicate}
 use Rattle.value.specs.Test.{_and_, _=?_}
-use Rattle.value.proofs.Tests.{goes, stops, eq!, eq×, le?, both?}
+use Rattle.value.proofs.Tests.{goes, stops, eq!, eq×, le?, both?, same?}
 use Rattle.program.specs.Bytes.{reactors, declared, mainOf}
 use Rattle.program.specs.Command.{Made, madeBy, cmdOf}
 use Rattle.program.specs.Location.{commandLoc, sizeOf}
@@ -16,7 +17,7 @@ use Rattle.image.specs.Passes.{sound, unsound, tableBytes, lowest, over,
 use Rattle.image.specs.Cut.{madeOf, SlotOf, Tiling, startsOn}
 use Rattle.image.specs.declared.DSlot.{DSlot}
 use Rattle.image.specs.declared.Pass.{Pass}
-use Rattle.image.proofs.Made.{made-mono, made-point, made-other}
+use Rattle.image.proofs.Made.{made-mono, made-point, made-cell, made-other}
 
 module _ (p m : List ℕ) (f : List ℕ → ℕ → List ℕ) (t : List ℕ) (o l code x c : ℕ) (holds : c ≡ content p m o l) where
   pub step-mono : (t₁ : List ℕ) → code ≡ 1 → t₁ ≡ f t c → t₁ ≡ over f t (namedBy p m o l (madeOf code x))
@@ -29,7 +30,8 @@ module _ (p m : List ℕ) (f : List ℕ → ℕ → List ℕ) (t : List ℕ) (o 
 
   pub step-none : (code ≡ 1 → ⊥) → (code ≡ 2 → ⊥) → t ≡ over f t (namedBy p m o l (madeOf code x))
   unfolding over namedBy
-  step-none d e = rw (← made-other code x d e)
+  step-none d e =
+      ⊎-elim (λ h. rw (← made-cell code x h) refl) (λ h. rw (← made-other code x d e h) refl) (same? code 11)
 
 -- what is said of a D slot and of what its bytes make holds of its command
 pub by-slot : {A : Type 0} (F : ℕ → Made → A) (p m : List ℕ) (o j : ℕ) (s : DSlot) → SlotOf p m o j s

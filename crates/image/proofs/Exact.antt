@@ -81,6 +81,7 @@ module _ (p m : List ℕ) where
                   all-wired = λ d i. own d i .is-wired;
                   monos = λ o j x i. own o i .slots .monos j x;
                   points = λ o j x i. own o i .slots .points j x;
+                  cells = λ o j x v i. own o i .slots .cells j x v;
                   named = once;
                   depth = depth-says p m laid own once .0 (c .0);
                 },
@@ -92,7 +93,11 @@ module _ (p m : List ℕ) where
               record {
                 is-wired = g .all-wired d i;
                 empty = h .0 d i;
-                slots = record { monos = λ j x. g .monos d j x i; points = λ j x. g .points d j x i };
+                slots = record {
+                  monos = λ j x. g .monos d j x i;
+                  points = λ j x. g .points d j x i;
+                  cells = λ j x v. g .cells d j x v i;
+                };
                 last = λ q. subst (λ (a : ℕ). next m a ≡ 0) (sym q) last;
               }) in
               ladder _ _ _ .1 (

@@ -7,7 +7,7 @@ use mathlib.Core.Logic.{⊎-elim}
 use native.Mathlib.Omega.{arith}
 use Rattle.value.proofs.Tests.{yes, no, eq!, eq×}
 use Rattle.program.specs.Bytes.{byte, commandsAt, commandAt}
-use Rattle.program.specs.Command.{deployment, point, nothing, madeBy, decode, cmdOf, bytesOf, bytesAt}
+use Rattle.program.specs.Command.{deployment, point, held, nothing, madeBy, decode, cmdOf, bytesOf, bytesAt}
 use Rattle.program.specs.declared.Command.{Command}
 use Rattle.program.proofs.Decode.{by-code}
 use Rattle.image.specs.Cut.{madeOf}
@@ -21,19 +21,32 @@ module _ (code x : ℕ) where
   unfolding madeOf
   made-point e = no _ (eq× (λ d. omega arith)) (yes _ (eq! e) refl)
 
-  pub made-other : (code ≡ 1 → ⊥) → (code ≡ 2 → ⊥) → nothing ≡ madeOf code x
+  pub made-cell : code ≡ 11 → held x ≡ madeOf code x
   unfolding madeOf
-  made-other d e = no _ (eq× d) (no _ (eq× e) refl)
+  made-cell e = no _ (eq× (λ d. omega arith)) (no _ (eq× (λ d. omega arith)) (yes _ (eq! e) refl))
+
+  pub made-other : (code ≡ 1 → ⊥) → (code ≡ 2 → ⊥) → (code ≡ 11 → ⊥) → nothing ≡ madeOf code x
+  unfolding madeOf
+  made-other d e f = no _ (eq× d) (no _ (eq× e) (no _ (eq× f) refl))
 
 made-by : (c : Command) → madeBy (decode c) ≡ madeOf (c .code) (c .x)
 unfolding madeBy
 made-by c =
     by-code (λ k. madeBy k ≡ madeOf (c .code) (c .x)) c
-    (λ e. made-mono _ _ e) (λ e. made-point _ _ e) (λ e. other (omega arith)) (λ e. other (omega arith)) (λ e. other (omega arith)) (λ e. other (omega arith)) (λ e. other (omega arith)) (λ e. other (omega arith))
-    (λ e. other (omega arith)) (λ e. other (omega arith)) (λ n. ⊎-elim (λ l. made-other _ _ (λ d. omega arith) (λ d. omega arith)) (λ l. made-other _ _ (λ d. omega arith) (λ d. omega arith)) n)
+    (λ e. made-mono _ _ e) (λ e. made-point _ _ e) (λ e. between (omega arith) (omega arith))
+    (λ e. between (omega arith) (omega arith)) (λ e. between (omega arith) (omega arith))
+    (λ e. between (omega arith) (omega arith)) (λ e. between (omega arith) (omega arith))
+    (λ e. between (omega arith) (omega arith)) (λ e. between (omega arith) (omega arith))
+    (λ e. between (omega arith) (omega arith)) (λ e. made-cell _ _ e)
+    (λ e. after (omega arith)) (λ e. after (omega arith))
+    (λ n.
+    ⊎-elim (λ l. made-other _ _ (λ d. omega arith) (λ d. omega arith) (λ d. omega arith)) (λ l. after (omega arith)) n)
   where
-    other : 2 < c .code → nothing ≡ madeOf (c .code) (c .x)
-    other h = made-other _ _ (λ d. omega arith) (λ d. omega arith)
+    between : 2 < c .code → c .code < 11 → nothing ≡ madeOf (c .code) (c .x)
+    between h l = made-other _ _ (λ d. omega arith) (λ d. omega arith) (λ d. omega arith)
+
+    after : 11 < c .code → nothing ≡ madeOf (c .code) (c .x)
+    after h = made-other _ _ (λ d. omega arith) (λ d. omega arith) (λ d. omega arith)
 
 -- command j of a reactor whose commands begin at byte `at`
 pub made-at : (p : List ℕ) (r j at code x : ℕ) → at ≡ commandsAt p r → code ≡ byte p (at + 8 * j) → x ≡ byte p (at + 8 * j + 1)

@@ -6,7 +6,7 @@ use mathlib.Core.List.{List, _∷_}
 use lib.ListN.{length, getD}
 use Rattle.value.specs.Test.{pick, _≤?_, _=?_}
 use Rattle.program.specs.Bytes.{reactors, commandsAt}
-use Rattle.program.specs.Command.{Made, deployment, point, nothing, madeBy, cmdOf}
+use Rattle.program.specs.Command.{Made, deployment, point, held, nothing, madeBy, cmdOf}
 use Rattle.program.specs.Location.{commandLoc, sizeOf}
 use Rattle.image.specs.Memory.{used, reactor, place, startsFrom}
 use Rattle.image.specs.Passes.{name, deepen, tilesFrom, slotSound, namedBy}
@@ -20,7 +20,7 @@ placed p m r old = pick (used m + sizeOf p r ≤? 4294967295) (place p m r old) 
 
 -- what a D command of this code and x makes
 unfoldable pub madeOf : ℕ → ℕ → Made
-madeOf code x = pick (code =? 1) (deployment x) (pick (code =? 2) (point x) nothing)
+madeOf code x = pick (code =? 1) (deployment x) (pick (code =? 2) (point x) (pick (code =? 11) (held x) nothing))
 
 -- a table of the byte at which each reactor's commands begin
 abbrev pub Positions : List ℕ → List ℕ → Type 0

@@ -9,10 +9,10 @@ use mathlib.Core.List.{List}
 use lib.ListN.{length}
 use Rattle.value.specs.Value.{blank}
 use Rattle.program.specs.Bytes.{reactors, mostReactors, declared, mainOf}
-use Rattle.program.specs.Command.{cmdOf, allocMono, makePoly}
+use Rattle.program.specs.Command.{cmdOf, allocMono, makePoly, cell}
 use Rattle.program.specs.Location.{commandLoc, sizeOf, HasSlot}
 use Rattle.image.specs.Memory.{mostWords, mostTurns, mostDepth, mainAt, word, used, turns, reactor, wired, next, valueAt}
-use Rattle.image.specs.Sound.{Tiles, Deployed, InD, MonoSlot, PointSlot, NamedOnce, Depth}
+use Rattle.image.specs.Sound.{Tiles, Deployed, InD, MonoSlot, PointSlot, CellSlot, NamedOnce, Depth}
 use Rattle.image.specs.Passes.{unsound, soundOf}
 
 module _ (p m : List ℕ) where
@@ -24,12 +24,15 @@ module _ (p m : List ℕ) where
     pub first : reactor m mainAt ≡ mainOf p
     pub rest : (i : ℕ) → used m ≤ i → word m i ≡ 0
 
-  -- the D slots of d: a child or a chain that is wrong is the fault of the deployment whose slot names it
+  -- the D slots of d: a child or a chain that is wrong is the fault of the deployment whose slot names it, a cell's
+  -- content of the one that has it
   pub record SlotsRight (d : ℕ) : Type 0 where
     pub monos : (j x : ℕ) → j < declared p (reactor m d) → cmdOf p (reactor m d) j ≡ allocMono x →
         MonoSlot p m d (commandLoc p (reactor m d) j) x
     pub points : (j x : ℕ) → j < declared p (reactor m d) → cmdOf p (reactor m d) j ≡ makePoly x →
         PointSlot p m d (commandLoc p (reactor m d) j) x
+    pub cells : (j x v : ℕ) → j < declared p (reactor m d) → cmdOf p (reactor m d) j ≡ cell x v →
+        CellSlot p m d (commandLoc p (reactor m d) j) x
 
   -- d's own words, once a turn is completed; of next, main's alone, since another's is its owner's chain
   pub record Own (d : ℕ) : Type 0 where

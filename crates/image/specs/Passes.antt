@@ -10,10 +10,11 @@ use lib.ListN.{length, getD, set, replicate}
 use Rattle.value.specs.Test.{_and_, pick, _<?_, _≤?_, _=?_, guard, sweep}
 use Rattle.value.specs.Value.{deploymentMark, pointMark}
 use Rattle.program.specs.Bytes.{reactors, shapeOf, declared, mainOf, mostReactors}
-use Rattle.program.specs.Command.{Made, deployment, point, nothing, madeBy, cmdOf}
+use Rattle.program.specs.Command.{Made, deployment, point, held, nothing, madeBy, cmdOf}
 use Rattle.program.specs.Location.{commandLoc, sizeOf}
+use Rattle.program.specs.Kind.{legal}
 use Rattle.image.specs.Sound.{Sound}
-use Rattle.image.specs.Memory.{mostWords, mostTurns, mostDepth, mainAt, used, turns, reactor, wired, next, zeroAt, mark, content, sizeAt, startsBelow, slotsD, slotsR}
+use Rattle.image.specs.Memory.{mostWords, mostTurns, mostDepth, mainAt, used, turns, reactor, wired, next, zeroAt, mark, content, valueAt, sizeAt, startsBelow, slotsD, slotsR}
 use Rattle.image.specs.declared.Pass.{Pass}
 use Rattle.image.specs.declared.Pass.the-variants.{Starts, Names, Depths}
 
@@ -92,6 +93,7 @@ module _ (p : List ℕ) (m : List ℕ) where
       (mark p m o l =? deploymentMark) and (o <? c) and isStart t c and (reactor m c =? x) and (next m c =? 0)
   slotSound t o l (point x) =
       (mark p m o l =? pointMark) and chainFrom (reactors p + 1) t o x (used m) (replicate mostReactors 0) (content p m o l)
+  slotSound t o l (held x) = legal p x (valueAt p m o l)
   slotSound t o l nothing = true
 
   -- "all slots but D slots are zero"
@@ -115,6 +117,7 @@ module _ (p : List ℕ) (m : List ℕ) where
   unfoldable pub namedBy : ℕ → ℕ → Made → List ℕ
   namedBy o l (deployment x) = content p m o l ∷ []
   namedBy o l (point x) = membersFrom (reactors p) (content p m o l)
+  namedBy o l (held x) = []
   namedBy o l nothing = []
 
   -- all that the n D commands from j on of o name

@@ -5,6 +5,7 @@ use crate::commands::position;
 use crate::commands::slot_of;
 use crate::deployment::content;
 use crate::deployment::mark;
+use crate::deployment::value_at;
 use crate::table::is_start;
 use crate::words::next;
 use crate::words::reactor;
@@ -12,6 +13,7 @@ use crate::words::wired;
 use crate::zero::zero_at;
 use program::Command;
 use program::declared;
+use program::legal;
 use program::size_of;
 use program::slot_at;
 use program::sources;
@@ -60,6 +62,15 @@ fn point_sound(program: &[u8], memory: &[u32], table: &[u8], o: u32, l: u16, x: 
     chain_sound(program, memory, table, o, x, head)
 }
 
+// Whether D slot l of o holds what a cell of kind x may: a blank, or legal content of that kind.
+fn cell_sound(program: &[u8], memory: &[u32], table: &[u8], o: u32, l: u16, x: u8) -> bool
+    ensures { λ r.
+        let p = now (program .entry) in
+        ⌜ r ≡ P.slotSound p (now (memory .entry)) (now (table .entry)) o l (C.held x) ⌝ }
+{
+    legal(program, x, value_at(program, memory, o, l))
+}
+
 // Whether a D slot of o holds what its command makes.
 fn slot_sound(program: &[u8], memory: &[u32], table: &[u8], o: u32, s: DSlot) -> bool
     ensures { λ r. ⌜ r ≡ P.slotSound (now (program .entry)) (now (memory .entry)) (now (table .entry)) o (s .location) (W.madeOf (s .code) (s .x)) ⌝ }
@@ -69,6 +80,9 @@ fn slot_sound(program: &[u8], memory: &[u32], table: &[u8], o: u32, s: DSlot) ->
     }
     if s.code == Command::MAKE_POLY {
         return point_sound(program, memory, table, o, s.location, s.x);
+    }
+    if s.code == Command::CELL {
+        return cell_sound(program, memory, table, o, s.location, s.x);
     }
     true
 }

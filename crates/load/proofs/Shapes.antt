@@ -1,5 +1,5 @@
--- Every location but a value's has a shape as its kind: so it is before the first command, and so it stays. With it a Supply that is not
--- refused names one of a byte's bits.
+-- Every location but a value's or a cell's has a shape as its kind: so it is before the first command, and so it stays.
+-- With it a Supply that is not refused names one of a byte's bits.
 -- Assumes nothing.
 use Prim.Native.Nat.{ℕ, zero, suc, _≤_, _<_}
 use mathlib.Core.Path.{_≡_, refl, sym, _∙_}
@@ -13,7 +13,8 @@ use Rattle.value.specs.Test.{need, pick, _=?_}
 use Rattle.value.proofs.Tests.{cases, below, eq?, eq×?, lt?, le?, both?, not-true}
 use Rattle.value.proofs.Zeros.{zeros-at}
 use Rattle.program.specs.Bytes.{shapes}
-use Rattle.program.specs.Command.{Cmd, decode, allocMono, makePoly, constant, global, supply, react, consume, sink, allocPoly, primitive, none}
+use Rattle.program.specs.Command.{Cmd, decode, allocMono, makePoly, constant, global, supply, react, consume, sink}
+use Rattle.program.specs.Command.{allocPoly, primitive, cell, fetch, keep, none}
 use Rattle.program.specs.declared.Command.{Command}
 use Rattle.program.proofs.Decode.{as-supply}
 use Rattle.load.specs.Scan.{standingAt, kindAt, stand, isPoint, isDeployment, formed, located, agreed, disorder, refusalOf, standingAfter, advance, afterOf, withSources, withSinks, beginOf}
@@ -146,6 +147,9 @@ module _ (p : List ℕ) (r : ℕ) (s : Scan) (c : Command) where
         let k = point-shape b (both? (n .located) .1) in
         shaped-stand p (legal .some-shape) _ here _ _ (shaped-stand p (legal .some-shape) s b _ _ sh (λ g. k)) (λ g. k)
     standing-shaped here (primitive x a b d) n = value-stand p (legal .some-shape) s here _ sh
+    standing-shaped here (cell x v) n = shaped-stand p (legal .some-shape) s here _ _ sh (λ g. absurd (omega arith))
+    standing-shaped here (fetch b) n = value-stand p (legal .some-shape) s here _ sh
+    standing-shaped here (keep a b) n = shaped-stand p (legal .some-shape) s b _ _ sh (λ g. absurd (omega arith))
     standing-shaped here none n = sh
 
     pub after-shaped : (d : Cmd) → refusalOf p r s c d ≡ 0 → Shaped p (afterOf p r s d)

@@ -7,7 +7,8 @@ use native.Mathlib.Omega.{arith}
 use native.Mathlib.Numerals.{add-one}
 use lib.ListN.{length, getD, List·getD-eq-default}
 use Rattle.program.specs.Bytes.{sourceKind, shapeOf}
-use Rattle.program.specs.Command.{Cmd, allocMono, makePoly, constant, global, supply, react, consume, sink, allocPoly, primitive, none}
+use Rattle.program.specs.Command.{Cmd, allocMono, makePoly, constant, global, supply, react, consume, sink, allocPoly}
+use Rattle.program.specs.Command.{primitive, cell, fetch, keep, none}
 use Rattle.program.specs.Location.{sinkLoc}
 use Rattle.load.specs.Scan.{aValue, unsetSink, stand, standingAfter, advance, afterOf, withSources, withSinks}
 use Rattle.load.specs.declared.Scan.{Scan}
@@ -32,6 +33,9 @@ module _ (p : List ℕ) (r : ℕ) (s : Scan) (here : ℕ) where
   next-kept (sink x a) = refl
   next-kept (allocPoly a b) = refl
   next-kept (primitive x a b c) = refl
+  next-kept (cell x v) = refl
+  next-kept (fetch b) = refl
+  next-kept (keep a b) = refl
   next-kept none = refl
 
   pub advanced : (d : Cmd) {u : Scan} → u ≡ standingAfter p r s here d →

@@ -1,4 +1,5 @@
--- Why a program is refused: of all its faults the first, by number and place: 01, "Check, start, turn"; 02 (vi), (x).
+-- Why a program is refused: of all its faults the first, by number and place. 01, "Check, start, turn"; 02 (v), (vi),
+-- (x).
 -- All is said by positions: nothing here speaks of tests that compute, of their ladder or of the scan.
 use Prim.Native.Nat.{ℕ, _+_, _≤_, _<_}
 use mathlib.Core.Path.{_≡_}
@@ -14,14 +15,14 @@ use Rattle.program.specs.Bytes.{globals, globalKind, shapeAt, sourcesIn, sinksI
 use Rattle.program.specs.Bytes.{shapeOf}
 use Rattle.program.specs.Bytes.{declared, running, mainOf, commandsIn, tablesEnd, wholeLength, commandAt}
 use Rattle.program.specs.Command.{Cmd, Sequence, cmdOf, bytesOf, sequenceOf, D, R, neither, allocMono, makePoly}
-use Rattle.program.specs.Command.{constant}
-use Rattle.program.specs.Command.{global, supply, react, consume, sink, allocPoly, primitive, none}
+use Rattle.program.specs.Command.{constant, global, supply, react, consume, sink, allocPoly, primitive, cell, fetch}
+use Rattle.program.specs.Command.{keep, none}
 use Rattle.program.specs.Location.{sinks, commandLoc, shapeThere}
 use Rattle.program.specs.Kind.{kindOf, Content}
 use Rattle.load.specs.Refusal.{refusalNumber, refusalPlace}
 use Rattle.load.specs.Check.{numberOf, checkOf}
-use Rattle.load.specs.Rules.{HeaderRule, MainRule, ZeroBytes, Value, Deployment, Point, Reacts, Allocates, Sets}
-use Rattle.load.specs.Rules.{ReactorRule, TablesRight}
+use Rattle.load.specs.Rules.{HeaderRule, MainRule, ZeroBytes, Value, Deployment, Point, Cell, Reacts, Allocates}
+use Rattle.load.specs.Rules.{Keeps, Sets, ReactorRule, TablesRight}
 use Rattle.load.specs.Order.{Never, OutOfOrder}
 use Rattle.load.specs.declared.Refusal.{Refusal}
 use Rattle.load.specs.declared.Checked.the-variants.{Refused}
@@ -74,7 +75,7 @@ KindsFit OneOfAny i j k = Unit {0}
 KindsFit TruthThenTwo i j k = (i ≡ truthKind) × (j ≡ k)
 KindsFit TwoAlike i j k = i ≡ j
 
--- 3: the range of x, and a constant's value
+-- 3: the range of x, and the content of a constant and of a fresh cell
 abbrev pub Ranged : List ℕ → Cmd → Type 0
 Ranged p (allocMono x) = x < reactors p
 Ranged p (makePoly x) = x < shapes p
@@ -86,6 +87,9 @@ Ranged p (consume x b) = Unit {0}
 Ranged p (sink x a) = Unit {0}
 Ranged p (allocPoly a b) = Unit {0}
 Ranged p (primitive x a b c) = x < length table
+Ranged p (cell x v) = (x ≤ truthKind) × Content p x v
+Ranged p (fetch b) = Unit {0}
+Ranged p (keep a b) = Unit {0}
 Ranged p none = ⊥
 
 -- 25: not withdrawn
@@ -100,23 +104,29 @@ Remaining (consume x b) = Unit {0}
 Remaining (sink x a) = Unit {0}
 Remaining (allocPoly a b) = Unit {0}
 Remaining (primitive x a b c) = x ≢ remainder
+Remaining (cell x v) = Unit {0}
+Remaining (fetch b) = Unit {0}
+Remaining (keep a b) = Unit {0}
 Remaining none = Unit {0}
 
 -- a command's operands are where they may be, if this is said by `value` of a value operand's location, by `deployment`
--- of a deployment operand's and by `point` of a branch point's
-abbrev pub Placed : (ℕ → Type 0) → (ℕ → Type 0) → (ℕ → Type 0) → Cmd → Type 0
-Placed value deployment point (allocMono x) = Unit {0}
-Placed value deployment point (makePoly x) = Unit {0}
-Placed value deployment point (constant x v) = Unit {0}
-Placed value deployment point (global x) = Unit {0}
-Placed value deployment point (supply x a b) = value a × deployment b
-Placed value deployment point (react b) = deployment b
-Placed value deployment point (consume x b) = deployment b
-Placed value deployment point (sink x a) = value a
-Placed value deployment point (allocPoly a b) = value a × point b
-Placed value deployment point (primitive x a b c) =
+-- of a deployment operand's, by `point` of a branch point's and by `cells` of a cell's
+abbrev pub Placed : (ℕ → Type 0) → (ℕ → Type 0) → (ℕ → Type 0) → (ℕ → Type 0) → Cmd → Type 0
+Placed value deployment point cells (allocMono x) = Unit {0}
+Placed value deployment point cells (makePoly x) = Unit {0}
+Placed value deployment point cells (constant x v) = Unit {0}
+Placed value deployment point cells (global x) = Unit {0}
+Placed value deployment point cells (supply x a b) = value a × deployment b
+Placed value deployment point cells (react b) = deployment b
+Placed value deployment point cells (consume x b) = deployment b
+Placed value deployment point cells (sink x a) = value a
+Placed value deployment point cells (allocPoly a b) = value a × point b
+Placed value deployment point cells (primitive x a b c) =
     value a × ((operands x < 2) ⊎ value b) × ((operands x < 3) ⊎ value c)
-Placed value deployment point none = Unit {0}
+Placed value deployment point cells (cell x v) = Unit {0}
+Placed value deployment point cells (fetch b) = cells b
+Placed value deployment point cells (keep a b) = value a × cells b
+Placed value deployment point cells none = Unit {0}
 
 -- 5: ports exist, and kinds agree
 abbrev pub Agreed : List ℕ → ℕ → Cmd → Type 0
@@ -131,6 +141,9 @@ Agreed p r (consume x b) = x < sinksIn p (shapeThere p r b)
 Agreed p r (sink x a) = (x < sinks p r) × (kindOf p r a ≡ sinkKind p (shapeOf p r) x)
 Agreed p r (allocPoly a b) = kindOf p r a ≡ reactorKind (shapeThere p r b)
 Agreed p r (primitive x a b c) = KindsFit (rowOf x .takes) (kindOf p r a) (kindOf p r b) (kindOf p r c)
+Agreed p r (cell x v) = Unit {0}
+Agreed p r (fetch b) = Unit {0}
+Agreed p r (keep a b) = kindOf p r a ≡ kindOf p r b
 Agreed p r none = Unit {0}
 
 module _ (p : List ℕ) (r k : ℕ) where
@@ -144,11 +157,11 @@ module _ (p : List ℕ) (r k : ℕ) where
   abbrev pub Formed : Cmd → Type 0
   Formed c = InSequence (sequenceOf c) × ZeroBytes (bytesOf p r k) c × Ranged p c
 
-  -- 4. What comes after command k is not read yet: a deployment and a branch point, too, stand before it.
+  -- 4. What comes after command k is not read yet: a deployment, a branch point and a cell, too, stand before it.
   abbrev pub Located : Cmd → Type 0
   Located =
       let l = commandLoc p r k in
-      Placed (Value p r l) (λ b. (b < l) × Deployment p r l b) (λ b. (b < l) × Point p r b)
+      Placed (Value p r l) (λ b. (b < l) × Deployment p r l b) (λ b. (b < l) × Point p r b) (λ b. (b < l) × Cell p r b)
 
   -- the number of the first test that command c fails at k: 3, 25, 4, 5, then its order
   pub data First (c : Cmd) : ℕ → Type 0 where
@@ -168,6 +181,7 @@ module _ (p : List ℕ) (r : ℕ) where
     react-missing : {b : ℕ} → Deployment p r (commandLoc p r (commandsIn p r)) b
         → Never p r (Reacts p r b) (commandsIn p r) → Lacks
     poly-missing : {b : ℕ} → Point p r b → Never p r (Allocates p r b) (commandsIn p r) → Lacks
+    keep-missing : {b : ℕ} → Cell p r b → Never p r (Keeps p r b) (commandsIn p r) → Lacks
     sink-missing : {x : ℕ} → x < sinks p r → Never p r (Sets p r x) (commandsIn p r) → Lacks
 
 -- ---- a program

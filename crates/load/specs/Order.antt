@@ -6,10 +6,10 @@ use mathlib.Core.Bool.{true}
 use mathlib.Core.Logic.{_↔_, _≢_}
 use mathlib.Core.List.{List}
 use Rattle.program.specs.Bytes.{reactors, sourcesIn, commandsIn}
-use Rattle.program.specs.Command.{Cmd, cmdOf, allocMono, supply, react, consume, sink, allocPoly}
+use Rattle.program.specs.Command.{Cmd, cmdOf, allocMono, supply, react, consume, sink, allocPoly, keep}
 use Rattle.program.specs.Location.{shapeThere}
 use Rattle.load.specs.Scan.{located, agreed, disorder, scanOf, beginOf}
-use Rattle.load.specs.Rules.{Supplies, Reacts, Allocates, Sets, TablesRight}
+use Rattle.load.specs.Rules.{Supplies, Reacts, Allocates, Keeps, Sets, TablesRight}
 
 module _ (p : List ℕ) (r : ℕ) where
   -- of reactor r's first k commands none has P
@@ -33,6 +33,7 @@ module _ (p : List ℕ) (r : ℕ) where
     late-supply : {x a b : ℕ} → Already (Reacts p r b) k → OutOfOrder k (supply x a b) 20
     second-react : {b : ℕ} → Already (Reacts p r b) k → OutOfOrder k (react b) 20
     second-poly : {a b : ℕ} → Already (Allocates p r b) k → OutOfOrder k (allocPoly a b) 20
+    second-keep : {a b : ℕ} → Already (Keeps p r b) k → OutOfOrder k (keep a b) 20
     not-lower : {x : ℕ} → r ≤ x → OutOfOrder k (allocMono x) 21
 
 -- Where none of the first k commands is refused, nor command k by 4 or 5: its order is tested exactly so. Proved in

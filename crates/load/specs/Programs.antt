@@ -64,6 +64,43 @@ graded =
     ∷ command 4 2 0 0 0 ∷ command 3 0 0 0 8 ∷ command 10 5 3 4 0  -- 5 whether the second is
     ∷ command 10 8 2 5 0 ∷ command 8 0 6 0 0 ∷ [])
 
+-- A running maximum, 02 (v): of 4 and of all readings so far, a blank one left out. Size 19.
+abbrev pub peak : List ℕ
+peak =
+    joined (
+    (1 ∷ 1 ∷ 1 ∷ 1 ∷ zeros 4) ∷ (0 ∷ []) ∷ (0 ∷ 1 ∷ zeros 14) ∷ (0 ∷ 1 ∷ 7 ∷ 0 ∷ [])
+    ∷ command 11 0 0 0 4  -- 0 a cell, at first 4
+    ∷ command 4 1 0 0 0 ∷ command 12 0 0 0 0  -- 1 the reading, 2 the maximum before
+    ∷ command 10 5 2 1 0 ∷ command 10 11 3 1 2  -- 3 whether the reading is above it, 4 the greater of them
+    ∷ command 10 12 4 2 0  -- 5 the maximum, which is the one before for a blank reading
+    ∷ command 13 0 5 0 0 ∷ command 8 0 5 0 0 ∷ [])
+
+-- The reading of the turn before, at first 4; fetched after the new one is kept. Size 13.
+abbrev pub last : List ℕ
+last =
+    joined (
+    (1 ∷ 1 ∷ 1 ∷ 1 ∷ zeros 4) ∷ (0 ∷ []) ∷ (0 ∷ 1 ∷ zeros 14) ∷ (0 ∷ 1 ∷ 4 ∷ 0 ∷ [])
+    ∷ command 11 0 0 0 4  -- 0 a cell
+    ∷ command 4 1 0 0 0 ∷ command 13 0 1 0 0 ∷ command 12 0 0 0 0 ∷ command 8 0 3 0 0 ∷ [])
+
+-- Reactor 0 counts even turns, from 20 on, and reactor 1 odd ones, from 10 on, each of size 15. Main, of size 41,
+-- counts all: its sinks are the count of the one that runs, and its own count before the turn.
+abbrev pub counters : List ℕ
+counters =
+    joined (
+    (1 ∷ 2 ∷ 3 ∷ 0 ∷ zeros 4) ∷ (0 ∷ 1 ∷ zeros 14) ∷ (0 ∷ 2 ∷ zeros 14)
+    ∷ (0 ∷ 1 ∷ 5 ∷ 0 ∷ []) ∷ (0 ∷ 1 ∷ 5 ∷ 0 ∷ []) ∷ (1 ∷ 2 ∷ 18 ∷ 0 ∷ [])
+    ∷ command 11 0 0 0 20 ∷ command 12 0 0 0 0 ∷ command 3 0 0 0 1  -- even: 0 a cell, 1 what it holds, 2 one
+    ∷ command 10 0 1 2 0 ∷ command 13 0 3 0 0 ∷ command 8 0 3 0 0  -- 3 one more, kept
+    ∷ command 11 0 0 0 10 ∷ command 12 0 0 0 0 ∷ command 3 0 0 0 1  -- odd
+    ∷ command 10 0 1 2 0 ∷ command 13 0 3 0 0 ∷ command 8 0 3 0 0
+    ∷ command 2 0 0 0 0 ∷ command 11 0 0 0 0  -- 0 a branch point, 1 a cell
+    ∷ command 12 0 0 1 0 ∷ command 3 0 0 0 1 ∷ command 10 0 2 3 0 ∷ command 13 0 4 1 0  -- 4 one more, kept
+    ∷ command 4 0 0 0 0 ∷ command 3 0 0 0 2 ∷ command 10 3 6 7 0 ∷ command 10 2 8 7 0  -- 6 the time, 9 twice its half
+    ∷ command 10 6 9 6 0 ∷ command 3 2 0 0 0 ∷ command 3 2 0 0 1 ∷ command 10 11 10 11 12  -- 10 even, 13 the operator
+    ∷ command 9 0 13 0 0 ∷ command 6 0 0 14 0 ∷ command 7 0 0 14 0  -- 14 the deployment, 16 its count
+    ∷ command 12 0 0 1 0 ∷ command 8 0 16 0 0 ∷ command 8 1 17 0 0 ∷ [])
+
 -- the program with another command at byte q
 abbrev pub withCommand : List ℕ → ℕ → List ℕ → List ℕ
 withCommand p q c = take q p ++ (c ++ drop (q + 8) p)

@@ -11,7 +11,7 @@ use Rattle.value.specs.Primitive.{rowOf, operands, Offered}
 use Rattle.value.specs.declared.Takes.{Takes}
 use Rattle.value.specs.declared.Takes.the-variants.{TwoNumbers, OneTruth, TwoTruths, OneOfAny, TruthThenTwo, TwoAlike}
 use Rattle.program.specs.Bytes.{byte, mostBytes, mostShapes, mostReactors, mostGlobals, shapes, reactors, globals, globalKind, sourcesIn, sinksIn, sourceKind, sinkKind, entryAt, shapeOf, declared, running, mainOf, commandsIn, wholeLength}
-use Rattle.program.specs.Command.{Cmd, cmdOf, bytesOf, vOf, sequenceOf, givesValue, D, R, allocMono, makePoly, constant, global, supply, react, consume, sink, allocPoly, primitive, none}
+use Rattle.program.specs.Command.{Cmd, cmdOf, bytesOf, vOf, sequenceOf, givesValue, D, R, allocMono, makePoly, constant, global, supply, react, consume, sink, allocPoly, primitive, cell, fetch, keep, none}
 use Rattle.program.specs.Location.{sources, sinks, commandLoc, sizeOf, cmdAt, shapeThere}
 use Rattle.program.specs.Kind.{kindOf, Content}
 use Rattle.program.specs.declared.Command.{Command}
@@ -68,10 +68,14 @@ ZeroBytes c (consume x b) = (c .a ≡ 0) × (vOf c ≡ 0)
 ZeroBytes c (sink x a) = (c .b ≡ 0) × (vOf c ≡ 0)
 ZeroBytes c (allocPoly a b) = (c .x ≡ 0) × (vOf c ≡ 0)
 ZeroBytes c (primitive x a b d) = (c .v1 ≡ 0) × (c .v2 ≡ 0) × (c .v3 ≡ 0) × (operands x < 2 → c .b ≡ 0) × (operands x < 3 → c .v0 ≡ 0)
+ZeroBytes c (cell x v) = (c .a ≡ 0) × (c .b ≡ 0)
+ZeroBytes c (fetch b) = (c .x ≡ 0) × (c .a ≡ 0) × (vOf c ≡ 0)
+ZeroBytes c (keep a b) = (c .x ≡ 0) × (vOf c ≡ 0)
 ZeroBytes c none = ⊥
 
 module _ (p : List ℕ) (r : ℕ) where
-  -- "Value operands, a primitive's operands and an operator among them, name a source or an earlier command 3, 4, 7 or 10." l is the location of the command that names.
+  -- A value operand, a primitive's operand or an operator: a source, or an earlier command that gives a value. l is the
+  -- location of the command that names.
   abbrev pub Value : ℕ → ℕ → Type 0
   Value l a = (a < sources p r) ⊎ ((a < l) × (givesValue (cmdAt p r a) ≡ true))
 
@@ -83,6 +87,10 @@ module _ (p : List ℕ) (r : ℕ) where
   abbrev pub Point : ℕ → Type 0
   Point b = (x : ℕ) × (cmdAt p r b ≡ makePoly x)
 
+  -- what Fetch and Keep name
+  abbrev pub Cell : ℕ → Type 0
+  Cell b = (x : ℕ) × (v : ℕ) × (cmdAt p r b ≡ cell x v)
+
   -- the kinds that a primitive takes: "two numbers", "one truth", "two truths", "one operand of any kind", "a truth, then two operands of one kind", "two of one kind"
   abbrev pub Operands : ℕ → Takes → ℕ → ℕ → ℕ → Type 0
   Operands l TwoNumbers a b c = Value l a × Value l b × (kindOf p r a ≡ numberKind) × (kindOf p r b ≡ numberKind)
@@ -92,8 +100,9 @@ module _ (p : List ℕ) (r : ℕ) where
   Operands l TruthThenTwo a b c = Value l a × Value l b × Value l c × (kindOf p r a ≡ truthKind) × (kindOf p r b ≡ kindOf p r c)
   Operands l TwoAlike a b c = Value l a × Value l b × (kindOf p r a ≡ kindOf p r b)
 
-  -- The command table, with "Ports must exist and kinds agree; an operator has kind 2 + the branch point's shape" and "AllocMono names a reactor of
-  -- lower number than its own". l is the command's own location.
+  -- The command table: ports exist and kinds agree, an operator's with the branch point's shape; AllocMono names a
+  -- lower reactor; a cell is a number's or a truth's, its first content as a Constant's of that kind, and what is kept
+  -- is of it too. l is the command's own location.
   abbrev pub Right : ℕ → Cmd → Type 0
   Right l (allocMono x) = (x < reactors p) × (x < r)
   Right l (makePoly x) = x < shapes p
@@ -105,6 +114,9 @@ module _ (p : List ℕ) (r : ℕ) where
   Right l (sink x a) = Value l a × (x < sinks p r) × (kindOf p r a ≡ sinkKind p (shapeOf p r) x)
   Right l (allocPoly a b) = Value l a × Point b × (kindOf p r a ≡ reactorKind (shapeThere p r b))
   Right l (primitive x a b c) = Offered x × Operands l (rowOf x .takes) a b c
+  Right l (cell x v) = (x ≤ truthKind) × Content p x v
+  Right l (fetch b) = Cell b
+  Right l (keep a b) = Value l a × Cell b × (kindOf p r a ≡ kindOf p r b)
   Right l none = ⊥
 
   -- ---- the order of commands
@@ -127,6 +139,9 @@ module _ (p : List ℕ) (r : ℕ) where
   abbrev pub Allocates : ℕ → Cmd → Type 0
   Allocates b c = (a : ℕ) × (c ≡ allocPoly a b)
 
+  abbrev pub Keeps : ℕ → Cmd → Type 0
+  Keeps b c = (a : ℕ) × (c ≡ keep a b)
+
   abbrev pub Sets : ℕ → Cmd → Type 0
   Sets x c = (a : ℕ) × (c ≡ sink x a)
 
@@ -146,6 +161,8 @@ module _ (p : List ℕ) (r : ℕ) where
     pub deployments : (b : ℕ) → Deployment (commandLoc p r (commandsIn p r)) b → Served b
     -- "Each branch point has one AllocPoly."
     pub points : (b : ℕ) → Point b → (i : ℕ) × Once (Allocates b) i
+    -- a cell has one Keep
+    pub cells : (b : ℕ) → Cell b → (i : ℕ) × Once (Keeps b) i
     -- "Each own sink is set once."
     pub set : (x : ℕ) → x < sinks p r → (i : ℕ) × Once (Sets x) i
 

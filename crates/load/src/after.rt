@@ -21,18 +21,8 @@ impl Scan {
         requires { ⌜ FreeSource self c ⌝ }
         ensures { λ s. ⌜ ((p : List ℕ) (r here : ℕ) → s ≡ S.standingAfter p r self here (C.supply (c .x) (c .a) (c .b))) ⌝ }
     {
-        let b = c.b as usize;
-        let t = self.standing_at(b) as u16 + bit(c.x);
-        let k = self.kind_at(b);
-        self.stand(b, t as u8, k)
-    }
-
-    fn after_react(self, c: Command) -> Scan
-        ensures { λ s. ⌜ ((p : List ℕ) (r here : ℕ) → s ≡ S.standingAfter p r self here (C.react (c .b))) ⌝ }
-    {
-        let b = c.b as usize;
-        let k = self.kind_at(b);
-        self.stand(b, Scan::REACTED, k)
+        let t = self.standing_at(c.b as usize) as u16 + bit(c.x);
+        self.stand_as(c.b, t as u8)
     }
 
     // The branch point is used, and here is a new deployment of its shape.
@@ -68,6 +58,14 @@ impl Scan {
         self.stand(here, Scan::VALUE, k)
     }
 
+    // Here is a value of the cell's kind.
+    fn after_fetch(self, here: usize, c: Command) -> Scan
+        ensures { λ s. ⌜ ((p : List ℕ) (r : ℕ) → s ≡ S.standingAfter p r self here (C.fetch (c .b))) ⌝ }
+    {
+        let k = self.kind_at(c.b as usize);
+        self.stand(here, Scan::VALUE, k)
+    }
+
     // The standings after a command at location `here`.
     fn standing_after(self, program: &[u8], r: u8, here: usize, c: Command) -> Scan
         requires { ⌜ (c .code ≡ 5 → FreeSource self c) ⌝ }
@@ -86,11 +84,14 @@ impl Scan {
                 self.stand(here, Scan::VALUE, k)
             }
             Command::SUPPLY => self.after_supply(c),
-            Command::REACT => self.after_react(c),
+            Command::REACT => self.stand_as(c.b, Scan::REACTED),
             Command::CONSUME => self.after_consume(program, here, c),
             Command::SINK => self.after_sink(program, r, c),
             Command::ALLOC_POLY => self.after_poly(here, c),
             Command::PRIMITIVE => self.after_primitive(here, c),
+            Command::CELL => self.stand(here, Scan::FREE_CELL, c.x),
+            Command::FETCH => self.after_fetch(here, c),
+            Command::KEEP => self.stand_as(c.b, Scan::KEPT_CELL),
             _ => self,
         }
     }

@@ -91,8 +91,8 @@ impl Scan {
         }
     }
 
-    // Whether no React, no AllocPoly and no sink is missing at the end. The loop has no way out, so
-    // that it can go many locations at a time.
+    // Whether no React, AllocPoly, Keep or sink is missing at the end. The loop has no way out, so that
+    // it can go many locations at a time.
     pub(crate) fn complete(self) -> bool
         ensures { λ t. ⌜ t ≡ S.complete self ⌝ }
     {

@@ -20,20 +20,19 @@ use value::kinds_fit;
 use value::operands;
 ghost use mathlib.Core.Path.{_≡_};
 ghost use mathlib.Core.List.{List};
-ghost use Prim.Native.Nat.{ℕ};
-ghost use Rattle.value.specs.Test.{need, _<?_};
+ghost use Prim.Native.Nat.{ℕ, _+_};
+ghost use Rattle.value.specs.Test.{_and_, _<?_, _=?_, need};
 ghost use Rattle.program.specs.Bytes as B;
 ghost use Rattle.program.specs.Command as C;
+ghost use Rattle.program.specs.Kind.{contentLegal};
 ghost use Rattle.load.specs.Scan as S;
 
-// 3: a Constant's kind exists, and its value is of that kind.
-fn constant_formed(program: &[u8], c: Command) -> bool
-    ensures { λ r. ⌜ r ≡ S.formed (now (program .entry)) c (C.constant (c .x) (C.vOf c)) ⌝ }
+// 3 for a Constant and a Cell: x is a kind that is `allowed` there, and v is legal beside that kind.
+fn content_formed(program: &[u8], c: Command, allowed: bool) -> bool
+    ensures { λ r. ⌜ r ≡ ((c .a + c .b =? 0) and allowed and contentLegal (now (program .entry)) (c .x) (C.vOf c)) ⌝ }
 {
     let v = c.v();
-    (c.a as u16 + c.b as u16 == 0)
-        & ((c.x as u16) < 2 + shapes(program) as u16)
-        & content_legal(program, c.x, v)
+    (c.a as u16 + c.b as u16 == 0) & allowed & content_legal(program, c.x, v)
 }
 
 // 3: a primitive's number exists, and what it does not take is zero.
@@ -47,7 +46,7 @@ fn primitive_formed(program: &[u8], c: Command) -> bool
         & ((3 <= n) | (c.v0 == 0))
 }
 
-// 3: x in its range, a legal constant, and zero in each byte that the command has no use for.
+// 3: x in its range, a legal content, and zero in each byte that the command has no use for.
 pub(crate) fn formed(program: &[u8], c: Command) -> bool
     ensures { λ r. ⌜ r ≡ S.formed (now (program .entry)) c (C.decode c) ⌝ }
 {
@@ -59,7 +58,7 @@ pub(crate) fn formed(program: &[u8], c: Command) -> bool
     match code {
         Command::ALLOC_MONO => (a + b + v == 0) & (c.x < reactors(program)),
         Command::MAKE_POLY => (a + b + v == 0) & (c.x < shapes(program)),
-        Command::CONSTANT => constant_formed(program, c),
+        Command::CONSTANT => content_formed(program, c, (c.x as u16) < 2 + shapes(program) as u16),
         Command::GLOBAL => (a + b + v == 0) & (c.x <= globals(program)),
         Command::SUPPLY => v == 0,
         Command::REACT => x + a + v == 0,
@@ -67,6 +66,9 @@ pub(crate) fn formed(program: &[u8], c: Command) -> bool
         Command::SINK => b + v == 0,
         Command::ALLOC_POLY => x + v == 0,
         Command::PRIMITIVE => primitive_formed(program, c),
+        Command::CELL => content_formed(program, c, c.x <= 1),
+        Command::FETCH => x + a + v == 0,
+        Command::KEEP => x + v == 0,
         _ => false,
     }
 }
@@ -89,7 +91,7 @@ fn unless(ok: bool, number: u8) -> u8
 }
 
 impl Scan {
-    // 3: AllocMono and MakePoly among the D commands, the others among the R commands.
+    // 3: AllocMono, MakePoly and Cell among the D commands, the others among the R commands.
     pub(crate) fn in_sequence(self, program: &[u8], r: u8, c: Command) -> bool
         ensures { λ t. ⌜ t ≡ S.inSequence (C.sequenceOf (C.decode c)) (self .next <? B.declared (now (program .entry)) r) ⌝ }
     {
@@ -98,6 +100,8 @@ impl Scan {
         match code {
             Command::ALLOC_MONO..=Command::MAKE_POLY => in_d,
             Command::CONSTANT..=Command::PRIMITIVE => !in_d,
+            Command::CELL => in_d,
+            Command::FETCH..=Command::KEEP => !in_d,
             _ => false,
         }
     }
@@ -121,6 +125,8 @@ impl Scan {
             Command::SINK => self.is_value(c.a),
             Command::ALLOC_POLY => self.is_value(c.a) & self.is_point(c.b),
             Command::PRIMITIVE => self.operands_located(c),
+            Command::FETCH => self.is_cell(c.b),
+            Command::KEEP => self.is_value(c.a) & self.is_cell(c.b),
             _ => true,
         }
     }
@@ -174,6 +180,7 @@ impl Scan {
                 self.kind_at(c.a as usize) as u16 == 2 + self.kind_at(c.b as usize) as u16
             }
             Command::PRIMITIVE => self.operands_agreed(c),
+            Command::KEEP => self.kind_at(c.a as usize) == self.kind_at(c.b as usize),
             _ => true,
         }
     }
@@ -221,6 +228,7 @@ impl Scan {
             Command::CONSUME => unless(self.standing_at(c.b as usize) == Scan::REACTED, 19),
             Command::SINK => self.sink_disorder(program, r, c),
             Command::ALLOC_POLY => unless(self.standing_at(c.b as usize) == Scan::FREE_POINT, 20),
+            Command::KEEP => unless(self.standing_at(c.b as usize) == Scan::FREE_CELL, 20),
             _ => 0,
         }
     }

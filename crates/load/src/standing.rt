@@ -10,6 +10,10 @@ ghost use Rattle.load.specs.Scan as S;
 impl Scan {
     pub const VALUE: u8 = 1;
 
+    pub const FREE_CELL: u8 = 2;
+
+    pub const KEPT_CELL: u8 = 3;
+
     pub const FREE_POINT: u8 = 4;
 
     pub const USED_POINT: u8 = 5;
@@ -46,10 +50,26 @@ impl Scan {
         next
     }
 
+    // The state with another standing at l, its kind as it was.
+    pub(crate) fn stand_as(self, l: u8, standing: u8) -> Scan
+        ensures { λ r. ⌜ r ≡ S.stand self l standing (S.kindAt self l) ⌝ }
+    {
+        let at = l as usize;
+        let k = self.kind_at(at);
+        self.stand(at, standing, k)
+    }
+
     pub(crate) fn is_value(self, l: u8) -> bool
         ensures { λ r. ⌜ r ≡ S.isValue self l ⌝ }
     {
         self.standing_at(l as usize) == Scan::VALUE
+    }
+
+    pub(crate) fn is_cell(self, l: u8) -> bool
+        ensures { λ r. ⌜ r ≡ S.isCell self l ⌝ }
+    {
+        let s = self.standing_at(l as usize);
+        (Scan::FREE_CELL <= s) & (s <= Scan::KEPT_CELL)
     }
 
     pub(crate) fn is_point(self, l: u8) -> bool
@@ -95,12 +115,13 @@ pub(crate) fn is_ready(standing: u8, n: u8) -> bool
     standing as u16 == Scan::WAITING as u16 + (bit(n) - 1)
 }
 
-// Whether a location may have this standing at its reactor's end: no React, AllocPoly or sink is
-// missing there.
+// Whether a location may have this standing at its reactor's end: no React, AllocPoly, Keep or sink
+// is missing there.
 pub(crate) fn settled(standing: u8) -> bool
     ensures { λ r. ⌜ r ≡ S.settled standing ⌝ }
 {
-    (standing < Scan::FREE_POINT)
+    (standing < Scan::FREE_CELL)
+        | (standing == Scan::KEPT_CELL)
         | (standing == Scan::USED_POINT)
         | (standing == Scan::SET_SINK)
         | (standing == Scan::REACTED)

@@ -2,6 +2,7 @@ pub mod Acting
 pub mod Chains
 pub mod Clears
 pub mod Keeping
+pub mod Kept
 pub mod Passing
 pub mod Running
 pub mod Safety

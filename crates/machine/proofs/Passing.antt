@@ -67,6 +67,9 @@ module _ (p : List ℕ) (m : List ℕ) (u a : ℕ) where
         rw (next .here, d, starts-same p m (f m a) (a + n) same (length m) u (a + n) (omega arith)) in
         rw q (d ∙ h, record { fits = rw d (t .fits); tiled = rw d tiled }, rest ∙ g)
 
+  pub pass-legal : Tiling p m u a → a < u → reactor m a < reactors p
+  pass-legal t l = next t l (sizeAt p m a) refl .legal
+
   pub pass-inside : Tiling p m u a → a < u → a + sizeAt p m a ≤ length m
   pass-inside t l = let g = pass-within t l (sizeAt p m a) refl in omega (arith, t .fits)
 
@@ -99,7 +102,7 @@ module _ (p : List ℕ) (u : ℕ) (m : List ℕ) (o l r j : ℕ) (c : Command) (
   slot-other f =
       rw (← e)
       (by-code (λ (d : Cmd). m ≡ slotBack p u m o l (madeBy d)) c (λ q. refl) (λ q. absurd (f q)) (λ q. refl) (λ q. refl) (λ q. refl) (λ q. refl)
-      (λ q. refl) (λ q. refl) (λ q. refl) (λ q. refl) (λ q. refl))
+      (λ q. refl) (λ q. refl) (λ q. refl) (λ q. refl) (λ q. refl) (λ q. refl) (λ q. refl) (λ q. refl))
 
 -- ---- main's sinks
 

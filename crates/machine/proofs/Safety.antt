@@ -5,11 +5,13 @@ use mathlib.Core.Path.{_≡_, subst, ap}
 use mathlib.Core.List.{List}
 use native.Mathlib.Omega.{arith}
 use lib.ListN.{length}
+use Rattle.program.specs.Kind.{kindOf}
 use Rattle.load.specs.Check.{numberOf, checkOf}
 use Rattle.load.specs.Rules.{Rules}
 use Rattle.load.specs.declared.Checked.the-variants.{Accepted}
 use Rattle.load.specs.declared.Refusal.{Refusal}
 use Rattle.load.proofs.Exact.{exact}
+use Rattle.load.proofs.Exact.Deduced.{all-static}
 use Rattle.image.specs.Memory.{mostDepth, mostWords, mainAt, used}
 use Rattle.image.specs.Sound.{Tiles, Sound}
 use Rattle.image.specs.Cut.{Tiling}
@@ -17,10 +19,12 @@ use Rattle.image.proofs.Exact.{exact-soundness}
 use Rattle.image.proofs.Exact.Tiling.{tiles! }
 use Rattle.image.proofs.Memory.Tiles.{in-to, tiles-kept}
 use Rattle.remus.specs.Run.{ran, stopped, mainRun}
+use Rattle.remus.proofs.Keeping.{kept-all}
 use Rattle.remus.proofs.Undo.Entry.{entry-firm}
 use Rattle.remus.proofs.Undo.Runs.{After, run-keeps}
 use Rattle.remus.proofs.Undo.Undoing.{undoes}
-use Rattle.machine.specs.Answer.{Safe, Sure}
+use Rattle.machine.specs.Answer.{Ending, Safe, Sure}
+use Rattle.machine.specs.Cells.{Remembering}
 
 tiling : (p m : List ℕ) (u : ℕ) → u ≤ length m → Tiles p m u mainAt → Tiling p m u mainAt
 tiling p m u h t = record { fits = h; tiled = tiles! p m (length m) u mainAt (omega arith) t }
@@ -30,10 +34,30 @@ module _ (p : List ℕ) (rules : Rules p) (m rd : List ℕ) (few : length m ≤ 
   unfolding mainRun
   after-run = run-keeps p rules rd mostDepth 1 m mainAt (entry-firm p rules m s) (s .main)
 
-  ends : (m′ : List ℕ) → mainRun p rd m ≡ ran m′ → Tiling p m′ (used m′) mainAt
+  -- an accepted program's Keeps have their cells
+  remembers : Remembering p
+  remembers r i a b low h e =
+      let c = all-static p rules r low .0 .keeps i a b h e .1 in
+      record {
+        command = c .index;
+        kind = kindOf p r b;
+        content = c .bits;
+        in-D = c .low;
+        located = c .place;
+        is = c .is;
+      }
+
+  ends : (m′ : List ℕ) → mainRun p rd m ≡ ran m′ → Ending p m′
   ends m′ e =
       let k = subst (After p m (λ (x : List ℕ). Unit {0})) e after-run in
-      tiling p m′ (used m′) (k .0 .firm .good .fits) (k .0 .firm .good .tiles)
+      let good = k .0 .firm .good in
+      let filled = kept-all p (all-static p rules) m′ good .change in
+      record {
+        remembers = remembers;
+        tiled = tiling p m′ (used m′) (good .fits) (good .tiles);
+        kept-tiled = tiling p _ _ (filled .good .fits) (filled .good .tiles);
+        kept-turns = filled .clock;
+      }
 
   stops : (w : Refusal) (m′ : List ℕ) → mainRun p rd m ≡ stopped w m′ → Tiling p m′ (used m) mainAt
   stops w m′ e =

@@ -8,6 +8,7 @@ use Rattle.program.specs.Command.{Cmd}
 use Rattle.image.specs.Memory.{mostWords, mainAt, used, turns}
 use Rattle.remus.specs.Exec.{Eff, move, call, fail, exec}
 use Rattle.remus.specs.Run.{Ran, ran, stopped}
+use Rattle.remus.specs.Cells.{keepOne}
 use Rattle.remus.specs.Clear.{clearOne}
 use Rattle.remus.specs.Undo.{oneBack}
 use Rattle.machine.specs.declared.Ended.{Ended}
@@ -16,7 +17,7 @@ use Rattle.machine.specs.declared.Outcome.{Outcome}
 use Rattle.machine.specs.declared.Outcome.the-variants.{Move, Call, Fail}
 use Rattle.machine.specs.declared.Position.{Position}
 use Rattle.machine.specs.declared.Each.{Each}
-use Rattle.machine.specs.declared.Each.the-variants.{Clear, Back}
+use Rattle.machine.specs.declared.Each.the-variants.{Keep, Clear, Back}
 
 -- a command's outcome, and the words then
 pub data Acted : Type 0 where
@@ -54,5 +55,6 @@ pub record Located (p : List ℕ) (q : Position) : Type 0 where
 
 -- what a pass over the deployments below u does to each
 unfoldable pub eachOf : Each → List ℕ → ℕ → List ℕ → ℕ → List ℕ
+eachOf Keep p u = keepOne p
 eachOf Clear p u = clearOne p
 eachOf Back p u = oneBack p u

@@ -1,2 +1,3 @@
 pub mod Act
 pub mod Answer
+pub mod Cells

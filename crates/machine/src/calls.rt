@@ -29,11 +29,11 @@ ghost use Rattle.remus.specs.Run as R;
 ghost use Rattle.remus.specs.Undo as U;
 ghost use Rattle.remus.specs.Turn as T;
 ghost use Rattle.remus.specs.declared.Turned.the-variants.{Done, Refused};
-ghost use Rattle.machine.specs.Answer.{turned, Safe, Sure};
+ghost use Rattle.machine.specs.Answer.{turned, Ending, Safe, Sure};
 
 // Main has run to its end.
 fn complete(program: &[u8], memory: &mut [u32], space: &mut [u32]) -> Turned
-    requires { ⌜ Tiling (now program) (now memory) (M.used (now memory)) M.mainAt ⌝ }
+    requires { ⌜ Ending (now program) (now memory) ⌝ }
     requires { ⌜ M.turns (now memory) < 4294967295 ⌝ }
     requires { ⌜ 2 * L.sinks (now program) (B.mainOf (now program)) ≤ length (now space) ⌝ }
     ensures { λ r. ⌜ turned r (now (memory .exit)) (now (space .exit)) ≡ turned (Done (M.used (now (memory .entry)))) (E.finished (now (program .entry)) (now (memory .entry))) (E.sunk (now (program .entry)) (now (memory .entry)) (now (space .entry))) ⌝ }

@@ -1,4 +1,5 @@
-// The commands that allocate nothing, one function each: 01, the command table.
+// The commands that neither allocate nor have to do with cells, one function each: 01, the command
+// table.
 use crate::Outcome;
 use image::content;
 use image::mark;
@@ -14,6 +15,7 @@ use program::sources;
 use value::Value;
 ghost use mathlib.Core.Path.{_≡_};
 ghost use Prim.Native.Nat.{ℕ, _<_};
+ghost use Rattle.value.specs.Value as W;
 ghost use Rattle.program.specs.Command as C;
 ghost use Rattle.program.specs.Location as L;
 ghost use Rattle.image.specs.Memory as M;
@@ -57,16 +59,23 @@ pub(crate) fn make_poly(program: &[u8], memory: &mut [u32], o: u32, i: u16, x: u
     )
 }
 
+// The value v of kind x.
+pub(crate) fn of_kind(x: u8, v: u32) -> Value
+    ensures { λ w. ⌜ w ≡ W.value (W.markOf x) v ⌝ }
+{
+    Value {
+        mark: mark_of(x),
+        content: v,
+    }
+}
+
 // 3 Constant: the value v of kind x.
 pub(crate) fn constant(program: &[u8], memory: &mut [u32], o: u32, i: u16, x: u8, v: u32) -> Outcome
     requires { ⌜ i < 511 ⌝ }
     ensures { λ r. ⌜ ((h : ℕ) → Acts (now (program .entry)) h (now (memory .entry)) o i (C.constant x v) r (now (memory .exit))) ⌝ }
 {
-    let v = Value {
-        mark: mark_of(x),
-        content: v,
-    };
-    give(program, memory, o, i, v)
+    let given = of_kind(x, v);
+    give(program, memory, o, i, given)
 }
 
 // Reading k, from 0.

@@ -3,6 +3,9 @@ use crate::Outcome;
 use crate::Position;
 use crate::allocate::alloc_mono;
 use crate::allocate::alloc_poly;
+use crate::cells::cell;
+use crate::cells::fetch;
+use crate::cells::keep;
 use crate::command::constant;
 use crate::command::consume;
 use crate::command::global;
@@ -84,6 +87,9 @@ fn exec(
         Command::SINK => sink(program, memory, o, c.x, c.a),
         Command::ALLOC_POLY => alloc_poly(program, memory, h, o, i, c.a, c.b),
         Command::PRIMITIVE => primitive(program, memory, o, i, c),
+        Command::CELL => cell(program, memory, o, i, c.x, c.v()),
+        Command::FETCH => fetch(program, memory, o, i, c.b),
+        Command::KEEP => keep(program, memory, o, i, c.a, c.b),
         _ => Outcome::Move,
     }
 }

@@ -1,6 +1,7 @@
-// The end of a completed turn. 01: "At the end main's sinks are written as pairs in order, further
-// sink words keep their content, every slot but D slots is zeroed, and word 1 grows by 1."
+// The end of a completed turn: main's sinks go out as pairs, cells take what was kept, all slots but D
+// slots are zeroed, and there is one turn more. 01, "Check, start, turn"; 02 (v).
 use crate::Each;
+use crate::keeps::has_cells;
 use crate::passes::pass_over;
 use image::MAIN_AT;
 use image::put;
@@ -19,18 +20,43 @@ ghost use Rattle.program.specs.Bytes as B;
 ghost use Rattle.program.specs.Location as L;
 ghost use Rattle.image.specs.Memory as M;
 ghost use Rattle.image.specs.Cut.{Tiling};
+ghost use Rattle.remus.specs.Cells as S;
 ghost use Rattle.remus.specs.Clear as E;
+ghost use Rattle.machine.specs.Answer.{Ending};
 
-// The words after a completed turn.
-pub(crate) fn finish(program: &[u8], memory: &mut [u32])
+// What was kept becomes the content of the cells, in a program that has some.
+fn fill_cells(program: &[u8], memory: &mut [u32])
+    requires { ⌜ Ending (now program) (now memory) ⌝ }
+    ensures { λ _.
+        let m = now (memory .entry) in
+        ⌜ now (memory .exit) ≡ S.keepOf (now (program .entry)) (M.used m) m ⌝ }
+{
+    let u = used(memory);
+    if has_cells(program) {
+        pass_over(program, memory, Each::Keep, u);
+    }
+}
+
+// Every slot but D slots is zeroed, and there is one turn more.
+fn close(program: &[u8], memory: &mut [u32])
     requires { ⌜ Tiling (now program) (now memory) (M.used (now memory)) M.mainAt ⌝ }
     requires { ⌜ M.turns (now memory) < 4294967295 ⌝ }
-    ensures { λ _. ⌜ now (memory .exit) ≡ E.finished (now (program .entry)) (now (memory .entry)) ⌝ }
+    ensures { λ _. ⌜ now (memory .exit) ≡ E.closed (now (program .entry)) (now (memory .entry)) ⌝ }
 {
     let u = used(memory);
     let t = turns(memory);
     pass_over(program, memory, Each::Clear, u);
     set_turns(memory, t + 1)
+}
+
+// The words after a completed turn.
+pub(crate) fn finish(program: &[u8], memory: &mut [u32])
+    requires { ⌜ Ending (now program) (now memory) ⌝ }
+    requires { ⌜ M.turns (now memory) < 4294967295 ⌝ }
+    ensures { λ _. ⌜ now (memory .exit) ≡ E.finished (now (program .entry)) (now (memory .entry)) ⌝ }
+{
+    fill_cells(program, memory);
+    close(program, memory)
 }
 
 // Pair x of the sink space.

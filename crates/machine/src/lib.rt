@@ -2,19 +2,22 @@
 // Their answers are Checked, Started and Turned, each with its number and place; Refusal says why a call
 // is refused.
 //
-// A command is decoded once (exec) and carried out by a function of its own (command, allocate); a
-// deployment's commands follow one another (run). A completed run leaves its sinks and cleared words
-// (finish), a refused one is undone in place (undo); both go over the deployments (passes). Memory is
-// never copied. The work of a turn is linear in the program's bytes and memory's words, but for the
-// slots of R commands and sinks, which are found by counting the commands before them.
+// A command is decoded once (exec) and carried out by a function of its own (command, allocate, cells);
+// a deployment's commands follow one another (run). A completed run leaves its sinks, cells with what
+// was kept (keeps) and cleared words (finish), a refused one is undone in place (undo); these go over
+// the deployments (passes). Memory is never copied. The work of a turn is linear in the program's bytes
+// and memory's words, but for the slots of R commands and sinks, which are found by counting the
+// commands before them. For cells a program without any pays one look at its D commands.
 mod allocate;
 mod asked;
 mod back;
 mod calls;
+mod cells;
 mod clear;
 mod command;
 mod exec;
 mod finish;
+mod keeps;
 mod passes;
 mod run;
 mod undo;
@@ -53,8 +56,10 @@ pub enum Brought {
     Refused(Refusal),
 }
 
-// What a pass does to each deployment: clears it, or brings it back as it was before the turn.
+// What a pass does to each deployment: fills its cells with what was kept, clears it, or brings it back
+// as it was before the turn.
 pub enum Each {
+    Keep,
     Clear,
     Back,
 }

@@ -8,11 +8,11 @@ use Rattle.value.specs.Value.{markOf, Content as ContentIn, OfKind as OfKindIn}
 use Rattle.value.specs.Primitive.{rowOf, kindGiven}
 use Rattle.value.specs.declared.Value.{Value}
 use Rattle.program.specs.Bytes.{reactors, shapeOf, globalKind, sourceKind, sinkKind}
-use Rattle.program.specs.Command.{Cmd, allocMono, makePoly, constant, global, supply, react, consume, sink, allocPoly, primitive, none}
+use Rattle.program.specs.Command.{Cmd, allocMono, makePoly, constant, global, supply, react, consume, sink, allocPoly, primitive, cell, fetch, keep, none}
 use Rattle.program.specs.Location.{sources, sinkLoc, cmdAt, shapeThere}
 
 -- "A port has its shape's kind, Constant x, Global its declared kind, Consume its sink's; primitives 5 to 10 a truth, 11 and 12 their last two operands' kind, the others a number."
--- `lower` is the kind of an operand's location.
+-- A cell is of kind x, and a Fetch of its cell's, 02 (v). `lower` is the kind of an operand's location.
 unfoldable pub kindMade : List ℕ → ℕ → (ℕ → ℕ) → Cmd → ℕ
 kindMade p r lower (allocMono x) = 0
 kindMade p r lower (makePoly x) = 0
@@ -24,6 +24,9 @@ kindMade p r lower (consume x b) = sinkKind p (shapeThere p r b) x
 kindMade p r lower (sink x a) = 0
 kindMade p r lower (allocPoly a b) = 0
 kindMade p r lower (primitive x a b c) = kindGiven (rowOf x .gives) (lower b)
+kindMade p r lower (cell x v) = x
+kindMade p r lower (fetch b) = lower b
+kindMade p r lower (keep a b) = 0
 kindMade p r lower none = 0
 
 -- operands lie lower, so a location's own number is depth enough
@@ -37,7 +40,8 @@ kindIn (suc f) p r l =
 unfoldable pub kindOf : List ℕ → ℕ → ℕ → ℕ
 kindOf p r l = kindIn (suc l) p r l
 
--- whether a content is legal beside the mark of kind k: "truth 0 or 1; reactor below R, of shape s". Used for constants and readings.
+-- whether a content is legal beside the mark of kind k: a truth is 0 or 1, a reactor exists and has the kind's shape.
+-- Asked of constants, readings and cells.
 unfoldable pub contentLegal : List ℕ → ℕ → ℕ → Bool
 contentLegal p zero c = true
 contentLegal p (suc zero) c = c <? 2

@@ -12,6 +12,9 @@
 //      8 Sink        R  x own sink, a value
 //      9 AllocPoly   R  a operator, b branch point
 //     10 Primitive   R  x primitive, a b v0 operands
+//     11 Cell        D  x kind, v first content
+//     12 Fetch       R  b cell
+//     13 Keep        R  a value, b cell
 use crate::Command;
 use crate::bytes::byte;
 use crate::entry::commands_at;
@@ -41,6 +44,12 @@ impl Command {
     pub const ALLOC_POLY: u8 = 9;
 
     pub const PRIMITIVE: u8 = 10;
+
+    pub const CELL: u8 = 11;
+
+    pub const FETCH: u8 = 12;
+
+    pub const KEEP: u8 = 13;
 
     // The number that the four bytes v make.
     pub fn v(self) -> u32

@@ -24,6 +24,7 @@ use Rattle.remus.proofs.Walk.Core as Core
 use Rattle.remus.proofs.Lists.{TurnHolds, lists}
 use Rattle.remus.proofs.Inside.{Ending, leaves, stops, Stop, deep, full, Inside}
 use Rattle.remus.proofs.OneTurn.{turn-holds}
+use Rattle.remus.proofs.Remembered.{finish}
 use Rattle.remus.proofs.Undo.Undoing.{undoes}
 
 -- ---- the inside of a turn
@@ -53,13 +54,16 @@ module _ (p : List ℕ) (rules : Rules p) (w : List ℕ) (few : length w ≤ mos
         topmost = Core.topmost p rules w few image t;
         carried = Core.carried p rules w few image t;
         values = Core.values p rules w few image t;
+        fetched = Core.fetched p rules w few image t;
+        inner = Core.inner p rules w few image t;
+        onward = λ s d. Core.onward-from p rules w few image t d;
         written = Core.written p rules w few image t;
         walk-ends = λ e. ending (Core.walk-ends p rules w few image t e);
         stopping = λ s v d e.
             let x = Core.stops p rules w few image t s v d e in
             subst (λ (s : State). Stop p w t s v) (x .4) (why v (x .0) (x .1) (x .2) (x .3) (x .5));
         stopped-by = stopped-by;
-        whole = Core.whole p rules w few image t;
+        finish = finish p rules w few image t;
         made = Core.made p rules w few image t;
         same-length = Core.same-length p rules w few image t;
         same-turns = Core.same-clock p rules w few image t;
@@ -74,10 +78,10 @@ holds p w t a few image =
     turn-holds p w t a few image (rules-soundness p rules w few .1 image) (inside p rules w few image t)
 
 pub demand-once : DemandOnce
-demand-once p w t a few image = holds p w t a few image .claim
+demand-once p w t a few image = holds p w t a few image .lasting .claim
 
 pub soundness-kept : SoundnessKept
-soundness-kept p w t a few image = holds p w t a few image .sound
+soundness-kept p w t a few image = holds p w t a few image .lasting .sound
 
 pub demand-three : Demand
 demand-three p m ts a started =

@@ -1,22 +1,19 @@
 -- What a turn brings: 10 to 13 refuse it exactly for its first fault (`asking`), and not at all just where it is as it
--- should be (`fits`). With the law between the test and the proposition on values of a kind.
-use Prim.Native.Nat.{ℕ, zero, suc, _+_, _*_, _<_}
+-- should be (`fits`).
+use Prim.Native.Nat.{ℕ, _+_, _*_, _<_}
 use mathlib.Core.Path.{_≡_, refl, sym, subst}
-use mathlib.Core.Bool.{Bool, true}
-use mathlib.Core.Logic.{_↔_, _⊎_, inl, inr, _≢_}
+use mathlib.Core.Bool.{Bool}
+use mathlib.Core.Logic.{_↔_, inl, inr, _≢_}
 use mathlib.Core.List.{List}
 use native.Mathlib.Omega.{arith}
 use lib.ListN.{length}
-use Rattle.value.specs.Test.{_and_, _<?_, _=?_}
-use Rattle.value.specs.Value.{markOf, value}
-use Rattle.value.specs.declared.Value.{Value}
-use Rattle.value.proofs.Tests.{cases, clash, lt!, lt×, lt?, lt×?, le!, le×, le?, eq!, eq×, eq?, both!, both?, either! }
-use Rattle.value.proofs.Tests.{or! }
-use Rattle.value.proofs.Tests.{or?, goes, stops, guards, Says, says-lt, says-le, says-eq, says×, says-guard}
+use Rattle.value.specs.Test.{_<?_, _=?_}
+use Rattle.value.proofs.Tests.{cases, clash, lt!, lt×, lt?, lt×?, le!, le×, le?, eq!, eq×, eq?, goes, stops, guards, Says, says-lt, says-le, says-eq, says×, says-guard}
 use Rattle.value.proofs.Sweeps.{Swept, swept, sweeps?}
 use Rattle.program.specs.Bytes.{globals, globalKind, mainOf}
 use Rattle.program.specs.Location.{sinks}
-use Rattle.program.specs.Kind.{contentLegal, legal, Content, OfKind}
+use Rattle.program.specs.Kind.{legal}
+use Rattle.program.proofs.OfKind.{legal-kind}
 use Rattle.load.specs.Refusal.{refusalNumber, refusalPlace}
 use Rattle.load.specs.Fault.{Between}
 use Rattle.load.specs.declared.Refusal.{Refusal}
@@ -26,29 +23,6 @@ use Rattle.remus.specs.Turn.{Asked, fine, asked, askedOf, badReading, re
 use Rattle.remus.specs.Fault.{LegalReading, LegalReadings, Asking, count, reading, space, clock}
 use Rattle.remus.specs.Walk.{Input}
 use Rattle.remus.specs.Claim.{Fit}
-
-pub content-legal : (p : List ℕ) (k c : ℕ) → (contentLegal p k c ≡ true) ↔ Content p k c
-unfolding contentLegal
-content-legal p zero c = (λ e. tt, λ e. refl)
-content-legal p (suc zero) c = (lt?, lt!)
-content-legal p (suc (suc s)) c = (λ e. let b = both? e in (lt? (b .0), eq? (b .1)), λ h. both! (lt! (h .0)) (eq! (h .1)))
-
-same-value : (v : Value) (m c : ℕ) → v .mark ≡ m → v .content ≡ c → v ≡ value m c
-same-value v m c e f = rw (← e, ← f) refl
-
-pub legal-kind : (p : List ℕ) (k : ℕ) (v : Value) → (legal p k v ≡ true) ↔ OfKind p k v
-unfolding legal
-legal-kind p k v = (λ e. to (or? e), from)
-  where
-    to : (((v .mark =? 0) and (v .content =? 0)) ≡ true) ⊎ (((v .mark =? markOf k) and contentLegal p k (v .content)) ≡ true) → OfKind p k v
-    to (inl e) = let b = both? e in inl (same-value v 0 0 (eq? (b .0)) (eq? (b .1)))
-    to (inr e) = let b = both? e in inr (eq? (b .0), content-legal p k (v .content) .0 (b .1))
-
-    from : OfKind p k v → legal p k v ≡ true
-    from (inl e) = rw e (either! _ (both! (eq! refl) (eq! refl)))
-    from (inr h) =
-        let second = both! (eq! (h .0)) (content-legal p k (v .content) .1 (h .1)) in
-        cases ((v .mark =? 0) and (v .content =? 0)) (λ e. either! _ e) (λ e. or! e second)
 
 -- ---- the readings
 

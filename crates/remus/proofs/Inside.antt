@@ -5,19 +5,21 @@ use mathlib.Core.Path.{_≡_}
 use mathlib.Core.Logic.{_≢_}
 use mathlib.Core.List.{List}
 use lib.ListN.{length}
+use Rattle.value.specs.declared.Value.{Value}
 use Rattle.program.specs.Bytes.{mainOf}
-use Rattle.program.specs.Command.{Cmd}
+use Rattle.program.specs.Command.{Cmd, fetch}
 use Rattle.program.specs.Location.{sinks, sinkLoc, sizeOf}
 use Rattle.load.specs.declared.Refusal.{Refusal}
 use Rattle.load.specs.declared.Refusal.the-variants.{NoRoom, TooDeep}
-use Rattle.image.specs.Memory.{mostDepth, mainAt, used, turns}
-use Rattle.image.specs.Sound.{Tiles, Depth}
-use Rattle.image.specs.Whole.{Whole}
+use Rattle.image.specs.Memory.{mostDepth, mainAt, used, turns, valueAt}
+use Rattle.image.specs.Sound.{Tiles, Deployed, Depth}
 use Rattle.remus.specs.Run.{ran, stopped, mainRun}
 use Rattle.remus.specs.Turn.{fine, askedOf}
 use Rattle.remus.specs.Walk.{State, Input, location, begun, stop, step}
 use Rattle.remus.specs.Point.{_∈_, Within, Can, ReadsWell, Allocation, Made}
-use Rattle.remus.specs.Claim.{During, Point, Leaves}
+use Rattle.remus.specs.Claim.{During, Point, Leaves, CellIn, Begins}
+use Rattle.remus.proofs.Walk.Top.{Onward}
+use Rattle.remus.proofs.History.{Finish}
 
 module _ (p w : List ℕ) (t : Input) where
   -- how the walk ends, and the recursive run with it
@@ -37,13 +39,19 @@ module _ (p w : List ℕ) (t : Input) where
         → Within p m o × Depth p m o (length (s .pile)) × (length (s .pile) ≤ mostDepth)
     pub carried : (s : State) (m : List ℕ) (o : ℕ) (c : Cmd) → Point p w t s m o c → Can p m (s .notes) o c
     pub values : (s : State) (m : List ℕ) (o : ℕ) (c : Cmd) → Point p w t s m o c → ReadsWell p m (s .notes) o (t .readings) c
+    pub fetched : (s : State) (m : List ℕ) (o b : ℕ) (v : Value) → Point p w t s m o (fetch b) → CellIn p m o b v
+        → Begins p w o b v (valueAt p m o b)
+    -- deployments stay
+    pub inner : (s : State) (m : List ℕ) (o : ℕ) (c : Cmd) → Point p w t s m o c → Onward p w m × Deployed p m o
+    pub onward : (s : State) → During p w t s → Onward p w (s .words)
     -- every sink of main is noted as it leaves
     pub written : (s : State) → Leaves p w t s → (x : ℕ) → x < sinks p (mainOf p) → location mainAt (sinkLoc p (mainOf p) x) ∈ s .notes
     pub walk-ends : askedOf p w (t .readings) (t .sinkSpace) ≡ fine → Ending
     -- it stops for these reasons, and where there is one
     pub stopping : (s : State) (v : Refusal) → During p w t s → step p (t .readings) s ≡ stop v → Stop s v
     pub stopped-by : (s : State) (v : Refusal) → Stop s v → step p (t .readings) s ≡ stop v
-    pub whole : (s : State) → Leaves p w t s → Whole p (s .words)
+    -- what it leaves if main does
+    pub finish : (s : State) → Leaves p w t s → Finish p w t s
     -- u grows by what is allocated; length and clock stay
     pub made : (s : State) → During p w t s → (k : ℕ) × Made p (t .readings) (begun p w) s k × (used (s .words) ≡ used w + k)
     pub same-length : (s : State) → During p w t s → length (s .words) ≡ length w

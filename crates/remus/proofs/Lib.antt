@@ -5,6 +5,9 @@ pub mod Fits
 pub mod Sinks
 pub mod Clearing
 pub mod Finished
+pub mod Keeping
+pub mod History
+pub mod Remembered
 pub mod Lists
 pub mod Inside
 pub mod OneTurn

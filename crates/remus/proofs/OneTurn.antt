@@ -26,7 +26,7 @@ use Rattle.remus.specs.declared.Turned.the-variants.{Done, Refused}
 use Rattle.remus.proofs.Once.{walked-once}
 use Rattle.remus.proofs.Fits.{asking, asking-number, fits}
 use Rattle.remus.proofs.Sinks.{sinks-written}
-use Rattle.remus.proofs.Finished.{cleared, finished-length, finished-used, after-turn}
+use Rattle.remus.proofs.Walk.Top.{Onward, onward-self, onward-on}
 use Rattle.remus.proofs.Lists.{TurnHolds}
 use Rattle.remus.proofs.Inside.{Ending, leaves, stops, Stop, deep, full, Inside}
 
@@ -80,7 +80,7 @@ module _ (p w : List ℕ) (t : Input) (yes-program : IsAccepted p) (few : length
         let d : During p w t s = record { allowed = e; comes = q } in
         let l : Leaves p w t s = record { during = d; empty = k } in
         completed s l refl (sinks-written p w t s (f .room) (inside .written s l))
-        (after-turn p (s .words) (inside .whole s l) w (inside .same-length s d) (inside .same-turns s d))
+        (inside .finish s l .after)
 
     -- a turn that 10 to 13 refuse ends neither with 14 nor with 15
     asked-low : (v : Refusal) → 14 ≤ refusalNumber v → askedOf p w rd sk ≡ asked v → ⊥
@@ -152,6 +152,7 @@ module _ (p w : List ℕ) (t : Input) (yes-program : IsAccepted p) (few : length
           topmost = inside .topmost;
           carried = inside .carried;
           values = inside .values;
+          fetched = inside .fetched;
           ends = ends;
           deep = deep-ends;
           full = full-ends;
@@ -175,15 +176,33 @@ module _ (p w : List ℕ) (t : Input) (yes-program : IsAccepted p) (few : length
     leaves-sound r (left s e q k) =
         let d : During p w t s = record { allowed = e; comes = q } in
         let l : Leaves p w t s = record { during = d; empty = k } in
-        let h = inside .whole s l in
+        let h = inside .finish s l in
         let g = inside .made s d in
         record {
-          sound-image = cleared p (s .words) h (omega (arith, inside .same-turns s d, fits p w t .1 e .clock));
-          same-length = finished-length p (s .words) h ∙ inside .same-length s d;
-          grows = λ u a. (g .0, record { state = s; leaves = l; made = g .1 }, finished-used p (s .words) h ∙ g .2);
+          sound-image = h .sound-image (omega (arith, inside .same-turns s d, fits p w t .1 e .clock));
+          same-length = h .after .same-length;
+          grows = λ u a. (g .0, record { state = s; leaves = l; made = g .1 }, h .after .same-used ∙ g .2);
         }
+
+    -- deployments stay, however it ends
+    outer : (r : Turn) → Walked p w t r → Onward p w (r .memory)
+    outer r (refused e) = onward-self
+    outer r (stopped s e q k) = onward-self
+    outer r (left s e q k) =
+        let d : During p w t s = record { allowed = e; comes = q } in
+        onward-on (inside .onward s d) (inside .finish s (record { during = d; empty = k }) .to)
 
     pub turn-holds : TurnHolds p w t
     turn-holds =
         let l = leaves-sound (turnOf p w rd sk) result in
-        record { claim = turn-claim; sound = l .sound-image; same-length = l .same-length; grows = l .grows }
+        record {
+          lasting = record {
+            claim = turn-claim;
+            sound = l .sound-image;
+            same-length = l .same-length;
+            inner = inside .inner;
+            outer = outer (turnOf p w rd sk) result;
+            finish = inside .finish;
+          };
+          grows = l .grows;
+        }

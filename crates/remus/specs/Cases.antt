@@ -7,10 +7,11 @@ use mathlib.Core.List.{List, [], _∷_, _++_}
 use lib.ListN.{replicate, take, set}
 use lib.IntN.{ℤ, pos, negsuc}
 use Rattle.value.specs.Test.{pick, _=?_}
-use Rattle.value.specs.Value.{blank, number, truth}
+use Rattle.value.specs.Value.{blankMark, keptMark, value, blank, number, truth}
 use Rattle.value.specs.Primitive.{primitive}
 use Rattle.value.specs.declared.Value.{Value}
 use Rattle.load.specs.Programs.{zeros, joined, command, withCommand, clock, nest, toggle, stocked, ticking, graded}
+use Rattle.load.specs.Programs.{peak, last, counters}
 use Rattle.load.specs.Check as Check
 use Rattle.image.specs.Memory.{word, used}
 use Rattle.image.specs.Start as Start
@@ -28,8 +29,8 @@ pub data Ask : Type 0 where
   -- number and place
   checks : (p : List ℕ) → Ask
   starts : (p : List ℕ) (n : ℕ) → Ask
-  -- of that many turns after a start with n words, each one's number, place, word 1 and sink words
-  turns : (count : ℕ) (p : List ℕ) (n : ℕ) (readings sinks : List ℕ) → Ask
+  -- of turns with these readings after a start with n words, each one's number, place, word 1 and sink words
+  turns : (p : List ℕ) (n : ℕ) (readings : List (List ℕ)) (sinks : List ℕ) → Ask
   -- number and place of the walk's first turn after a start
   walks : (p : List ℕ) (n : ℕ) (readings : List ℕ) → Ask
   -- number and place of a turn on this memory
@@ -46,10 +47,10 @@ pub record Row : Type 0 where
 abbrev shown : Turn → List ℕ
 shown t = numberOf (t .answer) ∷ placeOf (t .answer) ∷ word (t .memory) 1 ∷ t .sinkSpace
 
--- so many turns, one after the other on the memory that the one before left
-unfoldable pub after : ℕ → List ℕ → List ℕ → List ℕ → List ℕ → List ℕ
-after zero p m rd sk = []
-after (suc k) p m rd sk = let t = turnOf p m rd sk in shown t ++ after k p (t .memory) rd sk
+-- turns, one after the other on the memory that the one before left
+unfoldable pub after : List (List ℕ) → List ℕ → List ℕ → List ℕ → List ℕ
+after [] p m sk = []
+after (rd ∷ rds) p m sk = let t = turnOf p m rd sk in shown t ++ after rds p (t .memory) sk
 
 -- the memory after so many turns
 unfoldable pub memoryOf : ℕ → List ℕ → List ℕ → List ℕ → List ℕ → List ℕ
@@ -77,7 +78,7 @@ ended (over s) = 0 ∷ used (s .words) ∷ []
 unfoldable pub answerOf : Ask → List ℕ
 answerOf (checks p) = let c = Check.checkOf p in Check.numberOf c ∷ Check.placeOf c ∷ []
 answerOf (starts p n) = let s = startOf p (replicate n 7) in Start.numberOf (s .answer) ∷ Start.placeOf (s .answer) ∷ []
-answerOf (turns k p n rd sk) = after k p (startOf p (replicate n 7) .memory) rd sk
+answerOf (turns p n rds sk) = after rds p (startOf p (replicate n 7) .memory) sk
 answerOf (resumes p m rd) = let t = turnOf p m rd (9 ∷ 9 ∷ []) in numberOf (t .answer) ∷ placeOf (t .answer) ∷ []
 answerOf (walks p n rd) = ended (steps p rd 1000 (begun p (startOf p (replicate n 7) .memory)))
 answerOf (undoes k p n rd sk) = undoneFrom p rd (memoryOf k p (startOf p (replicate n 7) .memory) rd sk)
@@ -107,6 +108,10 @@ twoTurns =
     ∷ (1 ∷ 1 ∷ 0 ∷ zeros 8)
     ∷ (0 ∷ 1 ∷ 33 ∷ zeros 8)
     ∷ zeros 1 ∷ [])
+
+-- the running maximum's image after a turn, with this in its cell
+abbrev holding : Value → List ℕ
+holding v = joined ((21 ∷ 1 ∷ []) ∷ (0 ∷ 1 ∷ 0 ∷ v .mark ∷ v .content ∷ zeros 14) ∷ [])
 
 -- a fresh image with a second deployment behind main, whose wired word nothing judges
 abbrev twoFresh : List ℕ
@@ -140,6 +145,9 @@ across x a t f b = gives x a yes (pair t) ∷ gives x a no (pair f) ∷ gives x 
 abbrev faulty : List ℕ → ℕ → Row
 faulty m q = row (resumes toggle m (1 ∷ 7 ∷ 1 ∷ 5 ∷ [])) (9 ∷ q ∷ [])
 
+abbrev resumed : Value → ℕ → ℕ → Row
+resumed v n q = row (resumes peak (holding v) (1 ∷ 7 ∷ [])) (n ∷ q ∷ [])
+
 -- ---- the rows
 
 abbrev aboutCheck : List Row
@@ -167,6 +175,19 @@ aboutCheck =
     ∷ checked (withCommand toggle 182 (command 9 0 10 0 0)) 20 182  -- a second AllocPoly
     ∷ checked (withCommand toggle 86 (command 1 2 0 0 0)) 21 86  -- AllocMono of its own reactor
     ∷ checked (withCommand toggle 206 (command 5 2 2 11 0)) 5 206  -- a late Supply to no source: 5 comes first
+    -- 02 (v)
+    ∷ checked peak 0 19
+    ∷ checked last 0 13
+    ∷ checked counters 0 41
+    ∷ checked (withCommand peak 29 (command 11 2 0 0 0)) 3 29  -- a cell of a reactor's kind
+    ∷ checked (withCommand peak 29 (command 11 1 0 0 2)) 3 29  -- a truth's, with no truth in it
+    ∷ checked (withCommand peak 29 (command 12 0 0 0 0)) 3 29  -- Fetch among the D commands
+    ∷ checked (withCommand peak 45 (command 12 0 0 1 0)) 4 45  -- Fetch of no cell
+    ∷ checked (withCommand peak 77 (command 13 0 5 1 0)) 4 77  -- Keep in no cell
+    ∷ checked (withCommand last 45 (command 13 0 0 0 0)) 4 45  -- Keep of a cell, which is no value
+    ∷ checked (withCommand peak 77 (command 13 0 3 0 0)) 5 77  -- a truth for a number's cell
+    ∷ checked (withCommand last 53 (command 13 0 1 0 0)) 20 53  -- a second Keep
+    ∷ checked (withCommand last 45 (command 4 1 0 0 0)) 7 25  -- none
     ∷ []
 
 -- `negsuc n` is -(n + 1)
@@ -196,22 +217,40 @@ aboutTurns =
     row (starts clock 8) (14 ∷ 0 ∷ [])  -- * one word short
     ∷ row (starts clock 9) (0 ∷ 9 ∷ [])  -- *
     ∷ row (starts clock 1) (8 ∷ 1 ∷ [])
-    ∷ row (turns 2 clock 9 [] (9 ∷ 9 ∷ 9 ∷ []))  -- * its sink is the time, 1 and then 2
+    ∷ row (turns clock 9 (replicate 2 []) (9 ∷ 9 ∷ 9 ∷ []))  -- * its sink is the time, 1 and then 2
     ((0 ∷ 9 ∷ 1 ∷ 1 ∷ 1 ∷ 9 ∷ []) ++ (0 ∷ 9 ∷ 2 ∷ 1 ∷ 2 ∷ 9 ∷ []))
-    ∷ row (turns 1 nest 833 [] (9 ∷ 9 ∷ [])) (14 ∷ 0 ∷ 0 ∷ 9 ∷ 9 ∷ [])  -- * one word less than 64 deployments take
-    ∷ row (turns 1 nest 834 [] (9 ∷ 9 ∷ [])) (15 ∷ 0 ∷ 0 ∷ 9 ∷ 9 ∷ [])  -- * room for them, and 2 + 64 * 13 words
+    ∷ row (turns nest 833 ([] ∷ []) (9 ∷ 9 ∷ [])) (14 ∷ 0 ∷ 0 ∷ 9 ∷ 9 ∷ [])  -- * one word less than 64 deployments take
+    ∷ row (turns nest 834 ([] ∷ []) (9 ∷ 9 ∷ [])) (15 ∷ 0 ∷ 0 ∷ 9 ∷ 9 ∷ [])  -- * room for them, and 2 + 64 * 13 words
     ∷ row (walks nest 834 []) (15 ∷ 0 ∷ [])  -- and so says the walk
     ∷ row (walks toggle 55 (1 ∷ 7 ∷ 1 ∷ 5 ∷ [])) (0 ∷ 44 ∷ [])
     ∷ row (starts toggle 55) (0 ∷ 33 ∷ [])
-    ∷ row (turns 3 toggle 55 (1 ∷ 7 ∷ 1 ∷ 5 ∷ []) (9 ∷ 9 ∷ []))  -- it subtracts, adds, subtracts; u was 33
+    ∷ row (turns toggle 55 (replicate 3 (1 ∷ 7 ∷ 1 ∷ 5 ∷ [])) (9 ∷ 9 ∷ []))  -- it subtracts, adds, subtracts; u was 33
     ((0 ∷ 44 ∷ 1 ∷ 1 ∷ 2 ∷ []) ++ ((0 ∷ 55 ∷ 2 ∷ 1 ∷ 12 ∷ []) ++ (0 ∷ 55 ∷ 3 ∷ 1 ∷ 2 ∷ [])))
-    ∷ row (turns 3 toggle 54 (1 ∷ 7 ∷ 1 ∷ 5 ∷ []) (9 ∷ 9 ∷ []))  -- one word short for plus, each time it is tried
+    ∷ row (turns toggle 54 (replicate 3 (1 ∷ 7 ∷ 1 ∷ 5 ∷ [])) (9 ∷ 9 ∷ []))  -- one word short for plus, each time
     ((0 ∷ 44 ∷ 1 ∷ 1 ∷ 2 ∷ []) ++ ((14 ∷ 0 ∷ 1 ∷ 9 ∷ 9 ∷ []) ++ (14 ∷ 0 ∷ 1 ∷ 9 ∷ 9 ∷ [])))
-    ∷ row (turns 1 ticking 55 (1 ∷ 2147483648 ∷ 1 ∷ 2147483647 ∷ []) (9 ∷ 9 ∷ []))  -- as 13 above: 02 (xii)
+    ∷ row (turns ticking 55 ((1 ∷ 2147483648 ∷ 1 ∷ 2147483647 ∷ []) ∷ []) (9 ∷ 9 ∷ []))  -- as 13 above: 02 (xii)
     (0 ∷ 44 ∷ 1 ∷ 1 ∷ 1 ∷ [])
-    ∷ row (turns 1 graded 21 (1 ∷ 100 ∷ 0 ∷ 0 ∷ []) (9 ∷ 9 ∷ [])) (0 ∷ 21 ∷ 1 ∷ 2 ∷ 0 ∷ [])  -- the first count: 02 (iv)
-    ∷ row (turns 1 graded 21 (0 ∷ 0 ∷ 1 ∷ 8 ∷ []) (9 ∷ 9 ∷ [])) (0 ∷ 21 ∷ 1 ∷ 2 ∷ 0 ∷ [])  -- the second
-    ∷ row (turns 1 graded 21 (1 ∷ 99 ∷ 0 ∷ 0 ∷ []) (9 ∷ 9 ∷ [])) (0 ∷ 21 ∷ 1 ∷ 0 ∷ 0 ∷ [])  -- neither settles it
+    -- 02 (iv): settled by the first count, by the second, by neither
+    ∷ row (turns graded 21 ((1 ∷ 100 ∷ 0 ∷ 0 ∷ []) ∷ []) (9 ∷ 9 ∷ [])) (0 ∷ 21 ∷ 1 ∷ 2 ∷ 0 ∷ [])
+    ∷ row (turns graded 21 ((0 ∷ 0 ∷ 1 ∷ 8 ∷ []) ∷ []) (9 ∷ 9 ∷ [])) (0 ∷ 21 ∷ 1 ∷ 2 ∷ 0 ∷ [])
+    ∷ row (turns graded 21 ((1 ∷ 99 ∷ 0 ∷ 0 ∷ []) ∷ []) (9 ∷ 9 ∷ [])) (0 ∷ 21 ∷ 1 ∷ 0 ∷ 0 ∷ [])
+    -- 02 (v): the first content, a greater, a blank, a refused turn, a smaller, a greater
+    ∷ row (turns peak 21
+    ((1 ∷ 3 ∷ []) ∷ (1 ∷ 5 ∷ []) ∷ (0 ∷ 0 ∷ []) ∷ (7 ∷ 0 ∷ []) ∷ (1 ∷ 2 ∷ []) ∷ (1 ∷ 9 ∷ []) ∷ []) (9 ∷ 9 ∷ []))
+    ((0 ∷ 21 ∷ 1 ∷ 1 ∷ 4 ∷ []) ++ ((0 ∷ 21 ∷ 2 ∷ 1 ∷ 5 ∷ []) ++ ((0 ∷ 21 ∷ 3 ∷ 1 ∷ 5 ∷ [])
+    ++ ((11 ∷ 0 ∷ 3 ∷ 9 ∷ 9 ∷ []) ++ ((0 ∷ 21 ∷ 4 ∷ 1 ∷ 5 ∷ []) ++ (0 ∷ 21 ∷ 5 ∷ 1 ∷ 9 ∷ []))))))
+    -- what is kept is fetched in the next turn, a blank too
+    ∷ row (turns last 15 ((1 ∷ 5 ∷ []) ∷ (0 ∷ 0 ∷ []) ∷ (1 ∷ 7 ∷ []) ∷ []) (9 ∷ 9 ∷ []))
+    ((0 ∷ 15 ∷ 1 ∷ 1 ∷ 4 ∷ []) ++ ((0 ∷ 15 ∷ 2 ∷ 1 ∷ 5 ∷ []) ++ (0 ∷ 15 ∷ 3 ∷ 0 ∷ 0 ∷ [])))
+    -- a deployment that does not run keeps its cell
+    ∷ row (turns counters 73 (replicate 4 []) (9 ∷ 9 ∷ 9 ∷ 9 ∷ []))
+    ((0 ∷ 58 ∷ 1 ∷ 1 ∷ 11 ∷ 1 ∷ 0 ∷ []) ++ ((0 ∷ 73 ∷ 2 ∷ 1 ∷ 21 ∷ 1 ∷ 1 ∷ [])
+    ++ ((0 ∷ 73 ∷ 3 ∷ 1 ∷ 12 ∷ 1 ∷ 2 ∷ []) ++ (0 ∷ 73 ∷ 4 ∷ 1 ∷ 22 ∷ 1 ∷ 3 ∷ []))))
+    -- one word short for the second, after main's Keep: the turn changes no cell
+    ∷ row (turns counters 72 (replicate 2 []) (9 ∷ 9 ∷ 9 ∷ 9 ∷ []))
+    ((0 ∷ 58 ∷ 1 ∷ 1 ∷ 11 ∷ 1 ∷ 0 ∷ []) ++ (14 ∷ 0 ∷ 1 ∷ 9 ∷ 9 ∷ 9 ∷ 9 ∷ []))
+    ∷ row (undoes 1 counters 72 [] (9 ∷ 9 ∷ 9 ∷ 9 ∷ [])) (1 ∷ [])
+    ∷ row (walks counters 73 []) (0 ∷ 58 ∷ [])
     ∷ row (undoes 0 nest 200 [] (9 ∷ 9 ∷ [])) (1 ∷ [])  -- a refused turn, undone in place
     ∷ row (undoes 1 toggle 54 (1 ∷ 7 ∷ 1 ∷ 5 ∷ []) (9 ∷ 9 ∷ [])) (1 ∷ [])
     ∷ []
@@ -234,6 +273,12 @@ aboutImages =
     ∷ faulty (set (set twoTurns 46 0) 47 1) 44  -- own words come before names
     ∷ faulty (set twoTurns 1 0) 2  -- turns 0, and main is wired
     ∷ faulty twoFresh 33  -- the second deployment
+    -- what a cell may hold: 02 (v)
+    ∷ resumed (number (negsuc 4)) 0 21
+    ∷ resumed blank 0 21
+    ∷ resumed (value blankMark 1) 9 2  -- a blank with content
+    ∷ resumed yes 9 2  -- another kind
+    ∷ resumed (value keptMark 0) 9 2  -- a blank as it waits within a turn
     ∷ row (resumes clock (9 ∷ zeros 8) []) (0 ∷ 9 ∷ [])  -- a clock as a start leaves it
     ∷ row (resumes clock (11 ∷ zeros 10) []) (9 ∷ 0 ∷ [])  -- as one left it before 02 (viii)
     ∷ row (resumes nest (nested 64) []) (15 ∷ 0 ∷ [])  -- depth 64 is sound

@@ -8,10 +8,11 @@ use Rattle.value.specs.Value.{numberMark, deploymentMark, pointMark, markOf, va
 use Rattle.value.specs.Primitive as P
 use Rattle.value.specs.declared.Value.{Value}
 use Rattle.program.specs.Bytes.{reactors, declared}
-use Rattle.program.specs.Command.{Cmd, cmdOf, allocMono, makePoly, constant, global, supply, react, consume, sink, allocPoly, primitive, none}
+use Rattle.program.specs.Command.{Cmd, cmdOf, allocMono, makePoly, constant, global, supply, react, consume, sink, allocPoly, primitive, cell, fetch, keep, none}
 use Rattle.program.specs.Location.{commandLoc, sinkLoc, sizeOf}
 use Rattle.load.specs.declared.Refusal.{Refusal}
 use Rattle.load.specs.declared.Refusal.the-variants.{NoRoom, TooDeep}
+use Rattle.remus.specs.Cells.{pending}
 use Rattle.image.specs.Memory.{mostDepth, word, used, turns, reactor, wired, next, withWired, mark, content, valueAt, store, place}
 
 -- the words after the command; the deployment to run before the next one; or the turn's end
@@ -94,7 +95,7 @@ module _ (p rd : List ℕ) (h : ℕ) (m : List ℕ) (o i : ℕ) where
   consumed true x b = let d = content p m o b in give (valueAt p m d (sinkLoc p (reactor m d) x))
   consumed false x b = give blank
 
-  -- the command table
+  -- the command table; a Cell is carried out in D, so that wiring fills it
   unfoldable pub exec : Cmd → Eff
   exec (allocMono x) = allocated tooDeep (room x) x
   exec (makePoly x) = give (value pointMark 0)
@@ -106,6 +107,9 @@ module _ (p rd : List ℕ) (h : ℕ) (m : List ℕ) (o i : ℕ) where
   exec (sink x a) = move (store p m o (sinkLoc p (reactor m o) x) (operand a))
   exec (allocPoly a b) = operated (isBlank (operand a)) (content p m o a) b
   exec (primitive x a b c) = give (P.primitive x (operand a) (operand b) (operand c))
+  exec (cell x v) = give (value (markOf x) v)
+  exec (fetch b) = give (operand b)
+  exec (keep a b) = give (pending (operand a))
   exec none = move m
 
 -- "An unwired deployment opens at D, is wired at D's end and goes on to R; a wired one opens at R."

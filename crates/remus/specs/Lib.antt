@@ -1,3 +1,4 @@
+pub mod Cells
 pub mod Exec
 pub mod Run
 pub mod Clear

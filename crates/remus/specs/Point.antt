@@ -8,11 +8,11 @@ use mathlib.Core.List.{List, _∷_}
 use Rattle.value.specs.Value.{blank, isBlank, deploymentMark}
 use Rattle.value.specs.Primitive.{operands, Offered}
 use Rattle.program.specs.Bytes.{reactors, globals, globalKind, shapeOf, commandsIn}
-use Rattle.program.specs.Command.{Cmd, cmdOf, allocMono, makePoly, constant, global, supply, react, consume, sink, allocPoly, primitive, none}
+use Rattle.program.specs.Command.{Cmd, cmdOf, allocMono, makePoly, constant, global, supply, react, consume, sink, allocPoly, primitive, cell, fetch, keep, none}
 use Rattle.program.specs.Location.{sources, sinks, sinkLoc, sizeOf, HasSlot, cmdAt, shapeThere}
 use Rattle.program.specs.Kind.{kindOf, OfKind}
 use Rattle.image.specs.Memory.{used, reactor, mark, content, valueAt, sizeAt}
-use Rattle.image.specs.Sound.{Deployed, OnChain, PointSlot}
+use Rattle.image.specs.Sound.{Deployed, OnChain, PointSlot, CellSlot}
 use Rattle.remus.specs.Exec.{globalValue, there, ready}
 use Rattle.remus.specs.Walk.{Note, location, run, Frame, State, go, step}
 
@@ -52,9 +52,14 @@ module _ (p m : List ℕ) (ns : List Note) (o : ℕ) where
   abbrev pub Where : ℕ → (ℕ → Type 0) → Type 0
   Where b P = there p m o b ≡ true → P (content p m o b)
 
+  -- A cell's slot: blank, or legal content of its kind.
+  abbrev pub Cell : ℕ → Type 0
+  Cell b = (x : ℕ) × (v : ℕ) × (cmdAt p (reactor m o) b ≡ cell x v) × CellSlot p m o b x
+
   -- What lets a command be carried out. A branch point: it heads a chain as in a sound image. A deployment operand: as `Operand`
   -- says, and where there is one, it has the port; Supply comes to a source without a note, React when all sources have theirs and
-  -- it has not run, Consume when it has. An own sink has no note yet. A primitive is one that programs may have.
+  -- it has not run, Consume when it has. An own sink has no note yet. A primitive is one that programs may have. Fetch
+  -- and Keep name a `Cell`, which at Keep has no note yet.
   abbrev pub Can : Cmd → Type 0
   Can (allocMono x) = Unit {0}
   Can (makePoly x) = Unit {0}
@@ -66,6 +71,9 @@ module _ (p m : List ℕ) (ns : List Note) (o : ℕ) where
   Can (sink x a) = location o (sinkLoc p (reactor m o) x) ∈ ns → ⊥
   Can (allocPoly a b) = PointSlot p m o b (shapeThere p (reactor m o) b)
   Can (primitive x a b c) = Offered x
+  Can (cell x v) = Unit {0}
+  Can (fetch b) = Cell b
+  Can (keep a b) = Cell b × (location o b ∈ ns → ⊥)
   Can none = ⊥
 
   -- "A command reads its value operands and operator; Global reads its global, Consume its deployment's sink if there is a
@@ -75,6 +83,7 @@ module _ (p m : List ℕ) (ns : List Note) (o : ℕ) where
     sunk : {x a : ℕ} → Reads (sink x a) o a
     operator : {a b : ℕ} → Reads (allocPoly a b) o a
     taken : {x b : ℕ} → there p m o b ≡ true → Reads (consume x b) (content p m o b) (sinkLoc p (reactor m (content p m o b)) x)
+    set-aside : {a b : ℕ} → Reads (keep a b) o a
     operand-1 : {x a b c : ℕ} → 1 ≤ operands x → Reads (primitive x a b c) o a
     operand-2 : {x a b c : ℕ} → 2 ≤ operands x → Reads (primitive x a b c) o b
     operand-3 : {x a b c : ℕ} → 3 ≤ operands x → Reads (primitive x a b c) o c
@@ -85,6 +94,8 @@ module _ (p m : List ℕ) (ns : List Note) (o : ℕ) where
     pub noted : (d l : ℕ) → Reads c d l → location d l ∈ ns
     pub kinds : (d l : ℕ) → Reads c d l → OfKind p (kindOf p (reactor m d) l) (valueAt p m d l)
     pub outside : (x : ℕ) → c ≡ global x → (x ≤ globals p) × OfKind p (globalKind p x) (globalValue rd m x)
+    -- a Fetch reads its cell; what that holds is said in `TurnClaim` and `Claim`
+    pub fetched : (b : ℕ) → c ≡ fetch b → OfKind p (kindOf p (reactor m o) b) (valueAt p m o b)
     -- what is read lies in a deployment within the used words, at a location that has words
     pub inside : (d l : ℕ) → Reads c d l → Within p m d × HasSlot p (reactor m d) l
 

@@ -7,7 +7,7 @@ use lib.ListN.{length, replicate}
 use Rattle.value.specs.Test.{_≤?_, _=?_, guard}
 use Rattle.value.specs.Value.{value, pointMark}
 use Rattle.program.specs.Bytes.{reactors, declared}
-use Rattle.program.specs.Command.{Made, deployment, point, nothing, madeBy, cmdOf}
+use Rattle.program.specs.Command.{Made, deployment, point, held, nothing, madeBy, cmdOf}
 use Rattle.program.specs.Location.{commandLoc}
 use Rattle.load.specs.declared.Refusal.{Refusal}
 use Rattle.image.specs.Sound.{Sound}
@@ -22,10 +22,12 @@ below zero m u c = 0
 below (suc f) m u c = guard (u ≤? c) c (λ _. below f m u (next m c))
 
 module _ (p : List ℕ) (u : ℕ) where
-  -- D slot l of o: a branch point's head goes down to what stood at the turn's beginning
+  -- D slot l of o: a branch point's head goes down to what stood at the turn's beginning. A cell has not
+  -- changed: what is kept waits
   unfoldable pub slotBack : List ℕ → ℕ → ℕ → Made → List ℕ
   slotBack m o l (deployment x) = m
   slotBack m o l (point x) = store p m o l (value pointMark (below (reactors p + 1) m u (content p m o l)))
+  slotBack m o l (held x) = m
   slotBack m o l nothing = m
 
   -- the n D slots from j on

@@ -7,7 +7,7 @@ use mathlib.Core.List.{List, [], _∷_, _++_}
 use lib.ListN.{length}
 use Rattle.value.specs.Test.{_=?_}
 use Rattle.program.specs.Bytes.{commandsIn}
-use Rattle.program.specs.Command.{Cmd, cmdOf, allocMono, makePoly, constant, global, supply, react, consume, sink, allocPoly, primitive, none}
+use Rattle.program.specs.Command.{Cmd, cmdOf, allocMono, makePoly, constant, global, supply, react, consume, sink, allocPoly, primitive, cell, fetch, keep, none}
 use Rattle.program.specs.Location.{sinkLoc, commandLoc}
 use Rattle.load.specs.declared.Refusal.{Refusal}
 use Rattle.image.specs.Memory.{mainAt, used, reactor, content}
@@ -49,6 +49,7 @@ module _ (p : List ℕ) where
   suppliedNote false d x = []
 
   -- what command i of o notes, m the words before it. "A command that gives a value notes its own location, and so does an AllocPoly; Supply notes the source, Sink the own sink."
+  -- A Fetch gives a value; Keep notes its cell: 02 (v).
   unfoldable pub notesOf : List ℕ → ℕ → ℕ → Cmd → List Note
   notesOf m o i (allocMono x) = []
   notesOf m o i (makePoly x) = []
@@ -60,6 +61,9 @@ module _ (p : List ℕ) where
   notesOf m o i (sink x a) = location o (sinkLoc p (reactor m o) x) ∷ []
   notesOf m o i (allocPoly a b) = location o (commandLoc p (reactor m o) i) ∷ []
   notesOf m o i (primitive x a b c) = location o (commandLoc p (reactor m o) i) ∷ []
+  notesOf m o i (cell x v) = []
+  notesOf m o i (fetch b) = location o (commandLoc p (reactor m o) i) ∷ []
+  notesOf m o i (keep a b) = location o b ∷ []
   notesOf m o i none = []
 
   -- what a command's effect makes of the pile. "React opens its deployment on top"

@@ -204,8 +204,11 @@ module _ {s t u a b c : Bool} (e : s ≡ a) (f : t ≡ b) (g : u ≡ c) where
     pub same-and4 : (((s && t) && u) && v) ≡ (a and b and c and d)
     same-and4 = and-to-right (s && t) u v ∙ and-to-right s t (u && v) ∙ same-and e (same-and f (same-and g h))
 
-    pub same-or4 : (((s || t) || u) || v) ≡ (a or b or c or d)
-    same-or4 = or-to-right (s || t) u v ∙ or-to-right s t (u || v) ∙ same-or e (same-or f (same-or g h))
+    module _ {w m : Bool} (k : w ≡ m) where
+      pub same-or5 : ((((s || t) || u) || v) || w) ≡ (a or b or c or d or m)
+      same-or5 =
+          or-to-right ((s || t) || u) v w ∙ or-to-right (s || t) u (v || w) ∙ or-to-right s t (u || (v || w))
+          ∙ same-or e (same-or f (same-or g (same-or h k)))
 
 -- a flag of the code that was tested by `if !flag`, and the definition's test that it equals
 module _ {s t : Bool} (e : s ≡ t) where

@@ -11,7 +11,8 @@ use Rattle.value.specs.Test.{_=?_}
 use Rattle.value.specs.declared.Value.{Value}
 
 -- "Marks: 0 blank with content 0, 1 number in two's complement, 2 truth, 3 reactor, 4 deployment index, 5 branch point with
--- the index of its newest deployment." Values have the marks 0 to 3; 4 and 5 stand in memory only.
+-- the index of its newest deployment." Values have the marks 0 to 3; 4 and 5 stand in memory only, and
+-- 6 does within a turn, 02 (v): a blank that is kept.
 abbrev pub blankMark : ℕ
 blankMark = 0
 
@@ -29,6 +30,9 @@ deploymentMark = 4
 
 abbrev pub pointMark : ℕ
 pointMark = 5
+
+abbrev pub keptMark : ℕ
+keptMark = 6
 
 -- "Kind 0 is number, 1 truth, 2+s a reactor of shape s."
 abbrev pub numberKind : ℕ

@@ -37,10 +37,12 @@ impl Value {
 
     pub const REACTOR: u32 = 3;
 
-    // These two stand in memory alone.
+    // These three stand in memory alone, the last within a turn: a blank that is kept.
     pub const DEPLOYMENT: u32 = 4;
 
     pub const POINT: u32 = 5;
+
+    pub const KEPT: u32 = 6;
 
     pub fn blank() -> Value
         ensures { λ r. ⌜ r ≡ W.blank ⌝ }

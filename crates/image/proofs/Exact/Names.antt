@@ -9,7 +9,7 @@ use lib.ListN.{length}
 use Rattle.value.specs.Test.{pick, _<?_}
 use Rattle.value.proofs.Tests.{cases, lt?, lt×?, eq!, eq?, yes, no}
 use Rattle.program.specs.Bytes.{reactors, declared}
-use Rattle.program.specs.Command.{allocMono, makePoly, nothing, madeBy, cmdOf}
+use Rattle.program.specs.Command.{allocMono, makePoly, cell, nothing, madeBy, cmdOf}
 use Rattle.program.specs.Location.{commandLoc}
 use Rattle.image.specs.Memory.{mainAt, reactor, content}
 use Rattle.image.specs.Sound.{Deployed, Names as NamedBy, by-mono, by-point, Owner, NamedOnce}
@@ -22,7 +22,7 @@ use Rattle.image.proofs.Exact.Tiling.{Laid, starts, tableOf, start-in, 
 use Rattle.image.proofs.Memory.Tiles.{in-ge}
 use Rattle.image.proofs.Exact.Chains.{members, members-once}
 use Rattle.image.proofs.Memory.Slots.{names-above}
-use Rattle.image.proofs.Exact.SlotTests.{Makes, a-deployment, a-point, neither, makes, made-mono, made-point}
+use Rattle.image.proofs.Exact.SlotTests.{Makes, a-deployment, a-point, a-cell, neither, makes, made-mono, made-point, made-cell}
 
 module _ (p m : List ℕ) where
   -- what D command j of o names, as a list
@@ -38,6 +38,10 @@ module _ (p m : List ℕ) where
         owned o j ≡ membersFrom p m (reactors p) (content p m o (commandLoc p (reactor m o) j))
     unfolding namedBy
     owned-point e = ap (namedBy p m o (commandLoc p (reactor m o) j)) (made-point e)
+
+    owned-cell : {x v : ℕ} → cmdOf p (reactor m o) j ≡ cell x v → owned o j ≡ []
+    unfolding namedBy
+    owned-cell e = ap (namedBy p m o (commandLoc p (reactor m o) j)) (made-cell e)
 
     owned-none : madeBy (cmdOf p (reactor m o) j) ≡ nothing → owned o j ≡ []
     unfolding namedBy
@@ -81,6 +85,7 @@ module _ (p m : List ℕ) where
     owned-names d (a-deployment x e) i = by-mono x e (sym (in-one (subst (λ (k : List ℕ). d ∈ k) (owned-mono o j e) i)))
     owned-names d (a-point x e) i =
         by-point x e (members p m laid o x d (right .points j x l e .chain) .0 (subst (λ (k : List ℕ). d ∈ k) (owned-point o j e) i))
+    owned-names d (a-cell x v e) i = absurd (in-nil (subst (λ (k : List ℕ). d ∈ k) (owned-cell o j e) i))
     owned-names d (neither e) i = absurd (in-nil (subst (λ (k : List ℕ). d ∈ k) (owned-none o j e) i))
 
     -- one command names none twice
@@ -88,6 +93,7 @@ module _ (p m : List ℕ) where
     owned-once d (a-deployment x e) = omega (arith, count-most d (owned o j), ap length (owned-mono o j e))
     owned-once d (a-point x e) =
         subst (λ (k : List ℕ). count d k ≤ 1) (sym (owned-point o j e)) (members-once p m (reactors p) d (right .points j x l e .chain))
+    owned-once d (a-cell x v e) = omega (arith, count-most d (owned o j), ap length (owned-cell o j e))
     owned-once d (neither e) = omega (arith, count-most d (owned o j), ap length (owned-none o j e))
 
   module _ (laid : Laid p m) (right : (o : ℕ) → Deployed p m o → SlotsRight p m o) where

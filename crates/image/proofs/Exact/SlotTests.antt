@@ -8,10 +8,11 @@ use native.Mathlib.Omega.{arith}
 use Rattle.value.proofs.Tests.{lt!, lt?, eq!, eq?, both!, both?}
 use Rattle.value.proofs.Sweeps.{sweeps?}
 use Rattle.program.specs.Bytes.{declared}
-use Rattle.program.specs.Command.{Cmd, allocMono, makePoly, constant, global, supply, react, consume, sink, allocPoly, primitive, none, Made, deployment, point, nothing, madeBy, cmdOf}
+use Rattle.program.specs.Command.{Cmd, allocMono, makePoly, constant, global, supply, react, consume, sink, allocPoly, primitive, cell, fetch, keep, none, Made, deployment, point, held, nothing, madeBy, cmdOf}
 use Rattle.program.specs.Location.{commandLoc}
-use Rattle.image.specs.Memory.{mainAt, used, reactor, next, content}
-use Rattle.image.specs.Sound.{Deployed, MonoSlot, PointSlot}
+use Rattle.program.proofs.OfKind.{legal-kind}
+use Rattle.image.specs.Memory.{mainAt, used, reactor, next, content, valueAt}
+use Rattle.image.specs.Sound.{Deployed, MonoSlot, PointSlot, CellSlot}
 use Rattle.image.specs.Fault.{SlotsRight, Own}
 use Rattle.image.specs.Passes.{slotSound, ownSound, fits}
 use Rattle.image.specs.declared.Pass.the-variants.{Starts}
@@ -20,10 +21,11 @@ use Rattle.image.proofs.Memory.Tiles.{in-to}
 use Rattle.image.proofs.Exact.Zeros.{clear}
 use Rattle.image.proofs.Exact.Chains.{chain}
 
--- which of a command's three meanings between turns it has
+-- which of a command's four meanings between turns it has
 pub data Makes (c : Cmd) : Type 0 where
   a-deployment : (x : ℕ) → c ≡ allocMono x → Makes c
   a-point : (x : ℕ) → c ≡ makePoly x → Makes c
+  a-cell : (x v : ℕ) → c ≡ cell x v → Makes c
   neither : madeBy c ≡ nothing → Makes c
 
 pub makes : (c : Cmd) → Makes c
@@ -38,6 +40,9 @@ makes (consume x b) = neither refl
 makes (sink x a) = neither refl
 makes (allocPoly a b) = neither refl
 makes (primitive x a b c) = neither refl
+makes (cell x v) = a-cell x v refl
+makes (fetch b) = neither refl
+makes (keep a b) = neither refl
 makes none = neither refl
 
 pub made-mono : {c : Cmd} {x : ℕ} → c ≡ allocMono x → madeBy c ≡ deployment x
@@ -48,11 +53,16 @@ pub made-point : {c : Cmd} {x : ℕ} → c ≡ makePoly x → madeBy c ≡ point
 unfolding madeBy
 made-point e = ap madeBy e
 
+pub made-cell : {c : Cmd} {x v : ℕ} → c ≡ cell x v → madeBy c ≡ held x
+unfolding madeBy
+made-cell e = ap madeBy e
+
 module _ (p m : List ℕ) where
   -- what D slot l of o has to hold, by what its command makes
   abbrev pub SlotRight : ℕ → ℕ → Made → Type 0
   SlotRight o l (deployment x) = MonoSlot p m o l x
   SlotRight o l (point x) = PointSlot p m o l x
+  SlotRight o l (held x) = CellSlot p m o l x
   SlotRight o l nothing = Unit {0}
 
   -- the same of all D slots, by commands
@@ -63,6 +73,7 @@ module _ (p m : List ℕ) where
         record {
           monos = λ j x l e. subst (SlotRight o (commandLoc p (reactor m o) j)) (made-mono e) (h j l);
           points = λ j x l e. subst (SlotRight o (commandLoc p (reactor m o) j)) (made-point e) (h j l);
+          cells = λ j x v l e. subst (SlotRight o (commandLoc p (reactor m o) j)) (made-cell e) (h j l);
         },
     λ r j l. by r j l (cmdOf p (reactor m o) j) refl (makes (cmdOf p (reactor m o) j)),
   )
@@ -71,6 +82,8 @@ module _ (p m : List ℕ) where
           SlotRight o (commandLoc p (reactor m o) j) (madeBy c)
       by r j l c q (a-deployment x e) = subst (SlotRight o (commandLoc p (reactor m o) j)) (sym (made-mono e)) (r .monos j x l (q ∙ e))
       by r j l c q (a-point x e) = subst (SlotRight o (commandLoc p (reactor m o) j)) (sym (made-point e)) (r .points j x l (q ∙ e))
+      by r j l c q (a-cell x v e) =
+          subst (SlotRight o (commandLoc p (reactor m o) j)) (sym (made-cell e)) (r .cells j x v l (q ∙ e))
       by r j l c q (neither e) = subst (SlotRight o (commandLoc p (reactor m o) j)) (sym e) tt
 
   module _ (laid : Laid p m) where
@@ -92,6 +105,9 @@ module _ (p m : List ℕ) where
           λ e. let a = both? e in record { marked = eq? (a .0); chain = w .0 (a .1) },
           λ r. both! (eq! (r .marked)) (w .1 (r .chain)),
         )
+    slot-test o l (held x) h =
+        let w = legal-kind p x (valueAt p m o l) in
+        (λ e. record { holds = w .0 e }, λ r. w .1 (r .holds))
     slot-test o l nothing h = (λ e. tt, λ r. refl)
 
     -- main's next is asked before the passes

@@ -1,13 +1,15 @@
--- Two images alike in headers and D slots: what the deployments, chains, names and depths of one are, those of the other are.
+-- Two images alike in headers and D slots, but for what cells hold: what the deployments, chains, names and depths of
+-- one are, those of the other are (`alike-tiles`, `alike-grown`).
 use Prim.Native.Nat.{ℕ, _<_}
-use mathlib.Core.Path.{_≡_, _∙_}
+use mathlib.Core.Path.{_≡_, sym, _∙_}
 use mathlib.Core.List.{List}
-use mathlib.Core.Logic.{inl}
+use mathlib.Core.Logic.{inl, _≢_}
 use native.Mathlib.Omega.{arith}
 use Rattle.program.specs.Bytes.{declared}
+use Rattle.program.specs.Command.{Cmd, cmdOf, allocMono, makePoly, cell}
 use Rattle.program.specs.Location.{commandLoc}
 use Rattle.image.specs.Memory.{mainAt, used, reactor, wired, next}
-use Rattle.image.specs.Sound.{Tiles, Deployed, InD, Owner, Grown}
+use Rattle.image.specs.Sound.{Tiles, Deployed, InD, MonoSlot, PointSlot, CellSlot, Names, by-mono, by-point, Owner, Grown}
 use Rattle.image.proofs.Memory.Tiles.{in-ge, tiles-kept, in-kept, in-back}
 use Rattle.image.proofs.Memory.Changes.{Same, Stays}
 use Rattle.image.proofs.Memory.Slots.{mono-kept, point-kept, names-back, names-forth, depth-forth}
@@ -17,7 +19,21 @@ pub record Alike (p m m′ : List ℕ) : Type 0 where
   pub reactors : (d : ℕ) → Deployed p m d → reactor m′ d ≡ reactor m d
   pub wireds : (d : ℕ) → Deployed p m d → wired m′ d ≡ wired m d
   pub nexts : (d : ℕ) → Deployed p m d → next m′ d ≡ next m d
-  pub slots : (d l : ℕ) → Deployed p m d → InD p m (reactor m d) l → Same p m m′ d l
+  pub slots : (d j : ℕ) → Deployed p m d → j < declared p (reactor m d)
+      → ((x v : ℕ) → cmdOf p (reactor m d) j ≢ cell x v) → Same p m m′ d (commandLoc p (reactor m d) j)
+  pub cells : (d j x v : ℕ) → Deployed p m d → j < declared p (reactor m d) → cmdOf p (reactor m d) j ≡ cell x v
+      → CellSlot p m d (commandLoc p (reactor m d) j) x → CellSlot p m′ d (commandLoc p (reactor m d) j) x
+
+mono-no-cell : (q x v : ℕ) → _≢_ {A = Cmd} (allocMono q) (cell x v)
+mono-no-cell q x v e = let z : _≡_ {A = ℕ} 0 1 = cc in omega arith
+
+point-no-cell : (q x v : ℕ) → _≢_ {A = Cmd} (makePoly q) (cell x v)
+point-no-cell q x v e = let z : _≡_ {A = ℕ} 0 1 = cc in omega arith
+
+-- what names a deployment is no Cell
+names-no-cell : {p m : List ℕ} {o j d : ℕ} → Names p m o j d → (x v : ℕ) → cmdOf p (reactor m o) j ≢ cell x v
+names-no-cell (by-mono q e c) x v f = mono-no-cell q x v (sym e ∙ f)
+names-no-cell (by-point q e c) x v f = point-no-cell q x v (sym e ∙ f)
 
 -- the location of a D command is a D slot
 pub command-in-D : (p m : List ℕ) (r j : ℕ) → j < declared p r → InD p m r (commandLoc p r j)
@@ -38,8 +54,14 @@ module _ {p m m′ : List ℕ} (k : Alike p m m′) where
   alike-stays = record { kept = deployed-to; reactors = k .reactors; nexts = k .nexts }
 
   module _ (g : Grown p m) where
-    slot-same : {o j : ℕ} → Deployed p m o → j < declared p (reactor m o) → Same p m m′ o (commandLoc p (reactor m o) j)
-    slot-same {o} {j} i l = k .slots o _ i (command-in-D p m (reactor m o) j l)
+    names-to : {o j d : ℕ} → Deployed p m o → j < declared p (reactor m o) → Names p m o j d → Names p m′ o j d
+    names-to {o} {j} i l n =
+        names-forth p alike-stays j i (k .slots o j i l (names-no-cell n)) (λ y e. inl (g .points o j y i l e)) n
+
+    names-from : {o j d : ℕ} → Deployed p m o → j < declared p (reactor m o) → Names p m′ o j d → Names p m o j d
+    names-from {o} {j} i l n =
+        names-back p alike-stays j i (k .slots o j i l (λ x v e. names-no-cell n x v (rw (k .reactors o i) e)))
+        (λ y e. inl (g .points o j y i l e)) n
 
     owner-to : {o j d : ℕ} → Owner p m o j d → Owner p m′ o j d
     owner-to {o} {j} w =
@@ -47,29 +69,38 @@ module _ {p m m′ : List ℕ} (k : Alike p m m′) where
         record {
           deployed = deployed-to o i;
           low = rw (k .reactors o i) (w .low);
-          names = names-forth p alike-stays j i (slot-same i (w .low)) (λ x q. inl (g .points o j x i (w .low) q)) (w .names);
+          names = names-to i (w .low) (w .names);
         }
 
     owner-back : {o j d : ℕ} → Owner p m′ o j d → Owner p m o j d
     owner-back {o} {j} w =
         let i = deployed-back o (w .deployed) in
         let l : j < declared p (reactor m o) = rw (k .reactors o i) at (w .low) in
-        record { deployed = i; low = l; names = names-back p alike-stays j i (slot-same i l) (λ x q. inl (g .points o j x i l q)) (w .names) }
+        record { deployed = i; low = l; names = names-from i l (w .names) }
+
+    -- what is said of D command j of o, by the old reactor, at its location
+    by-old : (o j : ℕ) {c : Cmd} → Deployed p m′ o → j < declared p (reactor m′ o) → cmdOf p (reactor m′ o) j ≡ c
+        → (Z : ℕ → Type 0) → (Deployed p m o → j < declared p (reactor m o) → cmdOf p (reactor m o) j ≡ c
+        → Z (commandLoc p (reactor m o) j)) → Z (commandLoc p (reactor m′ o) j)
+    by-old o j i l q Z f =
+        let b = deployed-back o i in
+        let e = k .reactors o b in
+        rw e (f b (rw e at l) (rw e at q))
 
     pub alike-grown : Grown p m′
     alike-grown =
         record {
           all-wired = λ d i. let b = deployed-back d i in k .wireds d b ∙ g .all-wired d b;
           monos = λ o j x i l q.
-              let b = deployed-back o i in
-              let e = k .reactors o b in
-              let l₂ : j < declared p (reactor m o) = rw e at l in
-              rw e (mono-kept p alike-stays (slot-same b l₂) (g .monos o j x b l₂ (rw e at q)));
+              by-old o j i l q (λ at. MonoSlot p m′ o at x) (λ b h e.
+              mono-kept p alike-stays (k .slots o j b h (λ y v n. mono-no-cell x y v (sym e ∙ n)))
+              (g .monos o j x b h e));
           points = λ o j x i l q.
-              let b = deployed-back o i in
-              let e = k .reactors o b in
-              let l₂ : j < declared p (reactor m o) = rw e at l in
-              rw e (point-kept p alike-stays (slot-same b l₂) (g .points o j x b l₂ (rw e at q)));
+              by-old o j i l q (λ at. PointSlot p m′ o at x) (λ b h e.
+              point-kept p alike-stays (k .slots o j b h (λ y v n. point-no-cell x y v (sym e ∙ n)))
+              (g .points o j x b h e));
+          cells = λ o j x v i l q.
+              by-old o j i l q (λ at. CellSlot p m′ o at x) (λ b h e. k .cells o j x v b h e (g .cells o j x v b h e));
           named = λ d i n.
               let w = g .named d (deployed-back d i) n in
               record { owner = w .owner; command = w .command; named = owner-to (w .named); only = λ o j v. w .only o j (owner-back v) };

@@ -1,4 +1,4 @@
--- The test at a reactor's end: every standing may stay exactly where no React, AllocPoly or Sink is missing.
+-- The test at a reactor's end: every standing may stay exactly where no React, AllocPoly, Keep or Sink is missing.
 use Prim.Native.Nat.{ℕ, _≤_, _<_}
 use mathlib.Core.Path.{_≡_, refl, sym, _∙_, ap, subst}
 use mathlib.Core.Bool.{true, false}
@@ -10,56 +10,66 @@ use Rattle.value.specs.Test.{sweep, _<?_}
 use Rattle.value.proofs.Sweeps.{swept, sweeps}
 use Rattle.value.proofs.Tests.{cases, Says, says-lt, says-eq, says-or, says×, lt?, lt×?, eq×?}
 use Rattle.program.specs.Bytes.{sourcesIn, commandsIn}
-use Rattle.program.specs.Command.{Cmd, cmdOf, allocMono, makePoly, constant, global, supply, react, consume, sink}
-use Rattle.program.specs.Command.{allocPoly, primitive, none}
+use Rattle.program.specs.Command.{Cmd, cmdOf, allocMono, makePoly, constant, global, supply, react, consume, sink, allocPoly, primitive, cell, fetch, keep, none}
 use Rattle.program.specs.Location.{commandLoc, cmdAt, shapeThere}
-use Rattle.load.specs.Scan.{standingAt, kindAt, settled, complete, freePoint, usedPoint, unsetSink, setSink, reacted}
-use Rattle.load.specs.Rules.{Allocates, Sets}
+use Rattle.load.specs.Scan.{standingAt, kindAt, settled, complete, freeCell, keptCell, freePoint, usedPoint, unsetSink, setSink, reacted}
+use Rattle.load.specs.Rules.{Allocates, Keeps, Sets}
 use Rattle.load.specs.declared.Scan.{Scan}
 use Rattle.load.proofs.Exact.Seen.{tells-hi}
-use Rattle.load.specs.Fault.{Lacks, react-missing, poly-missing, sink-missing}
-use Rattle.load.proofs.Exact.Class.{Class, a-value, a-point, a-deployment, a-sink, nothing, classOf}
+use Rattle.load.specs.Fault.{Lacks, react-missing, poly-missing, keep-missing, sink-missing}
+use Rattle.load.proofs.Exact.Class.{Class, a-value, a-cell, a-point, a-deployment, a-sink, nothing, classOf}
 use Rattle.load.proofs.Exact.Places.{classAt, loc-lt, cmd-there, by-place}
 use Rattle.load.proofs.Exact.Fits.{Ended}
 use Rattle.load.proofs.Exact.Stand.{Sized}
 use Rattle.load.proofs.Exact.Holds.{Holds, Holding, standing-of, deployed-reacted}
 
-settled-says : (st : ℕ) → Says (settled st) ((st < freePoint) ⊎ ((st ≡ usedPoint) ⊎ ((st ≡ setSink) ⊎ (st ≡ reacted))))
+settled-says : (st : ℕ)
+    → Says (settled st) ((st < freeCell) ⊎ ((st ≡ keptCell) ⊎ ((st ≡ usedPoint) ⊎ ((st ≡ setSink) ⊎ (st ≡ reacted)))))
 unfolding settled
-settled-says st = says-or says-lt (says-or says-eq (says-or says-eq says-eq))
+settled-says st = says-or says-lt (says-or says-eq (says-or says-eq (says-or says-eq says-eq)))
 
--- from 4 on, where only v of the standings that may stay is possible
-settled-at : (st v : ℕ) → settled v ≡ true → freePoint ≤ st →
-    (st ≡ usedPoint → st ≡ v) → (st ≡ setSink → st ≡ v) → (st ≡ reacted → st ≡ v) → (settled st ≡ true) ↔ (st ≡ v)
-settled-at st v ok low used set done = (
+-- from 2 on, where only v of the standings that may stay is possible
+settled-at : (st v : ℕ) → settled v ≡ true → freeCell ≤ st →
+    (st ≡ keptCell → st ≡ v) → (st ≡ usedPoint → st ≡ v) → (st ≡ setSink → st ≡ v) → (st ≡ reacted → st ≡ v) →
+    (settled st ≡ true) ↔ (st ≡ v)
+settled-at st v ok low kept used set done = (
   (λ e. elim (settled-says st .0 e) [
     | inl h ↦ absurd (omega arith)
-    | inr h ↦ elim h [ inl q ↦ used q | inr q ↦ elim q [ inl w ↦ set w | inr w ↦ done w ] ]
+    | inr h ↦
+        elim h [
+          | inl k ↦ kept k
+          | inr k ↦ elim k [ inl q ↦ used q | inr q ↦ elim q [ inl w ↦ set w | inr w ↦ done w ] ]
+        ]
   ]),
   (λ e. ap settled e ∙ ok),
 )
 
-settled-low : (st : ℕ) → st < freePoint → settled st ≡ true
+settled-low : (st : ℕ) → st < freeCell → settled st ≡ true
 settled-low st h = settled-says st .1 (inl h)
 
 module _ (p : List ℕ) (r : ℕ) where
   -- at one location
   settled-exact : (l st kd : ℕ) (c : Class) → Holds p r (commandsIn p r) l st kd c → (settled st ≡ true) ↔ Ended p r l c
   settled-exact l st kd a-value h = ((λ e. tt), (λ u. settled-low st (omega (arith, h .0))))
+  settled-exact l st kd a-cell h =
+      let w = standing-of p r (commandsIn p r) l st kd a-cell h in
+      let ok = settled-says keptCell .1 (inr (inl refl)) in
+      Iff·trans (settled-at st keptCell ok (omega arith) (omega arith) (omega arith) (omega arith) (omega arith))
+      (tells-hi p r (Keeps p r l) freeCell keptCell (commandsIn p r) st (omega arith) (h .0))
   settled-exact l st kd a-point h =
       let w = standing-of p r (commandsIn p r) l st kd a-point h in
-      let ok = settled-says usedPoint .1 (inr (inl refl)) in
-      Iff·trans (settled-at st usedPoint ok (omega arith) (omega arith) (omega arith) (omega arith))
+      let ok = settled-says usedPoint .1 (inr (inr (inl refl))) in
+      Iff·trans (settled-at st usedPoint ok (omega arith) (omega arith) (omega arith) (omega arith) (omega arith))
       (tells-hi p r (Allocates p r l) freePoint usedPoint (commandsIn p r) st (omega arith) (h .0))
   settled-exact l st kd a-deployment h =
       let w : reacted ≤ st = standing-of p r (commandsIn p r) l st kd a-deployment h in
-      let ok = settled-says reacted .1 (inr (inr (inr refl))) in
-      Iff·trans (settled-at st reacted ok (omega arith) (omega arith) (omega arith) (omega arith))
+      let ok = settled-says reacted .1 (inr (inr (inr (inr refl)))) in
+      Iff·trans (settled-at st reacted ok (omega arith) (omega arith) (omega arith) (omega arith) (omega arith))
       (deployed-reacted p r (commandsIn p r) l st (sourcesIn p (shapeThere p r l)) (h .0))
   settled-exact l st kd (a-sink x) h =
       let w = standing-of p r (commandsIn p r) l st kd (a-sink x) h in
-      let ok = settled-says setSink .1 (inr (inr (inl refl))) in
-      Iff·trans (settled-at st setSink ok (omega arith) (omega arith) (omega arith) (omega arith))
+      let ok = settled-says setSink .1 (inr (inr (inr (inl refl)))) in
+      Iff·trans (settled-at st setSink ok (omega arith) (omega arith) (omega arith) (omega arith) (omega arith))
       (tells-hi p r (Sets p r x) unsetSink setSink (commandsIn p r) st (omega arith) (h .1))
   settled-exact l st kd nothing h = ((λ e. tt), (λ u. settled-low st (omega (arith, h .0))))
 
@@ -100,6 +110,9 @@ module _ (p : List ℕ) (r : ℕ) where
   lacking-made i h (sink x a) e n = absurd (n tt)
   lacking-made i h (allocPoly a b) e n = react-missing (inr (loc-lt p r h, (a, b, e))) (λ j l q. n (j, l, q))
   lacking-made i h (primitive x a b c) e n = absurd (n tt)
+  lacking-made i h (cell x v) e n = keep-missing (x, v, e) (λ j l q. n (j, l, q))
+  lacking-made i h (fetch b) e n = absurd (n tt)
+  lacking-made i h (keep a b) e n = absurd (n tt)
   lacking-made i h none e n = absurd (n tt)
 
   lacking-at : (l : ℕ) → (Ended p r l (classAt p r (commandsIn p r) l) → ⊥) → Lacks p r

@@ -6,22 +6,23 @@ use mathlib.Core.Logic.{inl, inr, ⊎-map}
 use mathlib.Core.List.{List}
 use native.Mathlib.Omega.{arith}
 use native.Mathlib.Nat.{lt-trans}
+use Rattle.value.specs.Value.{truthKind}
 use Rattle.program.specs.Bytes.{reactors, shapeOf, sourcesIn, sourceKind, sinkKind, declared, commandsIn}
-use Rattle.program.specs.Command.{Cmd, cmdOf, sequenceOf, givesValue, D, allocMono, makePoly, constant, global, supply, react, consume, sink, allocPoly, primitive, none}
+use Rattle.program.specs.Command.{Cmd, cmdOf, sequenceOf, givesValue, D, allocMono, makePoly, constant, global, supply, react, consume, sink, allocPoly, primitive, cell, fetch, keep, none}
 use Rattle.program.specs.Location.{sources, commandLoc, cmdAt, shapeMade, shapeThere}
 use Rattle.program.specs.Kind.{kindMade, kindIn, kindOf}
-use Rattle.load.specs.Rules.{Deployment, Supplies, Reacts, Allocates, Sets, ReactorRule, Rules, TablesRight}
+use Rattle.load.specs.Scan.{scanOf, beginOf}
+use Rattle.load.specs.Rules.{Deployment, Supplies, Reacts, Allocates, Keeps, Sets, ReactorRule, Rules, TablesRight}
 use Rattle.load.proofs.Exact.Seen.{one}
-use Rattle.load.proofs.Exact.Class.{a-value, a-point, a-deployment, IsMade, shows-as, clash}
-use Rattle.load.proofs.Exact.Places.{classAt, loc-lt, cmd-there, by-place, value-low, made-where, point-exact}
-use Rattle.load.proofs.Exact.KindLaws.{source-kind, sink-kind, point-shape, command-kind, shape-here}
-use Rattle.load.specs.Fault.{InSequence}
+use Rattle.load.proofs.Exact.Class.{a-value, a-cell, a-point, a-deployment, IsMade, shows-as, clash}
+use Rattle.load.proofs.Exact.Places.{classAt, loc-lt, cmd-there, by-place, value-low, made-where, point-exact, cell-exact}
+use Rattle.load.proofs.Exact.KindLaws.{source-kind, sink-kind, point-shape, command-kind, shape-here, given-same}
+use Rattle.load.specs.Fault.{InSequence, Ranged}
 use Rattle.load.proofs.Exact.Fits.{Fits, ValueAt, Stepwise}
 use Rattle.load.proofs.Exact.Rule.{rule-exact}
-use Rattle.load.proofs.Exact.KindLaws.{given-same}
-use Rattle.load.proofs.Exact.Holds.{kind-at-depth}
+use Rattle.load.proofs.Exact.Holds.{Holding, kind-at-depth, cell-at-depth}
 use Rattle.load.proofs.Exact.Reactor.{first-run, first-fits}
-use Rattle.load.proofs.Exact.Static.{ValueBefore, source, made, DeploymentBefore, mono, poly, PointBefore, Static, Single}
+use Rattle.load.proofs.Exact.Static.{ValueBefore, source, made, DeploymentBefore, mono, poly, PointBefore, CellBefore, Static, Single, cell-command}
 
 module _ (p : List ℕ) (r : ℕ) (u : ReactorRule p r) where
   steps : Stepwise p r
@@ -68,6 +69,16 @@ module _ (p : List ℕ) (r : ℕ) (u : ReactorRule p r) where
       let shape : shapeThere p r b ≡ m .0 = ap (shapeThere p r) (w .2) ∙ shape-here p r (w .0) h ∙ ap (shapeMade p r) (m .1) in
       (w .0, l, D-below (w .0) _ h (m .1) refl, w .2, m .1 ∙ ap makePoly (sym shape))
 
+  cell-before : (i b : ℕ) → i ≤ commandsIn p r → classAt p r i b ≡ a-cell → (k : ℕ) × CellBefore p r i k b
+  unfolding sequenceOf
+  cell-before i b few e =
+      let w = made-where p r i b few (subst IsMade (sym e) tt) in
+      let l = w .1 in
+      let h : w .0 < commandsIn p r = omega arith in
+      let m = shows-as (cmdOf p r (w .0)) (sym (w .3) ∙ e) in
+      let low = D-below (w .0) _ h (m .2) refl in
+      (m .0, record { index = w .0; bits = m .1; before = l; low = low; place = w .2; is = m .2 })
+
   -- ---- kinds
 
   -- a port of a reactor with the shape that is known
@@ -79,19 +90,22 @@ module _ (p : List ℕ) (r : ℕ) (u : ReactorRule p r) where
   own-kind : (i : ℕ) (c : Cmd) → i < commandsIn p r → cmdOf p r i ≡ c → kindOf p r (commandLoc p r i) ≡ kindMade p r (kindIn (commandLoc p r i) p r) c
   own-kind i c h e = command-kind p r i h ∙ ap (kindMade p r (kindIn (commandLoc p r i) p r)) e
 
-  no-value : (f : ℕ → ℕ) (c : Cmd) → givesValue c ≡ false → kindMade p r f c ≡ 0
+  no-value : (f : ℕ → ℕ) (c : Cmd) → givesValue c ≡ false → Ranged p c → kindMade p r f c ≤ truthKind
   unfolding givesValue kindMade
-  no-value f (allocMono x) e = refl
-  no-value f (makePoly x) e = refl
-  no-value f (constant x v) e = absurd (true≢false e)
-  no-value f (global x) e = absurd (true≢false e)
-  no-value f (supply x a b) e = refl
-  no-value f (react b) e = refl
-  no-value f (consume x b) e = absurd (true≢false e)
-  no-value f (sink x a) e = refl
-  no-value f (allocPoly a b) e = refl
-  no-value f (primitive x a b c) e = absurd (true≢false e)
-  no-value f none e = refl
+  no-value f (allocMono x) e g = omega arith
+  no-value f (makePoly x) e g = omega arith
+  no-value f (constant x v) e g = absurd (true≢false e)
+  no-value f (global x) e g = absurd (true≢false e)
+  no-value f (supply x a b) e g = omega arith
+  no-value f (react b) e g = omega arith
+  no-value f (consume x b) e g = absurd (true≢false e)
+  no-value f (sink x a) e g = omega arith
+  no-value f (allocPoly a b) e g = omega arith
+  no-value f (primitive x a b c) e g = absurd (true≢false e)
+  no-value f (cell x v) e g = g .0
+  no-value f (fetch b) e g = absurd (true≢false e)
+  no-value f (keep a b) e g = omega arith
+  no-value f none e g = omega arith
 
   -- ---- once
 
@@ -115,6 +129,8 @@ module _ (p : List ℕ) (r : ℕ) (u : ReactorRule p r) where
         one-react = λ i k b. one-react b i k;
         one-sink = λ i k x a a′ hi hk e f. one p r (Sets p r x) (λ j h q. fit j _ h (q .1) .timely) i k hi hk (a, e) (a′, f);
         one-poly = λ i k a a′ b hi hk e f. one p r (Allocates p r b) (λ j h q. fit j _ h (q .1) .timely) i k hi hk (a, e) (a′, f);
+        one-keep = λ i k a a′ b hi hk e f.
+            one p r (Keeps p r b) (λ j h q. fit j _ h (q .1) .timely) i k hi hk (a, e) (a′, f);
         supply-first = λ i k x a b hi hk e f.
             let w = fit k _ hk f .timely .1 x (fit i _ hi e .agreed .0) in
             subst (λ j. j < k) (one-supply x b (w .0) i (w .2 .0) a (lt-trans (w .1) hk) hi (w .2 .1) e) (w .1);
@@ -123,18 +139,41 @@ module _ (p : List ℕ) (r : ℕ) (u : ReactorRule p r) where
             subst (λ j. j < i) (one-react b (w .0) k (lt-trans (w .1) hi) hk (w .2) f) (w .1);
         all-react = λ b s d. let w = u .deployments b (deployment-rule s b d) in (w .at, w .react .there, w .react .is);
         all-sinks = λ x h. let w = u .set x h in (w .0, w .1 .is .0, w .1 .there, w .1 .is .1);
+        all-cells = λ b s d.
+            let w = u .cells b (s, d .bits, cell-command p r d (omega arith)) in
+            (w .0, w .1 .is .0, w .1 .there, w .1 .is .1);
         all-points = λ b s d. let w = u .points b (s, there b (d .0) _ (d .1) (d .3) (d .4)) in (w .0, w .1 .is .0, w .1 .there, w .1 .is .1);
       }
 
   -- ---- before
 
   module _ (t : TablesRight p) (low : r < reactors p) where
-    -- a value's kind, at any depth that suffices
+    -- the scan before command i
+    scanned : (i : ℕ) → i ≤ commandsIn p r → Holding p r i (scanOf i p r (beginOf p r) .scan)
+    scanned i few = first-run p r t low i few (first-fits p r t low i few (λ j l. steps .fits j (omega arith))) .1
+
+    -- a value's kind, at any depth that suffices, and a cell's
     kind-deep : (i a f : ℕ) → i ≤ commandsIn p r → ValueAt p r i a → a < f → kindIn f p r a ≡ kindOf p r a
     unfolding kindOf
     kind-deep i a f few v h =
-        let g = first-run p r t low i few (first-fits p r t low i few (λ j l. steps .fits j (omega arith))) .1 in
+        let g = scanned i few in
         sym (kind-at-depth g a v f h) ∙ kind-at-depth g a v (suc a) (omega arith)
+
+    cell-deep : (i a f : ℕ) → i ≤ commandsIn p r → classAt p r i a ≡ a-cell → a < f → kindIn f p r a ≡ kindOf p r a
+    unfolding kindOf
+    cell-deep i a f few v h =
+        let g = scanned i few in
+        sym (cell-at-depth g a v f h) ∙ cell-at-depth g a v (suc a) (omega arith)
+
+    -- a cell operand's kind is its own
+    a-cell-before : (i b : ℕ) → i ≤ commandsIn p r → classAt p r i b ≡ a-cell → CellBefore p r i (kindOf p r b) b
+    unfolding kindMade
+    a-cell-before i b few e =
+        let c = cell-before i b few e in
+        let w = c .1 in
+        let l = w .before in
+        let k : kindOf p r b ≡ c .0 = ap (kindOf p r) (w .place) ∙ own-kind (w .index) _ (omega arith) (w .is) in
+        subst (λ j. CellBefore p r i j b) (sym k) w
 
     pub static : Static p r
     unfolding kindMade sequenceOf
@@ -190,7 +229,24 @@ module _ (p : List ℕ) (r : ℕ) (u : ReactorRule p r) where
                     (⊎-map (λ q. q) (λ v. kind-deep i b _ (omega arith) v (value-low p r i b (omega arith) v))
                     (f .placed .1)),
               );
-          no-kind = λ i h e. own-kind i _ h refl ∙ no-value _ (cmdOf p r i) e;
+          cells = λ i k v h e.
+              let f = fit i _ h e in
+              (D-below i _ h e refl, own-kind i _ h e, f .ranged .0, f .ranged .1);
+          fetches = λ i b h e.
+              let f = fit i _ h e in (
+                a-cell-before i b (omega arith) (f .placed),
+                own-kind i _ h e
+                    ∙ cell-deep i b _ (omega arith) (f .placed) (cell-exact p r i b (omega arith) .0 (f .placed) .0),
+              );
+          keeps = λ i a b h e.
+              let f = fit i _ h e in (
+                value-before i a (omega arith) (f .placed .0),
+                a-cell-before i b (omega arith) (f .placed .1),
+                f .agreed,
+              );
+          no-kind = λ i h e.
+              subst (λ k. k ≤ truthKind) (sym (own-kind i _ h refl))
+              (no-value _ (cmdOf p r i) e (steps .fits i h .ranged));
         }
 
 -- of each reactor of a program that keeps the rules

@@ -20,11 +20,11 @@ use Rattle.load.specs.Tables.{headerLegal, tableLegal}
 use Rattle.load.specs.Check.{numberOf, ended, reactorsOf, checkOf}
 use Rattle.load.specs.Rules.{HeaderRule, ReactorRule, TablesRight}
 use Rattle.load.specs.Order.{OutOfOrder, source-again, sink-again, early-react, early-consume, late-supply}
-use Rattle.load.specs.Order.{second-react, second-poly, not-lower}
+use Rattle.load.specs.Order.{second-react, second-poly, second-keep, not-lower}
 use Rattle.load.specs.Accepted.{ReactorAccepted}
 use Rattle.load.specs.Fault.{Between, HeaderFault, TableFault, Lowest, First, misformed, withdrawn, misplaced}
-use Rattle.load.specs.Fault.{unlike, disordered, Passed, Lacks, react-missing, poly-missing, sink-missing}
-use Rattle.load.specs.Fault.{Reached}
+use Rattle.load.specs.Fault.{unlike, disordered, Passed, Lacks, react-missing, poly-missing, keep-missing}
+use Rattle.load.specs.Fault.{sink-missing, Reached}
 use Rattle.load.specs.Fault.{Fault, length-wrong, header-byte, tables-cut, table-byte, not-whole, command}
 use Rattle.load.specs.Fault.{missing}
 use Rattle.load.specs.Fault.{FirstFault, CheckNumber, CheckNumbers}
@@ -96,6 +96,7 @@ module _ (p : List ℕ) (r : ℕ) (t : TablesRight p) (low : r < reactors p) whe
   rule-broken : Lacks p r → ReactorRule p r → ⊥
   rule-broken (react-missing {b} d n) u = let s = u .deployments b d in n (s .at) (s .react .there) (s .react .is)
   rule-broken (poly-missing {b} d n) u = let s = u .points b d in n (s .0) (s .1 .there) (s .1 .is)
+  rule-broken (keep-missing {b} d n) u = let s = u .cells b d in n (s .0) (s .1 .there) (s .1 .is)
   rule-broken (sink-missing {x} l n) u = let s = u .set x l in n (s .0) (s .1 .there) (s .1 .is)
 
   lacks-exact : scan (commandsIn p r) .code ≡ 0 → (complete (scan (commandsIn p r) .scan) ≡ false) ↔ Lacks p r
@@ -120,6 +121,7 @@ order-number q (early-consume n) = (refl, refl)
 order-number q (late-supply d) = (refl, refl)
 order-number q (second-react d) = (refl, refl)
 order-number q (second-poly d) = (refl, refl)
+order-number q (second-keep d) = (refl, refl)
 order-number q (not-lower l) = (refl, refl)
 
 at-command : {p : List ℕ} {r k n : ℕ} {c : Cmd} (q : ℕ) → First p r k c n →
@@ -445,6 +447,7 @@ order-told (early-consume n) = inr (inl (omega arith, omega arith))
 order-told (late-supply d) = inr (inl (omega arith, omega arith))
 order-told (second-react d) = inr (inl (omega arith, omega arith))
 order-told (second-poly d) = inr (inl (omega arith, omega arith))
+order-told (second-keep d) = inr (inl (omega arith, omega arith))
 order-told (not-lower l) = inr (inl (omega arith, omega arith))
 
 first-told : {p : List ℕ} {r k n : ℕ} {c : Cmd} → First p r k c n → CheckNumber n

@@ -8,15 +8,15 @@ use Rattle.value.specs.Test.{need, _<?_}
 use Rattle.value.proofs.Tests.{cases, Says, says×, says-rung}
 use Rattle.program.specs.Bytes.{declared, commandsIn}
 use Rattle.program.specs.Command.{Cmd, cmdOf, bytesOf, sequenceOf, allocMono, makePoly, constant, global, supply}
-use Rattle.program.specs.Command.{react, consume, sink, allocPoly, primitive, none}
+use Rattle.program.specs.Command.{react, consume, sink, allocPoly, primitive, cell, fetch, keep, none}
 use Rattle.load.specs.Scan.{inSequence, formed, remaining, located, agreed, disorder, refusalOf}
 use Rattle.load.specs.Rules.{ZeroBytes, TablesRight}
 use Rattle.load.specs.Order.{OutOfOrder, source-again, sink-again, early-react, early-consume, late-supply}
-use Rattle.load.specs.Order.{second-react, second-poly, not-lower}
+use Rattle.load.specs.Order.{second-react, second-poly, second-keep, not-lower}
 use Rattle.load.specs.Fault.{Ranged, Remaining, Placed, Agreed, InSequence, Formed, Located, First, misformed}
 use Rattle.load.specs.Fault.{withdrawn, misplaced, unlike, disordered}
 use Rattle.load.specs.declared.Scan.{Scan}
-use Rattle.load.proofs.Exact.Places.{value-exact, deployment-exact, point-exact}
+use Rattle.load.proofs.Exact.Places.{value-exact, deployment-exact, point-exact, cell-exact}
 use Rattle.load.proofs.Exact.Fits.{PlacedAt}
 use Rattle.load.proofs.Exact.Formed.{formed-says}
 use Rattle.load.proofs.Exact.Holds.{Holding}
@@ -25,26 +25,30 @@ use Rattle.load.proofs.Exact.Order.{refused-for, refuses}
 
 -- ---- where operands are: what stands there, in the words of the rules
 
-places-map : {A B C J K L : ℕ → Type 0} → ((l : ℕ) → A l → J l) → ((l : ℕ) → B l → K l) → ((l : ℕ) → C l → L l) →
-    (c : Cmd) → Placed A B C c → Placed J K L c
-places-map f g h (allocMono x) u = u
-places-map f g h (makePoly x) u = u
-places-map f g h (constant x v) u = u
-places-map f g h (global x) u = u
-places-map f g h (supply x a b) u = (f a (u .0), g b (u .1))
-places-map f g h (react b) u = g b u
-places-map f g h (consume x b) u = g b u
-places-map f g h (sink x a) u = f a u
-places-map f g h (allocPoly a b) u = (f a (u .0), h b (u .1))
-places-map f g h (primitive x a b c) u = (f a (u .0), ⊎-map (λ q. q) (f b) (u .1), ⊎-map (λ q. q) (f c) (u .2))
-places-map f g h none u = u
+places-map : {A B C E J K L M : ℕ → Type 0} →
+    ((l : ℕ) → A l → J l) → ((l : ℕ) → B l → K l) → ((l : ℕ) → C l → L l) → ((l : ℕ) → E l → M l) →
+    (c : Cmd) → Placed A B C E c → Placed J K L M c
+places-map f g h i (allocMono x) u = u
+places-map f g h i (makePoly x) u = u
+places-map f g h i (constant x v) u = u
+places-map f g h i (global x) u = u
+places-map f g h i (supply x a b) u = (f a (u .0), g b (u .1))
+places-map f g h i (react b) u = g b u
+places-map f g h i (consume x b) u = g b u
+places-map f g h i (sink x a) u = f a u
+places-map f g h i (allocPoly a b) u = (f a (u .0), h b (u .1))
+places-map f g h i (primitive x a b c) u = (f a (u .0), ⊎-map (λ q. q) (f b) (u .1), ⊎-map (λ q. q) (f c) (u .2))
+places-map f g h i (cell x v) u = u
+places-map f g h i (fetch b) u = i b u
+places-map f g h i (keep a b) u = (f a (u .0), i b (u .1))
+places-map f g h i none u = u
 
 located-as : (p : List ℕ) (r k : ℕ) → k ≤ commandsIn p r → (c : Cmd) → PlacedAt p r k c ↔ Located p r k c
 located-as p r k few c = (
   places-map (λ l. value-exact p r k l few .0) (λ l. deployment-exact p r k l few .0)
-      (λ l. point-exact p r k l few .0) c,
+      (λ l. point-exact p r k l few .0) (λ l. cell-exact p r k l few .0) c,
   places-map (λ l. value-exact p r k l few .1) (λ l. deployment-exact p r k l few .1)
-      (λ l. point-exact p r k l few .1) c,
+      (λ l. point-exact p r k l few .1) (λ l. cell-exact p r k l few .1) c,
 )
 
 -- ---- one command
@@ -57,6 +61,7 @@ out-of-order-counts (early-consume n) = omega arith
 out-of-order-counts (late-supply d) = omega arith
 out-of-order-counts (second-react d) = omega arith
 out-of-order-counts (second-poly d) = omega arith
+out-of-order-counts (second-keep d) = omega arith
 out-of-order-counts (not-lower l) = omega arith
 
 module _ {p : List ℕ} {r k : ℕ} {s : Scan} (g : Holding p r k s) (t : TablesRight p) where

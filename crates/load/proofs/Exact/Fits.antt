@@ -4,13 +4,12 @@ use Prim.Native.Nat.{ℕ, _<_}
 use mathlib.Core.Path.{_≡_}
 use mathlib.Core.List.{List}
 use Rattle.program.specs.Bytes.{sourcesIn, commandsIn}
-use Rattle.program.specs.Command.{Cmd, cmdOf, bytesOf, sequenceOf, allocMono, makePoly, constant, global, supply, react}
-use Rattle.program.specs.Command.{consume, sink, allocPoly, primitive, none}
+use Rattle.program.specs.Command.{Cmd, cmdOf, bytesOf, sequenceOf, allocMono, makePoly, constant, global, supply, react, consume, sink, allocPoly, primitive, cell, fetch, keep, none}
 use Rattle.program.specs.Location.{shapeThere}
-use Rattle.load.specs.Rules.{ZeroBytes, Supplies, Reacts, Allocates, Sets}
+use Rattle.load.specs.Rules.{ZeroBytes, Supplies, Reacts, Allocates, Keeps, Sets}
 use Rattle.load.specs.Order.{Never, Already}
 use Rattle.load.specs.Fault.{Ranged, Remaining, Placed, Agreed, InSequence}
-use Rattle.load.proofs.Exact.Class.{Class, a-value, a-point, a-deployment, a-sink, nothing}
+use Rattle.load.proofs.Exact.Class.{Class, a-value, a-cell, a-point, a-deployment, a-sink, nothing}
 use Rattle.load.proofs.Exact.Places.{classAt}
 
 module _ (p : List ℕ) (r k : ℕ) where
@@ -19,7 +18,9 @@ module _ (p : List ℕ) (r k : ℕ) where
 
   -- 4: where the operands are, by what stands there
   abbrev pub PlacedAt : Cmd → Type 0
-  PlacedAt = Placed ValueAt (λ b. classAt p r k b ≡ a-deployment) (λ b. classAt p r k b ≡ a-point)
+  PlacedAt =
+      Placed ValueAt (λ b. classAt p r k b ≡ a-deployment) (λ b. classAt p r k b ≡ a-point)
+      (λ b. classAt p r k b ≡ a-cell)
 
   -- 6: order. Neither too early nor twice nor too late.
   abbrev pub Timely : Cmd → Type 0
@@ -34,6 +35,9 @@ module _ (p : List ℕ) (r k : ℕ) where
   Timely (sink x a) = Never p r (Sets p r x) k
   Timely (allocPoly a b) = Never p r (Allocates p r b) k
   Timely (primitive x a b c) = Unit {0}
+  Timely (cell x v) = Unit {0}
+  Timely (fetch b) = Unit {0}
+  Timely (keep a b) = Never p r (Keeps p r b) k
   Timely none = Unit {0}
 
   pub record Fits (c : Cmd) : Type 0 where
@@ -49,6 +53,7 @@ module _ (p : List ℕ) (r : ℕ) where
   -- what may not stay open at the end, at location l
   abbrev pub Ended : ℕ → Class → Type 0
   Ended l a-value = Unit {0}
+  Ended l a-cell = Already p r (Keeps p r l) (commandsIn p r)
   Ended l a-point = Already p r (Allocates p r l) (commandsIn p r)
   Ended l a-deployment = Already p r (Reacts p r l) (commandsIn p r)
   Ended l (a-sink x) = Already p r (Sets p r x) (commandsIn p r)

@@ -59,4 +59,7 @@ formed-says p c =
       (λ h. ((h .1 .0 .0, h .1 .0 .1, h .1 .0 .2, h .1 .1 .0, h .1 .1 .1), h .0)),
       (λ h. (h .1, ((h .0 .0, h .0 .1, h .0 .2), (h .0 .3, h .0 .4)))),
     ))
+    (λ _. says-and zero-two (says-and says-le (content-says p (c .x) (vOf c))))
+    (λ _. Iff·trans zero-three only)
+    (λ _. Iff·trans zero-two only)
     (λ _. ((λ e. absurd (says-false .0 e)), (λ h. absurd (h .0))))

@@ -6,16 +6,16 @@ use mathlib.Core.List.{List}
 use native.Mathlib.Omega.{arith}
 use Rattle.value.proofs.Tests.{Says, says-eq, says-le, says-and}
 use Rattle.program.specs.Bytes.{shapes, sourcesIn, commandsIn}
-use Rattle.program.specs.Command.{Cmd, allocMono, makePoly, constant, global, supply, react, consume, sink, allocPoly, primitive, none}
+use Rattle.program.specs.Command.{Cmd, allocMono, makePoly, constant, global, supply, react, consume, sink, allocPoly, primitive, cell, fetch, keep, none}
 use Rattle.program.specs.Location.{sinkLoc, shapeThere}
 use Rattle.program.specs.Kind.{kindIn, kindOf}
-use Rattle.load.specs.Scan.{standingAt, kindAt, isValue, isPoint, isDeployment, readyAt, aValue, freePoint, usedPoint, unsetSink, setSink, reacted, waiting}
-use Rattle.load.specs.Rules.{Supplies, Reacts, Allocates, Sets}
+use Rattle.load.specs.Scan.{standingAt, kindAt, isValue, isCell, isPoint, isDeployment, readyAt, aValue, freeCell, keptCell, freePoint, usedPoint, unsetSink, setSink, reacted, waiting}
+use Rattle.load.specs.Rules.{Supplies, Reacts, Allocates, Keeps, Sets}
 use Rattle.load.specs.declared.Scan.{Scan}
 use Rattle.load.proofs.Exact.Bits.{bit, ready-exact}
 use Rattle.load.specs.Order.{Never, Already}
 use Rattle.load.proofs.Exact.Seen.{Tells, tells-lo, tells-hi}
-use Rattle.load.proofs.Exact.Class.{Class, a-value, a-point, a-deployment, a-sink, nothing, rank, clash}
+use Rattle.load.proofs.Exact.Class.{Class, a-value, a-cell, a-point, a-deployment, a-sink, nothing, rank, clash}
 use Rattle.load.proofs.Exact.Places.{classAt}
 use Rattle.load.proofs.Exact.Stand.{Sized, Reads}
 
@@ -32,6 +32,9 @@ module _ (p : List ℕ) (r : ℕ) where
   Touches l (sink x a) = sinkLoc p r x ≡ l
   Touches l (allocPoly a b) = b ≡ l
   Touches l (primitive x a b c) = ⊥
+  Touches l (cell x v) = ⊥
+  Touches l (fetch b) = ⊥
+  Touches l (keep a b) = b ≡ l
   Touches l none = ⊥
 
   -- the standing of a deployment with n sources at l: it has reacted, or bit x tells whether source x is supplied
@@ -48,6 +51,7 @@ module _ (p : List ℕ) (r : ℕ) where
   -- standing st and kind kd, where a location of class c is at l
   abbrev pub Holds : ℕ → ℕ → ℕ → ℕ → Class → Type 0
   Holds k l st kd a-value = (st ≡ aValue) × ((f : ℕ) → l < f → kd ≡ kindIn f p r l)
+  Holds k l st kd a-cell = Tells p r freeCell keptCell (Keeps p r l) k st × ((f : ℕ) → l < f → kd ≡ kindIn f p r l)
   Holds k l st kd a-point = Tells p r freePoint usedPoint (Allocates p r l) k st × Shaped l kd
   Holds k l st kd a-deployment = Deployed (sourcesIn p (shapeThere p r l)) k l st × Shaped l kd
   Holds k l st kd (a-sink x) = (l ≡ sinkLoc p r x) × Tells p r unsetSink setSink (Sets p r x) k st
@@ -70,6 +74,7 @@ module _ (p : List ℕ) (r : ℕ) where
 
   abbrev pub Standing : Class → ℕ → Type 0
   Standing a-value st = st ≡ aValue
+  Standing a-cell st = (freeCell ≤ st) × (st ≤ keptCell)
   Standing a-point st = (freePoint ≤ st) × (st ≤ usedPoint)
   Standing a-deployment st = reacted ≤ st
   Standing (a-sink x) st = (unsetSink ≤ st) × (st ≤ setSink)
@@ -85,6 +90,7 @@ module _ (p : List ℕ) (r : ℕ) where
 
   pub standing-of : (k l st kd : ℕ) (c : Class) → Holds k l st kd c → Standing c st
   standing-of k l st kd a-value h = h .0
+  standing-of k l st kd a-cell h = tells-standing (Keeps p r l) freeCell keptCell k st (omega arith) (h .0)
   standing-of k l st kd a-point h = tells-standing (Allocates p r l) freePoint usedPoint k st (omega arith) (h .0)
   standing-of k l st kd a-deployment h = deployed-standing (sourcesIn p (shapeThere p r l)) k l st (h .0)
   standing-of k l st kd (a-sink x) h = tells-standing (Sets p r x) unsetSink setSink k st (omega arith) (h .1)
@@ -127,6 +133,7 @@ module _ (p : List ℕ) (r : ℕ) where
       ((st ≡ aValue) ↔ (c ≡ a-value))
       × (((freePoint ≤ st) × (st ≤ usedPoint)) ↔ (c ≡ a-point))
       × ((reacted ≤ st) ↔ (c ≡ a-deployment))
+      × (((freeCell ≤ st) × (st ≤ keptCell)) ↔ (c ≡ a-cell))
 
   is : {A : Type 0} {c : Class} → A → A ↔ (c ≡ c)
   is a = ((λ h. refl), (λ e. a))
@@ -135,13 +142,42 @@ module _ (p : List ℕ) (r : ℕ) where
   is-not n m = ((λ a. absurd (n a)), (λ e. clash e m))
 
   shown : (st : ℕ) (c : Class) → Standing c st → Shown st c
-  shown st a-value h = (is h, is-not (omega arith) (omega arith), is-not (omega arith) (omega arith))
-  shown st a-point h = (is-not (omega arith) (omega arith), is h, is-not (omega arith) (omega arith))
-  shown st a-deployment h = (is-not (omega arith) (omega arith), is-not (omega arith) (omega arith), is h)
-  shown st (a-sink x) h =
-      (is-not (omega arith) (omega arith), is-not (omega arith) (omega arith), is-not (omega arith) (omega arith))
-  shown st nothing h =
-      (is-not (omega arith) (omega arith), is-not (omega arith) (omega arith), is-not (omega arith) (omega arith))
+  shown st a-value h = (
+    is h,
+    is-not (omega arith) (omega arith),
+    is-not (omega arith) (omega arith),
+    is-not (omega arith) (omega arith),
+  )
+  shown st a-cell h = (
+    is-not (omega arith) (omega arith),
+    is-not (omega arith) (omega arith),
+    is-not (omega arith) (omega arith),
+    is h,
+  )
+  shown st a-point h = (
+    is-not (omega arith) (omega arith),
+    is h,
+    is-not (omega arith) (omega arith),
+    is-not (omega arith) (omega arith),
+  )
+  shown st a-deployment h = (
+    is-not (omega arith) (omega arith),
+    is-not (omega arith) (omega arith),
+    is h,
+    is-not (omega arith) (omega arith),
+  )
+  shown st (a-sink x) h = (
+    is-not (omega arith) (omega arith),
+    is-not (omega arith) (omega arith),
+    is-not (omega arith) (omega arith),
+    is-not (omega arith) (omega arith),
+  )
+  shown st nothing h = (
+    is-not (omega arith) (omega arith),
+    is-not (omega arith) (omega arith),
+    is-not (omega arith) (omega arith),
+    is-not (omega arith) (omega arith),
+  )
 
 module _ {p : List ℕ} {r k : ℕ} {s : Scan} (g : Holding p r k s) (l : ℕ) where
   shown-at : Shown p r (standingAt s l) (classAt p r k l)
@@ -161,6 +197,10 @@ module _ {p : List ℕ} {r k : ℕ} {s : Scan} (g : Holding p r k s) (l : ℕ) w
   unfolding isDeployment
   deployment-says = Iff·trans says-le (shown-at .2)
 
+  pub cell-says : Says (isCell s l) (classAt p r k l ≡ a-cell)
+  unfolding isCell
+  cell-says = Iff·trans (says-and says-le says-le) (shown-at .3)
+
   -- ---- what the tables hold, where the class is known
 
   pub holds-as : {c : Class} → classAt p r k l ≡ c → HoldsAt p r k s l c
@@ -174,6 +214,13 @@ module _ {p : List ℕ} {r k : ℕ} {s : Scan} (g : Holding p r k s) (l : ℕ) w
   unfolding kindOf
   kind-of-value e = kind-at-depth e (suc l) (omega arith)
 
+  pub cell-at-depth : classAt p r k l ≡ a-cell → (f : ℕ) → l < f → kindAt s l ≡ kindIn f p r l
+  cell-at-depth e = holds-as e .1
+
+  pub kind-of-cell : classAt p r k l ≡ a-cell → kindAt s l ≡ kindOf p r l
+  unfolding kindOf
+  kind-of-cell e = cell-at-depth e (suc l) (omega arith)
+
   pub shape-of-deployment : classAt p r k l ≡ a-deployment → kindAt s l ≡ shapeThere p r l
   shape-of-deployment e = holds-as e .1 .0
 
@@ -181,6 +228,9 @@ module _ {p : List ℕ} {r k : ℕ} {s : Scan} (g : Holding p r k s) (l : ℕ) w
   shape-of-point e = holds-as e .1 .0
 
   -- ---- and what the tests of order say there
+
+  pub cell-free : classAt p r k l ≡ a-cell → (standingAt s l ≡ freeCell) ↔ Never p r (Keeps p r l) k
+  cell-free e = tells-lo p r (Keeps p r l) freeCell keptCell k _ (omega arith) (holds-as e .0)
 
   pub point-free : classAt p r k l ≡ a-point → (standingAt s l ≡ freePoint) ↔ Never p r (Allocates p r l) k
   point-free e = tells-lo p r (Allocates p r l) freePoint usedPoint k _ (omega arith) (holds-as e .0)

@@ -6,16 +6,16 @@ use mathlib.Core.List.{List}
 use native.Mathlib.Omega.{arith}
 use native.Mathlib.Nat.{not-suc-le-zero}
 use Rattle.program.specs.Bytes.{sourcesIn, shapes, commandsIn}
-use Rattle.program.specs.Command.{Cmd, cmdOf, allocMono, makePoly, constant, global, supply, react, consume, sink, allocPoly, primitive, none}
+use Rattle.program.specs.Command.{Cmd, cmdOf, allocMono, makePoly, constant, global, supply, react, consume, sink, allocPoly, primitive, cell, fetch, keep, none}
 use Rattle.program.specs.Location.{sinkLoc, shapeThere, commandLoc, shapeMade}
 use Rattle.program.specs.Kind.{kindMade, kindIn}
-use Rattle.load.specs.Scan.{freePoint, usedPoint, unsetSink, setSink, standingAt, aValue, waiting}
-use Rattle.load.specs.Rules.{Supplies, Reacts, Allocates, Sets, TablesRight}
+use Rattle.load.specs.Scan.{freePoint, usedPoint, unsetSink, setSink, standingAt, aValue, waiting, freeCell, keptCell}
+use Rattle.load.specs.Rules.{Supplies, Reacts, Allocates, Keeps, Sets, TablesRight}
 use Rattle.load.specs.declared.Scan.{Scan}
 use Rattle.load.proofs.Exact.Bits.{bit, none-yet, some-room}
 use Rattle.load.specs.Order.{Never}
 use Rattle.load.proofs.Exact.Seen.{never-more, already-more, tells-more, never-narrow}
-use Rattle.load.proofs.Exact.Class.{Class, a-value, a-point, a-deployment, a-sink, nothing, rank, clash}
+use Rattle.load.proofs.Exact.Class.{Class, a-value, a-cell, a-point, a-deployment, a-sink, nothing, rank, clash}
 use Rattle.load.proofs.Exact.Holds.{Touches, Deployed, Holds, Shaped, Holding, holds-as}
 use Rattle.load.proofs.Exact.Places.{classAt, class-ahead, class-sink}
 use Rattle.load.proofs.Exact.KindLaws.{kind-here, shape-here}
@@ -33,6 +33,9 @@ module _ (p : List ℕ) (r : ℕ) where
   allocates-touch : (l : ℕ) (c : Cmd) → Allocates p r l c → Touches p r l c
   allocates-touch l c q = subst (Touches p r l) (sym (q .1)) refl
 
+  keeps-touch : (l : ℕ) (c : Cmd) → Keeps p r l c → Touches p r l c
+  keeps-touch l c q = subst (Touches p r l) (sym (q .1)) refl
+
   sets-touch : (x l : ℕ) (c : Cmd) → l ≡ sinkLoc p r x → Sets p r x c → Touches p r l c
   sets-touch x l c e q = subst (Touches p r l) (sym (q .1)) (sym e)
 
@@ -49,12 +52,16 @@ module _ (p : List ℕ) (r : ℕ) where
           λ x i. tells-more p r (Supplies p r x l) 0 1 k (bit st x) (λ q. free (supplies-touch x l _ q)) (h .3 x i),
         )
 
-    pub keep : (c : Class) → Holds p r k l st kd c → Holds p r (suc k) l st kd c
-    keep a-value h = h
-    keep a-point h = (tells-more p r (Allocates p r l) freePoint usedPoint k st (λ q. free (allocates-touch l _ q)) (h .0), h .1)
-    keep a-deployment h = (deployed-keep (sourcesIn p (shapeThere p r l)) (h .0), h .1)
-    keep (a-sink x) h = (h .0, tells-more p r (Sets p r x) unsetSink setSink k st (λ q. free (sets-touch x l _ (h .0) q)) (h .1))
-    keep nothing h = (h .0, never-more p r (Touches p r l) k (h .1) free)
+    pub untouched-holds : (c : Class) → Holds p r k l st kd c → Holds p r (suc k) l st kd c
+    untouched-holds a-value h = h
+    untouched-holds a-cell h =
+        (tells-more p r (Keeps p r l) freeCell keptCell k st (λ q. free (keeps-touch l _ q)) (h .0), h .1)
+    untouched-holds a-point h =
+        (tells-more p r (Allocates p r l) freePoint usedPoint k st (λ q. free (allocates-touch l _ q)) (h .0), h .1)
+    untouched-holds a-deployment h = (deployed-keep (sourcesIn p (shapeThere p r l)) (h .0), h .1)
+    untouched-holds (a-sink x) h =
+        (h .0, tells-more p r (Sets p r x) unsetSink setSink k st (λ q. free (sets-touch x l _ (h .0) q)) (h .1))
+    untouched-holds nothing h = (h .0, never-more p r (Touches p r l) k (h .1) free)
 
 -- ---- its own location
 
@@ -77,6 +84,9 @@ module _ {p : List ℕ} {r k : ℕ} {s : Scan} (g : Holding p r k s) (h : k < co
   not-own (sink x a) f q = elsewhere (sinkLoc p r x) (a-sink x) (class-sink p r k x (f .agreed .0) (g .few)) (omega arith) q
   not-own (allocPoly a b) f q = elsewhere b a-point (f .placed .1) (omega arith) q
   not-own (primitive x a b c) f q = q
+  not-own (cell x v) f q = q
+  not-own (fetch b) f q = q
+  not-own (keep a b) f q = elsewhere b a-cell (f .placed .1) (omega arith) q
   not-own none f q = q
 
   module _ (f : Fits p r k (cmdOf p r k)) where
@@ -90,13 +100,19 @@ module _ {p : List ℕ} {r k : ℕ} {s : Scan} (g : Holding p r k s) (h : k < co
     pub own-nothing : (kd : ℕ) → Holds p r (suc k) (commandLoc p r k) (standingAt s (commandLoc p r k)) kd nothing
     own-nothing kd = (holds-as g (commandLoc p r k) here-nothing .0, fresh)
 
+    -- a kind known at every depth that suffices for what c needs is its location's
+    by-depth : (kd : ℕ) → ((i : ℕ) → commandLoc p r k ≤ i → kd ≡ kindMade p r (kindIn i p r) (cmdOf p r k)) →
+        (i : ℕ) → commandLoc p r k < i → kd ≡ kindIn i p r (commandLoc p r k)
+    by-depth kd e zero l = absurd (not-suc-le-zero l)
+    by-depth kd e (suc i) l = e i (omega arith) ∙ sym (kind-here p r k h i)
+
     pub own-value : (kd : ℕ) → ((i : ℕ) → commandLoc p r k ≤ i → kd ≡ kindMade p r (kindIn i p r) (cmdOf p r k)) →
         Holds p r (suc k) (commandLoc p r k) aValue kd a-value
-    own-value kd e = (refl, by-depth)
-      where
-        by-depth : (i : ℕ) → commandLoc p r k < i → kd ≡ kindIn i p r (commandLoc p r k)
-        by-depth zero l = absurd (not-suc-le-zero l)
-        by-depth (suc i) l = e i (omega arith) ∙ sym (kind-here p r k h i)
+    own-value kd e = (refl, by-depth kd e)
+
+    pub own-cell : (kd : ℕ) → ((i : ℕ) → commandLoc p r k ≤ i → kd ≡ kindMade p r (kindIn i p r) (cmdOf p r k)) →
+        Holds p r (suc k) (commandLoc p r k) freeCell kd a-cell
+    own-cell kd e = (inl (refl, untouched (Keeps p r _) (keeps-touch p r _)), by-depth kd e)
 
     -- a branch point or deployment of shape kd
 

@@ -8,22 +8,22 @@ use native.Mathlib.Nat.{lt-of-lt-of-le}
 use Rattle.value.specs.Test.{_=?_}
 use Rattle.value.proofs.Tests.{cases, eq?, eq×?}
 use Rattle.program.specs.Bytes.{shapes, reactors, shapeOf, sourcesIn, sinkKind, globalKind, commandsIn}
-use Rattle.program.specs.Command.{Cmd, cmdOf, madeBy, allocMono, makePoly, constant, global, supply, react, consume, sink, allocPoly, primitive, none}
+use Rattle.program.specs.Command.{Cmd, cmdOf, madeBy, allocMono, makePoly, constant, global, supply, react, consume, sink, allocPoly, primitive, cell, fetch, keep, none}
 use Rattle.program.specs.Location.{commandLoc, sinkLoc, cmdAt, pointShape, shapeMade, shapeThere}
 use Rattle.program.specs.Kind.{kindMade, kindIn}
-use Rattle.load.specs.Scan.{standingAt, kindAt, stand, standingAfter, advance, afterOf, aValue, freePoint, usedPoint, setSink, reacted, waiting}
-use Rattle.load.specs.Rules.{Supplies, Reacts, Allocates, Sets, TablesRight}
+use Rattle.load.specs.Scan.{standingAt, kindAt, stand, standingAfter, advance, afterOf, aValue, freeCell, keptCell, freePoint, usedPoint, setSink, reacted, waiting}
+use Rattle.load.specs.Rules.{Supplies, Reacts, Allocates, Keeps, Sets, TablesRight}
 use Rattle.load.specs.declared.Scan.{Scan}
 use Rattle.load.proofs.Exact.Bits.{bit, add-bit, keep-bit}
 use Rattle.load.specs.Order.{Never}
 use Rattle.load.proofs.Exact.Seen.{Tells, never-more, already-now, tells-more, tells-lo}
 use Rattle.load.proofs.Exact.Class.{a-value, a-deployment, nothing, classOf, IsMade}
-use Rattle.load.proofs.Exact.Places.{classAt, class-sink, made-where, value-low, point-exact}
+use Rattle.load.proofs.Exact.Places.{classAt, class-sink, made-where, value-low, point-exact, cell-exact}
 use Rattle.load.proofs.Exact.KindLaws.{point-shape, given-same}
 use Rattle.load.proofs.Exact.Fits.{Fits}
-use Rattle.load.proofs.Exact.Holds.{Touches, Deployed, Holds, HoldsAt, as-read, Holding, holds-as, kind-at-depth, shape-of-deployment}
+use Rattle.load.proofs.Exact.Holds.{Touches, Deployed, Holds, HoldsAt, as-read, Holding, holds-as, kind-at-depth, cell-at-depth, shape-of-deployment}
 use Rattle.load.proofs.Exact.Stand.{stand-sized, stand-next, reads-there, reads-else, command-inside, sink-inside}
-use Rattle.load.proofs.Exact.Keep.{not-own, own-value, own-point, own-deployment}
+use Rattle.load.proofs.Exact.Keep.{not-own, own-value, own-cell, own-point, own-deployment}
 use Rattle.load.proofs.Exact.Change.{Change, changed, placed, touching}
 
 -- a deployment whose source x is supplied by command k
@@ -143,6 +143,17 @@ module _ {p : List ℕ} {r k : ℕ} {s : Scan}
       gives _ e f _ refl (λ l q. q)
       (λ i l. given-same x _ _ (f .ranged)
       (⊎-map (λ q. q) (λ v. kind-at-depth g b v i (lt-of-lt-of-le (value-low p r k b (g .few) v) l)) (f .placed .1)))
+  change (cell x v) e f =
+      placed g h freeCell x room (cell x v) (λ l q. q)
+      (own-cell g h (at-k _ e f) x (λ i l. sym (ap (kindMade p r (kindIn i p r)) e)))
+  change (fetch b) e f =
+      gives _ e f _ refl (λ l q. q)
+      (λ i l. cell-at-depth g b (f .placed) i (lt-of-lt-of-le (cell-exact p r k b (g .few) .0 (f .placed) .0) l))
+  change (keep a b) e f =
+      let at = f .placed .1 in
+      touching g h b keptCell (kindAt s b) (made-room b (subst IsMade (sym at) tt)) (keep a b) e f refl (λ l q. q) refl
+      (subst (Holds p r (suc k) b keptCell (kindAt s b)) (sym at)
+      (inr (refl, already-now p r (Keeps p r b) k (a, e)), holds-as g b at .1))
   change none e f = absurd (f .ranged)
 
   pub kept : Fits p r k (cmdOf p r k) → Holding p r (suc k) (afterOf p r s (cmdOf p r k))

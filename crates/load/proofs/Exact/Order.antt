@@ -1,7 +1,7 @@
 -- Exact order: where the tables hold what they should, a command out of order has the number that those before it
 -- call for.
 use Prim.Native.Nat.{ℕ}
-use mathlib.Core.Path.{_≡_, refl, sym, ap, subst}
+use mathlib.Core.Path.{_≡_, refl, sym, _∙_, ap, subst}
 use mathlib.Core.Bool.{Bool, true, false, not}
 use mathlib.Core.Logic.{_↔_, inl, inr, _≢_}
 use mathlib.Core.List.{List}
@@ -9,18 +9,20 @@ use native.Mathlib.Omega.{arith}
 use Rattle.value.specs.Test.{need, _<?_, _=?_}
 use Rattle.value.proofs.Tests.{cases, yes, no, lt×, le!, le×, eq!, eq×, lt×?, eq?, eq×?, picks}
 use Rattle.program.specs.Bytes.{sourcesIn}
-use Rattle.program.specs.Command.{Cmd, cmdOf, allocMono, makePoly, constant, global, supply, react, consume, sink, allocPoly, primitive, none}
+use Rattle.program.specs.Command.{Cmd, cmdOf, allocMono, makePoly, constant, global, supply, react, consume, sink, allocPoly, primitive, cell, fetch, keep, none}
 use Rattle.program.specs.Location.{sinkLoc, shapeThere}
-use Rattle.load.specs.Scan.{standingAt, kindAt, isSupplied, readyAt, disorder}
-use Rattle.load.specs.Rules.{Reacts, TablesRight}
-use Rattle.load.specs.Order.{Never, Supplied, OutOfOrder, source-again, sink-again, early-react, early-consume, late-supply, second-react, second-poly, not-lower, ExactOrder}
+use Rattle.load.specs.Scan.{standingAt, kindAt, isSupplied, readyAt, disorder, freeCell, keptCell}
+use Rattle.load.specs.Scan.{freePoint, usedPoint, unsetSink, setSink}
+use Rattle.load.specs.Rules.{Reacts, Allocates, Keeps, Sets, TablesRight}
+use Rattle.load.specs.Order.{Never, Already, Supplied, OutOfOrder, source-again, sink-again, early-react, early-consume, late-supply, second-react, second-poly, second-keep, not-lower, ExactOrder}
 use Rattle.load.specs.declared.Scan.{Scan}
 use Rattle.load.proofs.Exact.Bits.{bit}
+use Rattle.load.proofs.Exact.Seen.{Tells}
 use Rattle.load.proofs.Exact.Class.{a-deployment}
 use Rattle.load.proofs.Exact.Places.{classAt, class-sink}
 use Rattle.load.specs.Fault.{Agreed}
 use Rattle.load.proofs.Exact.Fits.{PlacedAt}
-use Rattle.load.proofs.Exact.Holds.{Holding, Deployed, supplied, holds-as, shape-of-deployment, point-free, deployment-reacted, deployment-ready}
+use Rattle.load.proofs.Exact.Holds.{Holding, Deployed, supplied, holds-as, shape-of-deployment, point-free, cell-free, deployment-reacted, deployment-ready}
 use Rattle.load.proofs.Exact.Taken.{located-says, agreed-says, sink-open, few-sources}
 use Rattle.load.proofs.Exact.Reactor.{first-run}
 
@@ -43,6 +45,13 @@ module _ {p : List ℕ} {r k : ℕ} {s : Scan} (g : Holding p r k s) (t : Tables
   ready b e =
       subst (λ m. (standingAt s b ≡ readyAt (sourcesIn p m)) ↔ (Never p r (Reacts p r b) k × Supplied p r b k))
       (sym (shape-of-deployment g b e)) (deployment-ready g b (few-sources g t b e) e)
+
+  -- what may come once, and is told by two standings, has come
+  again : {c : Cmd} {n : ℕ} (P : Cmd → Type 0) (low high m : ℕ) {st : ℕ} → low ≢ high → Tells p r low high P k st →
+      (Already p r P k → OutOfOrder p r k c m) → n ≢ 0 → need (st =? low) m 0 ≡ n → OutOfOrder p r k c n
+  again P low high m apart (inl d) out z q = absurd (z (sym (past m _ 0 q (eq! (d .0)))))
+  again {c} P low high m apart (inr d) out z q =
+      subst (OutOfOrder p r k c) (at-rung m _ 0 q (eq× (λ e. apart (sym e ∙ d .0)))) (out (d .1))
 
   -- a number that is given is the order's
   pub refused-for : (c : Cmd) → PlacedAt p r k c → Agreed p r c → (n : ℕ) → n ≢ 0 →
@@ -89,20 +98,15 @@ module _ {p : List ℕ} {r k : ℕ} {s : Scan} (g : Holding p r k s) (t : Tables
             subst (OutOfOrder p r k (consume x b)) (at-rung 19 n 0 q (eq× (λ e. omega arith))) (early-consume (d .2))
       ]
   refused-for (sink x v) h a n z q =
-      elim (holds-as g (sinkLoc p r x) (class-sink p r k x (a .0) (g .few)) .1) [
-        | inl d ↦ absurd (z (sym (past 6 n 0 q (eq! (d .0)))))
-        | inr d ↦
-            let w = d .0 in
-            subst (OutOfOrder p r k (sink x v)) (at-rung 6 n 0 q (eq× (λ e. omega arith))) (sink-again (d .1))
-      ]
+      let at = class-sink p r k x (a .0) (g .few) in
+      again (Sets p r x) unsetSink setSink 6 (omega arith) (holds-as g (sinkLoc p r x) at .1) sink-again z q
   refused-for (allocPoly v b) h a n z q =
-      elim (holds-as g b (h .1) .0) [
-        | inl d ↦ absurd (z (sym (past 20 n 0 q (eq! (d .0)))))
-        | inr d ↦
-            let w = d .0 in
-            subst (OutOfOrder p r k (allocPoly v b)) (at-rung 20 n 0 q (eq× (λ e. omega arith))) (second-poly (d .1))
-      ]
+      again (Allocates p r b) freePoint usedPoint 20 (omega arith) (holds-as g b (h .1) .0) second-poly z q
   refused-for (primitive x d b c) h a n z q = absurd (z (sym q))
+  refused-for (cell x v) h a n z q = absurd (z (sym q))
+  refused-for (fetch b) h a n z q = absurd (z (sym q))
+  refused-for (keep v b) h a n z q =
+      again (Keeps p r b) freeCell keptCell 20 (omega arith) (holds-as g b (h .1) .0) second-keep z q
   refused-for none h a n z q = absurd (z (sym q))
 
   -- and what is out of order is given its number
@@ -132,6 +136,8 @@ module _ {p : List ℕ} {r k : ℕ} {s : Scan} (g : Holding p r k s) (t : Tables
       sym (no _ (le× (omega arith)) refl)
   refuses (second-poly {b} d) h a =
       sym (no _ (eq× (λ q. let n = point-free g b (h .1) .0 q in n (d .0) (d .1) (d .2))) refl)
+  refuses (second-keep {b} d) h a =
+      sym (no _ (eq× (λ q. let n = cell-free g b (h .1) .0 q in n (d .0) (d .1) (d .2))) refl)
   refuses (not-lower l) h a = sym (no _ (lt× l) refl)
 
 pub exact-order : (p : List ℕ) → ExactOrder p

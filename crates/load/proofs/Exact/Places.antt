@@ -9,12 +9,11 @@ use native.Mathlib.Numerals.{lt-of-le-of-ne}
 use Rattle.value.specs.Test.{pick, _<?_, _≤?_, _and_}
 use Rattle.value.proofs.Tests.{cases, yes, no, lt!, lt×, le!, lt?, lt×?, le?, both!, both?}
 use Rattle.program.specs.Bytes.{commandsIn}
-use Rattle.program.specs.Command.{Cmd, cmdOf, givesValue, allocMono, makePoly, allocPoly, none}
+use Rattle.program.specs.Command.{Cmd, cmdOf, givesValue, allocMono, makePoly, allocPoly, cell, none}
 use Rattle.program.specs.Location.{sources, sinks, commandLoc, sinkLoc, locations, cmdAt}
-use Rattle.load.specs.Rules.{Value, Deployment, Point}
-use Rattle.load.proofs.Exact.Class.{Class, a-value, a-point, a-deployment, a-sink, nothing, classOf, IsMade}
-use Rattle.load.proofs.Exact.Class.{clash}
-use Rattle.load.proofs.Exact.Class.{shows-as, value-class}
+use Rattle.load.specs.Rules.{Value, Deployment, Point, Cell}
+use Rattle.load.proofs.Exact.Class.{Class, a-value, a-cell, a-point, a-deployment, a-sink, nothing, classOf, IsMade}
+use Rattle.load.proofs.Exact.Class.{clash, shows-as, value-class}
 
 -- what stands at location l after the first k commands
 unfoldable pub classAt : List ℕ → ℕ → ℕ → ℕ → Class
@@ -159,7 +158,7 @@ module _ (p : List ℕ) (r : ℕ) where
   unfolding commandLoc
   value-low k l few e = elim (value-exact k l few .0 e) [ inl q ↦ (omega arith) | inr q ↦ q .0 ]
 
-  -- a deployment or a branch point stands at an earlier command's location
+  -- a deployment, a branch point or a cell stands at an earlier command's location
   pub made-where : (k l : ℕ) → k ≤ commandsIn p r → IsMade (classAt p r k l) →
       (i : ℕ) × (i < k) × (l ≡ commandLoc p r i) × (classAt p r k l ≡ classOf (cmdOf p r i))
   made-where k l few =
@@ -180,18 +179,25 @@ module _ (p : List ℕ) (r : ℕ) where
       let i : w .0 < k = loc-lt-back (subst (λ j. j < commandLoc p r k) (w .2) low) in
       ap (classAt p r k) (w .2) ∙ class-made k (w .0) i few ∙ ap classOf (w .3)
 
-  -- a deployment operand, and a branch point, of the next command
+  -- it is lower, and the command there is the one that made it
+  pub made-at : (k b : ℕ) → k ≤ commandsIn p r → IsMade (classAt p r k b) →
+      (b < commandLoc p r k) × (classOf (cmdAt p r b) ≡ classAt p r k b)
+  made-at k b few m =
+      let w = made-where k b few m in (
+        subst (λ j. j < commandLoc p r k) (sym (w .2)) (loc-lt (w .1)),
+        ap classOf (ap (cmdAt p r) (w .2) ∙ cmd-there (w .0) (omega (arith, w .1))) ∙ sym (w .3),
+      )
+
+  -- a deployment operand, a branch point and a cell, of the next command
   pub deployment-exact : (k b : ℕ) → k ≤ commandsIn p r →
       (classAt p r k b ≡ a-deployment) ↔ ((b < commandLoc p r k) × Deployment p r (commandLoc p r k) b)
   unfolding classOf
   deployment-exact k b few = (
     (λ e.
-        let w = made-where k b few (subst IsMade (sym e) tt) in
-        let low = subst (λ j. j < commandLoc p r k) (sym (w .2)) (loc-lt (w .1)) in
-        let there = ap (cmdAt p r) (w .2) ∙ cmd-there (w .0) (omega (arith, w .1)) in
-        elim (shows-as (cmdOf p r (w .0)) (sym (w .3) ∙ e)) [
-          | inl m ↦ (low, inl (m .0, there ∙ m .1))
-          | inr m ↦ (low, inr (low, (m .0, m .1, there ∙ m .2)))
+        let w = made-at k b few (subst IsMade (sym e) tt) in
+        elim (shows-as (cmdAt p r b) (w .1 ∙ e)) [
+          | inl m ↦ (w .0, inl m)
+          | inr m ↦ (w .0, inr (w .0, m))
         ]),
     (λ h. elim (h .1) [
       | inl m ↦ made-there k b (allocMono (m .0)) few tt (h .0) (m .1)
@@ -203,10 +209,14 @@ module _ (p : List ℕ) (r : ℕ) where
       (classAt p r k b ≡ a-point) ↔ ((b < commandLoc p r k) × Point p r b)
   unfolding classOf
   point-exact k b few = (
-    (λ e.
-        let w = made-where k b few (subst IsMade (sym e) tt) in
-        let m = shows-as (cmdOf p r (w .0)) (sym (w .3) ∙ e) in
-        let there = ap (cmdAt p r) (w .2) ∙ cmd-there (w .0) (omega (arith, w .1)) in
-        (subst (λ j. j < commandLoc p r k) (sym (w .2)) (loc-lt (w .1)), (m .0, there ∙ m .1))),
+    (λ e. let w = made-at k b few (subst IsMade (sym e) tt) in (w .0, shows-as (cmdAt p r b) (w .1 ∙ e))),
     (λ h. made-there k b (makePoly (h .1 .0)) few tt (h .0) (h .1 .1)),
+  )
+
+  pub cell-exact : (k b : ℕ) → k ≤ commandsIn p r →
+      (classAt p r k b ≡ a-cell) ↔ ((b < commandLoc p r k) × Cell p r b)
+  unfolding classOf
+  cell-exact k b few = (
+    (λ e. let w = made-at k b few (subst IsMade (sym e) tt) in (w .0, shows-as (cmdAt p r b) (w .1 ∙ e))),
+    (λ h. made-there k b (cell (h .1 .0) (h .1 .1)) few tt (h .0) (h .1 .2)),
   )

@@ -11,15 +11,14 @@ use Rattle.value.specs.declared.Takes.{Takes}
 use Rattle.value.specs.declared.Takes.the-variants.{TwoNumbers, OneTruth, TwoTruths, OneOfAny, TruthThenTwo, TwoAlike}
 use Rattle.value.proofs.Tests.{cases, remains, lt?, lt×?}
 use Rattle.program.specs.Bytes.{declared, commandsIn, sourcesIn}
-use Rattle.program.specs.Command.{Cmd, Sequence, cmdOf, sequenceOf, D, R, neither, allocMono, makePoly, constant, global, supply, react, consume, sink, allocPoly, primitive, none}
+use Rattle.program.specs.Command.{Cmd, Sequence, cmdOf, sequenceOf, D, R, neither, allocMono, makePoly, constant, global, supply, react, consume, sink, allocPoly, primitive, cell, fetch, keep, none}
 use Rattle.program.specs.Location.{commandLoc, sinkLoc, cmdAt, shapeThere}
 use Rattle.program.specs.Kind.{kindOf}
-use Rattle.load.specs.Rules.{Value, Deployment, Point, Operands, Right, Once, Supplies, Reacts, Allocates, Sets, Served, ReactorRule}
+use Rattle.load.specs.Rules.{Value, Deployment, Point, Cell, Operands, Right, Once, Supplies, Reacts, Allocates, Keeps, Sets, Served, ReactorRule}
 use Rattle.load.specs.Order.{Never, Already}
 use Rattle.load.proofs.Exact.Seen.{FirstOnly, one, once}
-use Rattle.load.proofs.Exact.Class.{a-point, a-deployment, classOf}
-use Rattle.load.proofs.Exact.Places.{classAt, loc-lt, cmd-there, cmd-where, class-sink, by-place, value-exact}
-use Rattle.load.proofs.Exact.Places.{deployment-exact, point-exact}
+use Rattle.load.proofs.Exact.Class.{a-point, a-deployment, classOf, a-cell}
+use Rattle.load.proofs.Exact.Places.{classAt, loc-lt, cmd-there, cmd-where, class-sink, by-place, value-exact, deployment-exact, point-exact, cell-exact}
 use Rattle.load.specs.Fault.{KindsFit, InSequence, Ranged, Remaining, Agreed}
 use Rattle.load.proofs.Exact.Fits.{ValueAt, PlacedAt, Timely, Fits, Ended, Stepwise}
 
@@ -72,6 +71,12 @@ module _ (p : List ℕ) (r : ℕ) where
         let low = D-low b (makePoly (m .0)) refl (λ q. D≢neither (ap sequenceOf q)) (m .1) in
         point-exact p r k b few .1 (low, m)
 
+    cell-there : (b : ℕ) → Cell p r b → classAt p r k b ≡ a-cell
+    unfolding sequenceOf
+    cell-there b m =
+        let low = D-low b (cell (m .0) (m .1)) refl (λ q. D≢neither (ap sequenceOf q)) (m .2) in
+        cell-exact p r k b few .1 (low, m)
+
   -- ---- a primitive's operands
 
   operands-of : (l : ℕ) (t : Takes) (a b c : ℕ) →
@@ -122,6 +127,10 @@ module _ (p : List ℕ) (r : ℕ) where
       f .agreed,
     ),
   )
+  right k (cell x v) few f = f .ranged
+  right k (fetch b) few f = cell-exact p r k b few .0 (f .placed) .1
+  right k (keep a b) few f =
+      (values k a few .0 (f .placed .0), cell-exact p r k b few .0 (f .placed .1) .1, f .agreed)
   right k none few f = f .ranged
 
   module _ (g : Stepwise p r) where
@@ -160,6 +169,9 @@ module _ (p : List ℕ) (r : ℕ) where
           points = λ b m.
               let a = subst (Ended p r b) (point-there (commandsIn p r) (omega arith) D-all b m) (g .ended b) in
               (a .0, once p r (Allocates p r b) (λ i l q. fit i (allocPoly (q .0) b) l (q .1) .timely) (a .0) (a .1) (a .2));
+          cells = λ b m.
+              let a = subst (Ended p r b) (cell-there (commandsIn p r) (omega arith) D-all b m) (g .ended b) in
+              (a .0, once p r (Keeps p r b) (λ i l q. fit i (keep (q .0) b) l (q .1) .timely) (a .0) (a .1) (a .2));
           set = λ x h.
               let e = class-sink p r (commandsIn p r) x h (omega arith) in
               let a = subst (Ended p r (sinkLoc p r x)) e (g .ended (sinkLoc p r x)) in
@@ -257,6 +269,12 @@ module _ (p : List ℕ) (r : ℕ) where
           let bs = ⊎-map (λ h. h) (values k b few .1) (o .1) in
           let cs = ⊎-map (λ h. h) (values k c few .1) (o .2) in
           (g .0 .0, g .0 .1, (values k a few .1 (o .0), bs, cs), o .3, tt)
+      fitted (cell x v) e g = (g, tt, tt, tt, tt)
+      fitted (fetch b) e g = (tt, tt, cell-there k few (D-early k (R-late _ e refl)) b g, tt, tt)
+      fitted (keep a b) e g =
+          let t = u .cells b (g .1) in
+          let at = cell-there k few (D-early k (R-late _ e refl)) b (g .1) in
+          (tt, tt, (values k a few .1 (g .0), at), g .2, first (Keeps p r b) (t .0) (t .1) (a, e))
       fitted none e g = absurd g
 
       fits : Fits p r k (cmdOf p r k)
@@ -287,6 +305,9 @@ module _ (p : List ℕ) (r : ℕ) where
     ended i h (sink x a) e = tt
     ended i h (allocPoly a b) e = reacted _ (inr (loc-lt p r h, (a, b, e)))
     ended i h (primitive x a b c) e = tt
+    ended i h (cell x v) e = let t = u .cells _ (x, v, e) in (t .0, t .1 .there, t .1 .is)
+    ended i h (fetch b) e = tt
+    ended i h (keep a b) e = tt
     ended i h none e = tt
 
     pub steps-of-rule : Stepwise p r

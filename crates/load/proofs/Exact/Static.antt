@@ -1,16 +1,19 @@
 -- What the rules give of one reactor, position by position, for a proof about its run. `Static`: what stands before each command. `Single`: what comes once.
 use Prim.Native.Nat.{ℕ, _≤_, _<_}
-use mathlib.Core.Path.{_≡_}
+use mathlib.Core.Path.{_≡_, sym, _∙_, ap, subst}
 use mathlib.Core.Bool.{true, false}
 use mathlib.Core.Logic.{_⊎_}
 use mathlib.Core.List.{List}
-use Rattle.value.specs.Value.{reactorKind}
+use native.Mathlib.Omega.{arith}
+use Rattle.value.specs.Value.{reactorKind, truthKind}
 use Rattle.value.specs.Primitive.{rowOf, operands, kindGiven, Offered}
 use Rattle.program.specs.Bytes.{shapes, reactors, globals, globalKind, shapeOf, sourcesIn, sinksIn, declared, commandsIn}
-use Rattle.program.specs.Command.{cmdOf, sequenceOf, givesValue, D, R, allocMono, makePoly, constant, global, supply, react, consume, sink, allocPoly, primitive}
-use Rattle.program.specs.Location.{sources, sinks, commandLoc, sinkLoc, shapeThere}
+use Rattle.program.specs.Command.{cmdOf, sequenceOf, givesValue, D, R, allocMono, makePoly, constant, global, supply, react, consume, sink, allocPoly, primitive, cell, fetch, keep}
+use Rattle.program.specs.Location.{sources, sinks, commandLoc, sinkLoc, cmdAt, shapeThere, HasSlot}
 use Rattle.program.specs.Kind.{kindOf, Content}
+use Rattle.program.proofs.Slots.{slot-D}
 use Rattle.load.specs.Fault.{KindsFit}
+use Rattle.load.proofs.Exact.Places.{cmd-there}
 
 module _ (p : List ℕ) (r : ℕ) where
   -- location a has a value when command i runs
@@ -26,6 +29,15 @@ module _ (p : List ℕ) (r : ℕ) where
   -- location b is that of a branch point of shape s when command i runs
   abbrev pub PointBefore : ℕ → ℕ → ℕ → Type 0
   PointBefore i s b = (j : ℕ) × (j < i) × (j < declared p r) × (b ≡ commandLoc p r j) × (cmdOf p r j ≡ makePoly s)
+
+  -- location b is that of a cell of kind k when command i runs
+  pub record CellBefore (i k b : ℕ) : Type 0 where
+    pub index : ℕ
+    pub bits : ℕ
+    pub before : index < i
+    pub low : index < declared p r
+    pub place : b ≡ commandLoc p r index
+    pub is : cmdOf p r index ≡ cell k bits
 
   -- what stands before each command, with its kinds
   pub record Static : Type 0 where
@@ -51,8 +63,15 @@ module _ (p : List ℕ) (r : ℕ) where
         Offered x × ValueBefore i a × ((operands x < 2) ⊎ ValueBefore i b) × ((operands x < 3) ⊎ ValueBefore i c)
         × KindsFit (rowOf x .takes) (kindOf p r a) (kindOf p r b) (kindOf p r c)
         × (kindOf p r (commandLoc p r i) ≡ kindGiven (rowOf x .gives) (kindOf p r b))
-    -- a command that gives no value has kind 0, so no reactor's
-    pub no-kind : (i : ℕ) → i < commandsIn p r → givesValue (cmdOf p r i) ≡ false → kindOf p r (commandLoc p r i) ≡ 0
+    pub cells : (i k v : ℕ) → i < commandsIn p r → cmdOf p r i ≡ cell k v →
+        (i < declared p r) × (kindOf p r (commandLoc p r i) ≡ k) × (k ≤ truthKind) × Content p k v
+    pub fetches : (i b : ℕ) → i < commandsIn p r → cmdOf p r i ≡ fetch b →
+        CellBefore i (kindOf p r b) b × (kindOf p r (commandLoc p r i) ≡ kindOf p r b)
+    pub keeps : (i a b : ℕ) → i < commandsIn p r → cmdOf p r i ≡ keep a b →
+        ValueBefore i a × CellBefore i (kindOf p r b) b × (kindOf p r a ≡ kindOf p r b)
+    -- a command that gives no value has no reactor's kind
+    pub no-kind : (i : ℕ) → i < commandsIn p r → givesValue (cmdOf p r i) ≡ false →
+        kindOf p r (commandLoc p r i) ≤ truthKind
 
   -- what comes once, and what does not fail to come
   pub record Single : Type 0 where
@@ -60,8 +79,21 @@ module _ (p : List ℕ) (r : ℕ) where
     pub one-react : (i k b : ℕ) → i < commandsIn p r → k < commandsIn p r → cmdOf p r i ≡ react b → cmdOf p r k ≡ react b → i ≡ k
     pub one-sink : (i k x a a′ : ℕ) → i < commandsIn p r → k < commandsIn p r → cmdOf p r i ≡ sink x a → cmdOf p r k ≡ sink x a′ → i ≡ k
     pub one-poly : (i k a a′ b : ℕ) → i < commandsIn p r → k < commandsIn p r → cmdOf p r i ≡ allocPoly a b → cmdOf p r k ≡ allocPoly a′ b → i ≡ k
+    pub one-keep : (i k a a′ b : ℕ) → i < commandsIn p r → k < commandsIn p r → cmdOf p r i ≡ keep a b →
+        cmdOf p r k ≡ keep a′ b → i ≡ k
     pub supply-first : (i k x a b : ℕ) → i < commandsIn p r → k < commandsIn p r → cmdOf p r i ≡ supply x a b → cmdOf p r k ≡ react b → i < k
     pub react-first : (i k x b : ℕ) → i < commandsIn p r → k < commandsIn p r → cmdOf p r i ≡ consume x b → cmdOf p r k ≡ react b → k < i
     pub all-react : (b s : ℕ) → DeploymentBefore (commandsIn p r) s b → (i : ℕ) × (i < commandsIn p r) × (cmdOf p r i ≡ react b)
     pub all-sinks : (x : ℕ) → x < sinks p r → (i : ℕ) × (a : ℕ) × (i < commandsIn p r) × (cmdOf p r i ≡ sink x a)
+    pub all-cells : (b s : ℕ) → CellBefore (commandsIn p r) s b →
+        (i : ℕ) × (a : ℕ) × (i < commandsIn p r) × (cmdOf p r i ≡ keep a b)
     pub all-points : (b s : ℕ) → PointBefore (commandsIn p r) s b → (i : ℕ) × (a : ℕ) × (i < commandsIn p r) × (cmdOf p r i ≡ allocPoly a b)
+
+  -- a cell's location has its Cell, and a slot
+  module _ {i k b : ℕ} (c : CellBefore i k b) where
+    pub cell-command : i ≤ commandsIn p r → cmdAt p r b ≡ cell k (c .bits)
+    cell-command h =
+        ap (cmdAt p r) (c .place) ∙ cmd-there p r (c .index) (omega (arith, c .before)) ∙ c .is
+
+    pub cell-slot : HasSlot p r b
+    cell-slot = subst (HasSlot p r) (sym (c .place)) (slot-D p r (c .index) (c .low))

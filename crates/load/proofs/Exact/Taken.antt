@@ -12,7 +12,7 @@ use Rattle.value.specs.declared.Takes.{Takes}
 use Rattle.value.specs.declared.Takes.the-variants.{TwoNumbers, OneTruth, TwoTruths, OneOfAny, TruthThenTwo, TwoAlike}
 use Rattle.value.proofs.Tests.{remains, Says, says-lt, says-le, says-eq, says-true, says-false, says-and, says-or, says-not, says-need}
 use Rattle.program.specs.Bytes.{declared, sourcesIn, sinksIn, sourceKind, sinkKind, shapeOf}
-use Rattle.program.specs.Command.{Cmd, Sequence, D, R, neither, cmdOf, decode, bytesOf, sequenceOf, allocMono, makePoly, constant, global, supply, react, consume, sink, allocPoly, primitive, none}
+use Rattle.program.specs.Command.{Cmd, Sequence, D, R, neither, cmdOf, decode, bytesOf, sequenceOf, allocMono, makePoly, constant, global, supply, react, consume, sink, allocPoly, primitive, cell, fetch, keep, none}
 use Rattle.program.specs.Location.{sinks, sinkLoc, shapeThere}
 use Rattle.load.specs.Scan.{standingAt, kindAt, isSupplied, readyAt, inSequence, remaining, located, agreed, disorder, refusalOf, waiting, unsetSink, setSink}
 use Rattle.load.specs.Rules.{Sets, TablesRight}
@@ -24,7 +24,7 @@ use Rattle.load.proofs.Exact.Places.{classAt, class-sink}
 use Rattle.load.specs.Fault.{KindsFit, InSequence, Remaining, Agreed}
 use Rattle.load.proofs.Exact.Fits.{PlacedAt, Timely, Fits}
 use Rattle.load.proofs.Exact.Formed.{formed-says}
-use Rattle.load.proofs.Exact.Holds.{Holding, value-says, point-says, deployment-says, holds-as, kind-of-value, shape-of-deployment, shape-of-point, point-free, deployment-reacted, deployment-open, deployment-ready}
+use Rattle.load.proofs.Exact.Holds.{Holding, value-says, cell-says, point-says, deployment-says, holds-as, kind-of-value, kind-of-cell, shape-of-deployment, shape-of-point, cell-free, point-free, deployment-reacted, deployment-open, deployment-ready}
 
 nothing-asked : (_≡_ {A = ℕ} 0 0) ↔ Unit {0}
 nothing-asked = ((λ e. tt), (λ u. refl))
@@ -54,6 +54,9 @@ remaining-says (consume x b) = says-true
 remaining-says (sink x a) = says-true
 remaining-says (allocPoly a b) = says-true
 remaining-says (primitive x a b c) = says-not says-eq
+remaining-says (cell x v) = says-true
+remaining-says (fetch b) = says-true
+remaining-says (keep a b) = says-true
 remaining-says none = says-true
 
 -- a primitive's kinds, an operand's kind being known where it is taken
@@ -88,6 +91,9 @@ module _ {p : List ℕ} {r k : ℕ} {s : Scan} (g : Holding p r k s) where
   located-says (allocPoly a b) = says-and (value-says g a) (point-says g b)
   located-says (primitive x a b c) =
       Iff·trans (says-and (value-says g a) (says-and (says-or says-lt (value-says g b)) (says-or says-lt (value-says g c)))) flat
+  located-says (cell x v) = says-true
+  located-says (fetch b) = cell-says g b
+  located-says (keep a b) = says-and (value-says g a) (cell-says g b)
   located-says none = says-true
 
   pub agreed-says : (c : Cmd) → PlacedAt p r k c → Says (agreed p r s c) (Agreed p r c)
@@ -111,6 +117,11 @@ module _ {p : List ℕ} {r k : ℕ} {s : Scan} (g : Holding p r k s) where
   agreed-says (primitive x a b c) h =
       kinds-say (rowOf x .takes) _ _ _ _ _ _ (kind-of-value g a (h .0))
       (⊎-map (λ q. q) (kind-of-value g b) (h .1)) (⊎-map (λ q. q) (kind-of-value g c) (h .2))
+  agreed-says (cell x v) h = says-true
+  agreed-says (fetch b) h = says-true
+  agreed-says (keep a b) h =
+      subst₂ (λ j m. Says (agreed p r s (keep a b)) (j ≡ m))
+      (kind-of-value g a (h .0)) (kind-of-cell g b (h .1)) says-eq
   agreed-says none h = says-true
 
   pub sink-open : (x : ℕ) → x < sinks p r → (standingAt s (sinkLoc p r x) ≡ unsetSink) ↔ Never p r (Sets p r x) k
@@ -142,6 +153,9 @@ module _ {p : List ℕ} {r k : ℕ} {s : Scan} (g : Holding p r k s) where
     disorder-says (sink x v) h a = asks 5 (Iff·trans says-eq (sink-open x (a .0)))
     disorder-says (allocPoly v b) h a = asks 19 (Iff·trans says-eq (point-free g b (h .1)))
     disorder-says (primitive x d b c) h a = nothing-asked
+    disorder-says (cell x v) h a = nothing-asked
+    disorder-says (fetch b) h a = nothing-asked
+    disorder-says (keep v b) h a = asks 19 (Iff·trans says-eq (cell-free g b (h .1)))
     disorder-says none h a = nothing-asked
 
     fits-exact : (refusalOf p r s (bytesOf p r k) (cmdOf p r k) ≡ 0) ↔ Fits p r k (cmdOf p r k)

@@ -1,45 +1,51 @@
 -- One turn of an accepted program on a sound image, for any readings and sink space: every state of its walk has the
 -- invariant (`holds`); at each point the topmost has its depth (`topmost`), and the next command can be carried out
--- (`carried`) and reads well (`values`); the walk ends, as the recursive run does (`walk-ends`); a step stops at an
--- allocation that is too deep or has no room, and only there (`stops`, `stops-deep`, `stops-full`); as main leaves, its
--- sinks are noted (`written`) and the image is whole (`whole`); the used words grow by what is allocated (`made`).
+-- (`carried`) and reads well (`values`), a Fetch what its cell held as the turn began (`fetched`); deployments stay
+-- (`onward-from`, `inner`); the walk ends, as the recursive run does (`walk-ends`); a step stops at an allocation that
+-- is too deep or has no room, and only there (`stops`, `stops-deep`, `stops-full`); as main leaves, its sinks are noted
+-- (`written`), what was kept waits (`keepable-end`) and the image is whole (`whole`); the used words grow by what is
+-- allocated (`made`).
 use Prim.Native.Nat.{ℕ, _+_, _-_, _≤_, _<_}
 use mathlib.Core.Path.{_≡_, refl, sym, _∙_, ap, subst}
 use mathlib.Core.List.{List, [], _∷_}
 use mathlib.Core.Logic.{_⊎_, inl, inr, _≢_}
 use native.Mathlib.Omega.{arith}
 use lib.ListN.{length}
+use Rattle.value.specs.declared.Value.{Value}
 use Rattle.program.specs.Bytes.{mainOf, commandsIn}
-use Rattle.program.specs.Command.{Cmd}
-use Rattle.program.specs.Location.{sinks, sinkLoc, sizeOf}
+use Rattle.program.specs.Command.{Cmd, sequenceOf, fetch}
+use Rattle.program.specs.Location.{sinks, sinkLoc, sizeOf, HasSlot}
+use Rattle.program.proofs.Slots.{slot-D}
 use Rattle.load.specs.Rules.{Rules}
 use Rattle.load.specs.declared.Refusal.{Refusal}
 use Rattle.load.specs.declared.Refusal.the-variants.{NoRoom, TooDeep}
-use Rattle.image.specs.Memory.{mostDepth, mainAt, used, turns, reactor}
-use Rattle.image.specs.Sound.{Tiles, Depth, Sound}
+use Rattle.image.specs.Memory.{mostDepth, mainAt, used, turns, reactor, valueAt}
+use Rattle.image.specs.Sound.{Tiles, Deployed, Depth, Sound}
 use Rattle.image.specs.Whole.{Whole}
+use Rattle.image.proofs.Memory.Tiles.{in-reactor}
+use Rattle.image.proofs.Memory.Changes.{Same, same-value}
 use Rattle.remus.specs.Run.{Ran, ran, stopped, mainRun}
 use Rattle.remus.specs.Turn.{fine, askedOf}
 use Rattle.remus.specs.Walk.{Note, location, Frame, State, Next, go, stop, over, step, Reach, stay, on, begun, Input}
-use Rattle.remus.specs.Point.{_∈_, Within, Can, ReadsWell, Allocation, Makes, Made, stay as none-made}
-use Rattle.remus.specs.Point.{on as and-made}
-use Rattle.remus.specs.Claim.{During, Point, Allocates, Leaves}
-use Rattle.remus.proofs.Walk.Facts.{Facts, facts}
-use Rattle.remus.proofs.Walk.Story.{cmd}
-use Rattle.remus.proofs.Walk.Pile.{frame, state, Inv, height-bound}
-use Rattle.remus.proofs.Walk.Top.{top-frame, lower-heights}
+use Rattle.remus.specs.Point.{_∈_, Within, Can, ReadsWell, Allocation, Makes, Made, stay as none-made, on as and-made}
+use Rattle.remus.specs.Claim.{During, Point, Allocates, Leaves, CellIn, Begins}
+use Rattle.remus.proofs.Walk.Facts.{R-late, Facts, facts}
+use Rattle.remus.proofs.Walk.Story.{cmd, Keepable}
+use Rattle.remus.proofs.Walk.Pile.{frame, state, first as top-open, Behind, Inv, height-bound}
+use Rattle.remus.proofs.Walk.Top.{Onward, onward-on, top-frame, lower-heights}
+use Rattle.remus.proofs.Walk.Past.{cell-moved, CellOf, its-cell, Past, recalled, past-on}
 use Rattle.remus.proofs.Walk.Moves.{ready-kept}
 use Rattle.remus.proofs.Walk.Outcome.{Stopping, deep, full}
 use Rattle.remus.proofs.Walk.Walking.{Legal, Stops, Comes, same-point, one-allocation, step-outcome}
 use Rattle.remus.proofs.Walk.Readings.{globals-legal}
 use Rattle.remus.proofs.Walk.Begin as Begin
-use Rattle.remus.proofs.Walk.End.{sinks-noted, whole-end}
+use Rattle.remus.proofs.Walk.End.{sinks-noted, keepable, whole-end}
 use Rattle.remus.proofs.Walk.Points.{within, can-here, reads-here}
 use Rattle.remus.proofs.Walk.Meets.{Meets, reached, run-meets}
 
 -- p the program, w the words before the turn, t what it brings
 module _ (p : List ℕ) (rules : Rules p) (w : List ℕ) (few : length w ≤ 16384) (sound : Sound p w) (t : Input) where
-  known : Facts p
+  pub known : Facts p
   known = facts p rules
 
   -- ---- the invariant
@@ -55,7 +61,7 @@ module _ (p : List ℕ) (rules : Rules p) (w : List ℕ) (few : length w ≤ 163
     step-comes s v = step-outcome p known (t .readings) legal s v
 
     pub step-keeps : {s s′ : State} → Inv p w s → step p (t .readings) s ≡ go s′ → Inv p w s′
-    step-keeps {s} {s′} v e = let c : Comes p w s (go s′) = rw e at (step-comes s v) in c .0
+    step-keeps {s} {s′} v e = let c : Comes p w s (go s′) = rw e at (step-comes s v) in c .inv
 
   pub holds : {s : State} → During p w t s → Inv p w s
   holds d = reached p (t .readings) known (legal (d .allowed)) begun-holds (d .comes) .0
@@ -65,6 +71,22 @@ module _ (p : List ℕ) (rules : Rules p) (w : List ℕ) (few : length w ≤ 163
 
   pub same-clock : (s : State) → During p w t s → turns (s .words) ≡ turns w
   same-clock s d = holds d .clock
+
+  -- ---- what the states remember
+
+  pub onward-from : {s : State} → During p w t s → Onward p w (s .words)
+  unfolding begun
+  onward-from d = reached p (t .readings) known (legal (d .allowed)) begun-holds (d .comes) .1
+
+  pub past : {s : State} → During p w t s → Past p w t s
+  past d = by (d .comes)
+    where
+      by : {x : State} → Reach p (t .readings) (begun p w) x → Past p w t x
+      by stay = Begin.begun-past p known w sound t
+      by (on {t = y} {u = z} r e) =
+          let g : During p w t y = record { allowed = d .allowed; comes = r } in
+          let c : Comes p w y (go z) = rw e at (step-comes (d .allowed) y (holds g)) in
+          past-on p w t known (Begin.two p known w sound) y z g (holds g) (onward-from g) (c .onward) (c .passed) (by r)
 
   -- ---- points
 
@@ -77,12 +99,21 @@ module _ (p : List ℕ) (rules : Rules p) (w : List ℕ) (few : length w ≤ 163
     is : cmd p m o index ≡ c
     height : length lower + 1 ≡ h
 
+  -- the invariant with the topmost in sight, which is not at its end
+  top-inv : {s : State} {m : List ℕ} {o : ℕ} {c : Cmd} (q : Point p w t s m o c)
+      → Inv p w (state (s .words) (frame o (q .before .index) ∷ q .before .lower) (s .notes))
+  top-inv {s} q =
+      subst (λ (fs : List Frame). Inv p w (state (s .words) fs (s .notes))) (q .before .top) (holds (q .during))
+
+  top-less : {s : State} {m : List ℕ} {o : ℕ} {c : Cmd} (q : Point p w t s m o c)
+      → q .before .index < commandsIn p (reactor (s .words) o)
+  top-less q = omega (arith, top-frame p (top-inv q) .bound, q .before .goes-on)
+
   at : (s : State) (m : List ℕ) (o : ℕ) (c : Cmd) → Point p w t s m o c → At m o c (s .notes) (length (s .pile))
   at s m o c q =
       let b = q .before in
-      let v = subst (λ (fs : List Frame). Inv p w (state (s .words) fs (s .notes))) (b .top) (holds (q .during)) in
-      let less : b .index < commandsIn p (reactor (s .words) o) = omega (arith, top-frame p v .bound, b .goes-on) in
-      let r = ready-kept p known v less in
+      let less = top-less q in
+      let r = ready-kept p known (top-inv q) less in
       subst (λ (x : List ℕ). At x o c (s .notes) (length (s .pile))) (b .wiring)
       (record {
         index = b .index;
@@ -112,9 +143,36 @@ module _ (p : List ℕ) (rules : Rules p) (w : List ℕ) (few : length w ≤ 163
   values s m o c q =
       let a = at s m o c q in reads-here p known (a .inv) (a .less) (t .readings) (legal (q .during .allowed)) c (a .is)
 
+  -- a Fetch reads what its cell held as the turn began
+  pub fetched : (s : State) (m : List ℕ) (o b : ℕ) (v : Value) → Point p w t s m o (fetch b) → CellIn p m o b v
+      → Begins p w o b v (valueAt p m o b)
+  unfolding sequenceOf
+  fetched s m o b v q c =
+      let k = q .before in
+      let n = top-inv q in
+      let r = ready-kept p known n (top-less q) in
+      let i = top-frame p n .deployed in
+      let z = subst (λ (x : List ℕ). reactor x o ≡ reactor (s .words) o) (k .wiring) (r .same) in
+      let f : CellOf p (s .words) o b v = its-cell known (n .story .good .tiles) (cell-moved c i (sym z)) in
+      let st = known .static (reactor (s .words) o) (in-reactor p (n .story .good .tiles) i) .0 in
+      let late = R-late st (k .index) (k .is) refl in
+      let behind = subst (λ (fs : List Frame). Behind p (s .words) fs (s .notes) o (f .index)) (sym (k .top))
+      (inl (k .index, top-open refl refl, omega (arith, late, f .is .low))) in
+      let has-slot = subst (HasSlot p (reactor (s .words) o)) (sym (f .place)) (slot-D p _ (f .index) (f .is .low)) in
+      let same = subst (λ (x : List ℕ). Same p (s .words) x o b) (k .wiring) (r .slots o b i has-slot) in
+      subst (Begins p w o b v) (sym (same-value p o b same)) (recalled p w t (past (q .during)) f (inl behind))
+
+  -- deployments of the turn's beginning are there at each point, and so is the topmost
+  pub inner : (s : State) (m : List ℕ) (o : ℕ) (c : Cmd) → Point p w t s m o c → Onward p w m × Deployed p m o
+  inner s m o c q =
+      let n = top-inv q in
+      let r = ready-kept p known n (top-less q) in
+      subst (λ (x : List ℕ). Onward p w x × Deployed p x o) (q .before .wiring)
+      (onward-on (onward-from (q .during)) (r .on-from), r .on-from .kept o (top-frame p n .deployed))
+
   -- ---- main leaves
 
-  left : {s : State} → Leaves p w t s → Inv p w (state (s .words) [] (s .notes))
+  pub left : {s : State} → Leaves p w t s → Inv p w (state (s .words) [] (s .notes))
   left {s} l = subst (λ (fs : List Frame). Inv p w (state (s .words) fs (s .notes))) (l .empty) (holds (l .during))
 
   pub written : (s : State) → Leaves p w t s → (x : ℕ) → x < sinks p (mainOf p) → location mainAt (sinkLoc p (mainOf p) x) ∈ s .notes
@@ -122,6 +180,9 @@ module _ (p : List ℕ) (rules : Rules p) (w : List ℕ) (few : length w ≤ 163
 
   pub whole : (s : State) → Leaves p w t s → Whole p (s .words)
   whole s l = whole-end p known (left l)
+
+  pub keepable-end : (s : State) → Leaves p w t s → Keepable p (s .words)
+  keepable-end s l = keepable p known (left l)
 
   -- ---- the walk's end, and the run's
 
@@ -198,7 +259,7 @@ module _ (p : List ℕ) (rules : Rules p) (w : List ℕ) (few : length w ≤ 163
       same k (full q′ b n l) (inr z) = ap NoRoom (same-one k q′ b) ∙ sym (z .0)
 
       by : (n : Next) → step p (t .readings) (a .state) ≡ n → Comes p w (a .state) n → step p (t .readings) (a .state) ≡ stop v
-      by (go s) e c = absurd (roomy (c .3 m (a .owner) q (a .command) (a .point .before) (a .is)) r)
+      by (go s) e c = absurd (roomy (c .roomy m (a .owner) q (a .command) (a .point .before) (a .is)) r)
       by (stop y) e c = e ∙ ap stop (same c (c .why) r)
       by (over s) e c = let f = a .point .before .top in let z : _≡_ {A = ℕ} 0 1 = cc in absurd (omega arith)
 
@@ -217,7 +278,7 @@ module _ (p : List ℕ) (rules : Rules p) (w : List ℕ) (few : length w ≤ 163
     where
       by : {x : State} → Reach p (t .readings) (begun p w) x → (k : ℕ) × Made p (t .readings) (begun p w) x k × (used (x .words) ≡ used w + k)
       by stay = (0, none-made, omega arith)
-      by (on {t = y} {u = z} r e) = more (by r) (c .2 .0) (c .2 .1) (c .2 .2)
+      by (on {t = y} {u = z} r e) = more (by r) (c .made .0) (c .made .1) (c .made .2)
         where
           c : Comes p w y (go z)
           c = rw e at (step-comes (d .allowed) y (holds (record { allowed = d .allowed; comes = r })))

@@ -1,22 +1,46 @@
--- As main leaves: its sinks are all noted, every deployment is wired, and the image is whole.
+-- As main leaves: its sinks are all noted, every deployment is wired, what was kept waits in the Keeps' slots
+-- (`keepable`), and the image is whole.
 use Prim.Native.Nat.{ℕ, _<_}
 use mathlib.Core.Path.{_≡_, refl}
-use mathlib.Core.List.{List, []}
+use mathlib.Core.List.{List, [], _∷_}
 use mathlib.Core.Logic.{_⊎_, inl, inr, _≢_}
+use Rattle.value.specs.Value.{blank}
+use Rattle.value.proofs.Tests.{same?}
 use Rattle.program.specs.Bytes.{mainOf, shapeOf, declared, commandsIn}
-use Rattle.program.specs.Command.{Cmd, cmdOf, allocMono, makePoly, constant, global, supply, react, consume, sink, allocPoly, primitive, none}
+use Rattle.program.specs.Command.{Cmd, cmdOf, allocMono, makePoly, constant, global, supply, react, consume, sink, allocPoly, primitive, cell, fetch, keep, none}
 use Rattle.program.specs.Location.{sinks, commandLoc, sinkLoc, shapeThere}
 use Rattle.load.proofs.Exact.Static.{DeploymentBefore, mono, poly}
-use Rattle.image.specs.Memory.{mainAt, reactor, wired, content}
-use Rattle.image.specs.Sound.{Deployed, MonoSlot, PointSlot, NamedOnce, Depth, top, child}
+use Rattle.image.specs.Memory.{mainAt, reactor, wired, content, valueAt}
+use Rattle.image.specs.Sound.{Deployed, MonoSlot, PointSlot, CellSlot, NamedOnce, Depth, top, child}
 use Rattle.image.specs.Whole.{Whole}
 use Rattle.image.proofs.Memory.Tiles.{in-reactor}
 use Rattle.image.proofs.Memory.Slots.{Right}
 use Rattle.remus.specs.Walk.{Note, location, run}
-use Rattle.remus.specs.Point.{_∈_}
+use Rattle.remus.specs.Point.{_∈_, first, later}
 use Rattle.remus.proofs.Walk.Facts.{Facts}
-use Rattle.remus.proofs.Walk.Story.{Deploys, own, cmd, Done, Cause, Making}
+use Rattle.remus.proofs.Walk.Story.{Deploys, own, cmd, Pends, KeepAt, Keepable, Done, Cause, Making}
 use Rattle.remus.proofs.Walk.Pile.{state, none-open, Entered, Behind, Inv}
+use Rattle.remus.proofs.Walk.Moves.{run-out}
+use Rattle.remus.proofs.Walk.Stores.{run-past}
+
+-- whether d has run
+pub ran? : (d : ℕ) (ns : List Note) → (run d ∈ ns) ⊎ (run d ∈ ns → ⊥)
+ran? d [] = inr (elim [ ])
+ran? d (location e l ∷ ns) = by (ran? d ns)
+  where
+    by : (run d ∈ ns) ⊎ (run d ∈ ns → ⊥) → (run d ∈ (location e l ∷ ns)) ⊎ (run d ∈ (location e l ∷ ns) → ⊥)
+    by (inl r) = inl (later r)
+    by (inr n) = inr (λ r. n (run-past r))
+ran? d (run e ∷ ns) = by (same? d e) (ran? d ns)
+  where
+    by : (d ≡ e) ⊎ (d ≢ e) → (run d ∈ ns) ⊎ (run d ∈ ns → ⊥) → (run d ∈ (run e ∷ ns)) ⊎ (run d ∈ (run e ∷ ns) → ⊥)
+    by (inl q) r = inl (rw q first)
+    by (inr q) (inl r) = inl (later r)
+    by (inr q) (inr n) = inr (λ r. out (run-out r))
+      where
+        out : (d ≡ e) ⊎ (run d ∈ ns) → ⊥
+        out (inl z) = q z
+        out (inr z) = n z
 
 module _ (p : List ℕ) (u : Facts p) {w m : List ℕ} {ns : List Note} (v : Inv p w (state m [] ns)) where
   -- with no pile, what was entered has run
@@ -24,7 +48,7 @@ module _ (p : List ℕ) (u : Facts p) {w m : List ℕ} {ns : List Note} (v : Inv
   has-run d (inl b) = absurd (none-open (b .1))
   has-run d (inr b) = b
 
-  owner-run : (o j : ℕ) → Behind p m [] ns o j → run o ∈ ns
+  pub owner-run : (o j : ℕ) → Behind p m [] ns o j → run o ∈ ns
   owner-run o j (inl b) = absurd (none-open (b .1))
   owner-run o j (inr b) = b .0
 
@@ -51,6 +75,9 @@ module _ (p : List ℕ) (u : Facts p) {w m : List ℕ} {ns : List Note} (v : Inv
   deploys-before r j (sink x a) h e d = absurd d
   deploys-before r j (allocPoly a b) h e d = (shapeThere p r b, poly j a b h refl e refl)
   deploys-before r j (primitive x a b c) h e d = absurd d
+  deploys-before r j (cell x v) h e d = absurd d
+  deploys-before r j (fetch b) h e d = absurd d
+  deploys-before r j (keep a b) h e d = absurd d
   deploys-before r j none h e d = absurd d
 
   -- what a command that has run made has run itself
@@ -68,7 +95,7 @@ module _ (p : List ℕ) (u : Facts p) {w m : List ℕ} {ns : List Note} (v : Inv
       let k : content p m o (commandLoc p r (c .command)) ≡ d = rw e at (c .names) in
       has-run d (rw k at g)
 
-  all-wired : (d : ℕ) → Deployed p m d → wired m d ≡ 1
+  pub all-wired : (d : ℕ) → Deployed p m d → wired m d ≡ 1
   all-wired d t = by (v .story .two d t)
     where
       born : (d ≡ mainAt) ⊎ Cause p m (Behind p m [] ns) (Making p) d → run d ∈ ns
@@ -89,6 +116,20 @@ module _ (p : List ℕ) (u : Facts p) {w m : List ℕ} {ns : List Note} (v : Inv
       by t f top = absurd (f refl)
       by {e} t f (child {o = o} j a h) = record { owner = o; command = j; named = a; only = λ o′ j′ b. v .story .one-owner o′ j′ o j e t b a }
 
+  -- what a Keep of a deployment that has run kept waits in its slot
+  pub waits : (o j a b : ℕ) → KeepAt p m o j a b → run o ∈ ns → Pends p m o (own p m o j) b
+  waits o j a b k r =
+      let d = v .story .done o j (inr (r, k .inside)) in
+      let e : Done p m ns (Entered [] ns) o (own p m o j) (keep a b) = rw (k .is) at d in
+      e
+
+  pub keepable : Keepable p m
+  keepable o j a b k = by (ran? o ns)
+    where
+      by : (run o ∈ ns) ⊎ (run o ∈ ns → ⊥) → (valueAt p m o (own p m o j) ≡ blank) ⊎ Pends p m o (own p m o j) b
+      by (inl r) = inr (waits o j a b k r)
+      by (inr n) = inl (v .story .idle o j a b k (λ z. n (owner-run o j z)))
+
   pub whole-end : Whole p m
   whole-end =
       record {
@@ -102,6 +143,7 @@ module _ (p : List ℕ) (u : Facts p) {w m : List ℕ} {ns : List Note} (v : Inv
           all-wired = all-wired;
           monos = λ o j x t h e. let r : MonoSlot p m o (own p m o j) x = rw e at (slot o j t h) in r;
           points = λ o j x t h e. let r : PointSlot p m o (own p m o j) x = rw e at (slot o j t h) in r;
+          cells = λ o j x a t h e. let r : CellSlot p m o (own p m o j) x = rw e at (slot o j t h) in r;
           named = named;
           depth = v .story .depth;
         };

@@ -1,14 +1,29 @@
 -- What the rules give of each reactor, as the walk's proofs use it.
-use Prim.Native.Nat.{ℕ, _<_}
+use Prim.Native.Nat.{ℕ, _≤_, _<_}
 use mathlib.Core.Path.{_≡_}
+use mathlib.Core.Logic.{_⊎_, inl, inr}
 use mathlib.Core.List.{List}
 use native.Mathlib.Omega.{arith}
+use Rattle.value.proofs.Tests.{below}
 use Rattle.program.specs.Bytes.{reactors, mainOf, declared, commandsIn}
+use Rattle.program.specs.Command.{Cmd, cmdOf, sequenceOf, D, R}
 use Rattle.program.specs.Location.{sources}
 use Rattle.load.specs.Rules.{Rules}
 use Rattle.load.proofs.Exact.Static.{Static, Single}
 use Rattle.load.proofs.Exact.Deduced.{all-static}
 use Rattle.load.proofs.Exact.Bounds.{main-last}
+
+-- an R command stands past D
+pub R-late : {p : List ℕ} {r : ℕ} → Static p r → (i : ℕ) {c : Cmd} → cmdOf p r i ≡ c → sequenceOf c ≡ R
+    → declared p r ≤ i
+R-late {p} {r} s i {c} e q = by (below i (declared p r))
+  where
+    by : (i < declared p r) ⊎ (declared p r ≤ i) → declared p r ≤ i
+    by (inr l) = l
+    by (inl l) =
+        let y : sequenceOf c ≡ D = rw e at (s .in-D i l) in
+        let k : _≡_ {A = ℕ} 0 1 = cc in
+        absurd (omega arith)
 
 pub record Facts (p : List ℕ) : Type 0 where
   pub static : (r : ℕ) → r < reactors p → Static p r × Single p r

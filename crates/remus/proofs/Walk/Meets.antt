@@ -16,7 +16,7 @@ use Rattle.remus.specs.Run.{Ran, ran, stopped, andThen, entered, command
 use Rattle.remus.specs.Walk.{Note, run, Frame, State, go, stop, notesOf, onto, stepAt, stepOn, step, Reach, stay, on}
 use Rattle.remus.proofs.Walk.Facts.{Facts}
 use Rattle.remus.proofs.Walk.Pile.{frame, state, Inv, height-bound}
-use Rattle.remus.proofs.Walk.Top.{Onward, top-frame}
+use Rattle.remus.proofs.Walk.Top.{Onward, onward-self, onward-on, top-frame}
 use Rattle.remus.proofs.Walk.Walking.{Legal, Comes, step-outcome}
 
 module _ (p rd : List ℕ) where
@@ -46,19 +46,14 @@ module _ (p rd : List ℕ) where
 
   module _ (u : Facts p) (legal : Legal p rd) {w : List ℕ} where
     pub kept : {s t : State} → Inv p w s → step p rd s ≡ go t → Inv p w t × Onward p (s .words) (t .words)
-    kept {s} {t} v e = let c : Comes p w s (go t) = rw e at (step-outcome p u rd legal s v) in (c .0, c .1)
+    kept {s} {t} v e = let c : Comes p w s (go t) = rw e at (step-outcome p u rd legal s v) in (c .inv, c .onward)
 
     pub reached : {s t : State} → Inv p w s → Reach p rd s t → Inv p w t × Onward p (s .words) (t .words)
-    reached v stay = (v, record { kept = λ d k. k; reactors = λ d k. refl })
+    reached v stay = (v, onward-self)
     reached v (on a e) =
         let f = reached v a in
-        let g = kept (f .0) e in (
-          g .0,
-          record {
-            kept = λ d k. g .1 .kept d (f .1 .kept d k);
-            reactors = λ d k. g .1 .reactors d (f .1 .kept d k) ∙ f .1 .reactors d k;
-          },
-        )
+        let g = kept (f .0) e in
+        (g .0, onward-on (f .1) (g .1))
 
     module _ (enter : List ℕ → ℕ → Ran) (o : ℕ) (fs : List Frame)
         (nested : (m : List ℕ) (d i : ℕ) (ns : List Note) → Inv p w (state m (frame d (opening p m d) ∷ frame o i ∷ fs) ns) →

@@ -3,7 +3,7 @@
 use Prim.Native.Nat.{ℕ, suc, _+_, _≤_, _<_}
 use mathlib.Core.Path.{_≡_, refl, sym, _∙_, subst}
 use mathlib.Core.List.{List, _∷_}
-use mathlib.Core.Logic.{_⊎_, inl, inr, _≢_}
+use mathlib.Core.Logic.{_⊎_, inl, inr, _≢_, ⊎-map}
 use native.Mathlib.Omega.{arith}
 use lib.ListN.{length}
 use Rattle.value.specs.Test.{_=?_}
@@ -11,21 +11,22 @@ use Rattle.value.specs.Value.{deploymentMark}
 use Rattle.value.proofs.Tests.{cases, eq!, eq×, eq?, eq×?, yes, no, same?}
 use Rattle.program.specs.Bytes.{reactors, declared, commandsIn}
 use Rattle.program.specs.Command.{react}
-use Rattle.program.specs.Location.{sources}
+use Rattle.program.specs.Location.{sources, HasSlot}
 use Rattle.image.specs.Memory.{mainAt, used, reactor, wired, mark, content, withWired}
 use Rattle.image.specs.Sound.{Deployed, Owner, Depth, child}
 use Rattle.image.proofs.Memory.Tiles.{in-reactor}
 use Rattle.image.proofs.Memory.Each.{in-below}
-use Rattle.image.proofs.Memory.Changes.{Wired, Change, This-slot, No-slot, Nothing, unwired, unchanged, wiring}
+use Rattle.image.proofs.Memory.Changes.{Same, same-self, Wired, Change, This-slot, No-slot, Nothing, unwritten, unwired, unchanged, wiring}
 use Rattle.image.proofs.Memory.Slots.{Right, depth-forth}
 use Rattle.remus.specs.Exec.{opening, ready}
 use Rattle.remus.specs.Walk.{Note, location, run, Frame}
 use Rattle.remus.specs.Point.{_∈_, first, later}
+use Rattle.remus.proofs.Walk.Sides.{or-none}
 use Rattle.remus.proofs.Walk.Facts.{Facts}
 use Rattle.remus.proofs.Walk.Story.{own, cmd, Done}
 use Rattle.remus.proofs.Walk.Keep.{owner-forth, story-kept}
 use Rattle.remus.proofs.Walk.Pile.{frame, state, Open, first as top, later as under, Falling, ground, on, falls, Entered, Behind, Between, behind-lower, stack, heights-forth, FrameOk, Piled, Inv, not-zero}
-use Rattle.remus.proofs.Walk.Top.{Onward, onward, done-right, right-done, behind-on, behind-off, lower-falls, lower-heights, top-frame, top-only, opens-off, next-entered}
+use Rattle.remus.proofs.Walk.Top.{Onward, onward-self, onward, done-right, right-done, behind-on, behind-off, lower-falls, lower-heights, top-frame, top-only, opens-off, next-entered}
 use Rattle.remus.proofs.Walk.Step.{Opens, calm}
 
 pub location-out : {d l o : ℕ} {ns : List Note} → location d l ∈ (run o ∷ ns) → location d l ∈ ns
@@ -38,6 +39,10 @@ run-out (later z) = inr z
 higher : {u h : ℕ} {fs : List Frame} → u ≤ h → Falling u fs → Falling h fs
 higher l ground = ground
 higher {h = h} l (on {f = f} k z) = on {u = h} {f = f} (omega arith) z
+
+-- how d is wired in the words m₁ before command i of o: as in m, or just now, the command being the first of R
+abbrev pub NowWired : List ℕ → List ℕ → List ℕ → ℕ → ℕ → ℕ → Type 0
+NowWired p m m₁ o i d = (wired m₁ d ≡ wired m d) ⊎ ((d ≡ o) × (i ≡ declared p (reactor m o)) × (wired m₁ d ≡ 1))
 
 module _ (p : List ℕ) where
   pub opening-raw : (m : List ℕ) (d : ℕ) → wired m d ≡ 0 → opening p m d ≡ 0
@@ -304,6 +309,9 @@ module _ (p : List ℕ) where
         pub size : used m₁ ≡ used m
         pub on-from : Onward p m m₁
         pub wired-then : declared p (reactor m₁ o) ≤ i → wired m₁ o ≡ 1
+        pub slots : (d l : ℕ) → Deployed p m d → HasSlot p (reactor m d) l → Same p m m₁ d l
+        pub wireds : (d : ℕ) → Deployed p m d → NowWired p m m₁ o i d
+        pub back : (d : ℕ) → Deployed p m₁ d → Deployed p m d
 
       pub ready-kept : i < commandsIn p (reactor m o) → Ready (ready p m o i)
       unfolding ready
@@ -318,8 +326,11 @@ module _ (p : List ℕ) where
                 inv = v;
                 same = refl;
                 size = refl;
-                on-from = record { kept = λ d t. t; reactors = λ d t. refl };
+                on-from = onward-self;
                 wired-then = λ l. top-frame p v .wired-past (omega arith);
+                slots = λ d l t h. same-self p;
+                wireds = λ d t. inl refl;
+                back = λ d t. t;
               }
 
           wired-now : i ≡ declared p (reactor m o) → Ready (withWired m o 1)
@@ -342,6 +353,9 @@ module _ (p : List ℕ) where
                 size = wd .same;
                 on-from = onward p ch;
                 wired-then = λ l. wd .wired-here;
+                slots = λ d l t h. unwritten p ch d l t h (λ z. z);
+                wireds = λ d t. ⊎-map (λ z. z) (λ z. (z, e, rw z (wd .wired-here))) (ch .wireds d t);
+                back = λ d t. or-none (ch .back d t);
               }
             where
               m₁ : List ℕ

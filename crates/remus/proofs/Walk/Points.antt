@@ -9,22 +9,22 @@ use Rattle.value.specs.Value.{deploymentMark}
 use Rattle.value.specs.Primitive.{operands}
 use Rattle.value.proofs.Tests.{eq?}
 use Rattle.program.specs.Bytes.{globals, commandsIn}
-use Rattle.program.specs.Command.{Cmd, allocMono, makePoly, constant, global, supply, react, consume, sink, allocPoly, primitive, none}
+use Rattle.program.specs.Command.{Cmd, allocMono, makePoly, constant, global, supply, react, consume, sink, allocPoly, primitive, cell, fetch, keep, none}
 use Rattle.program.specs.Location.{sources, sinks, cmdAt}
 use Rattle.program.specs.Kind.{kindOf, OfKind}
-use Rattle.load.proofs.Exact.Static.{ValueBefore, DeploymentBefore, mono, poly}
+use Rattle.load.proofs.Exact.Static.{ValueBefore, DeploymentBefore, mono, poly, CellBefore, cell-command}
 use Rattle.load.proofs.Exact.Places.{cmd-there}
 use Rattle.image.specs.Memory.{reactor, mark, content, valueAt}
 use Rattle.image.specs.Sound.{Deployed, MonoSlot}
 use Rattle.image.proofs.Memory.Tiles.{in-fits, in-reactor}
 use Rattle.remus.specs.Exec.{there}
 use Rattle.remus.specs.Walk.{Note, location, Frame}
-use Rattle.remus.specs.Point.{_∈_, Within, Operand, left-blank, of-mono, of-point, Can, Reads, supplied, sunk, operator, taken, operand-1, operand-2, operand-3, ReadsWell}
+use Rattle.remus.specs.Point.{_∈_, Within, Operand, left-blank, of-mono, of-point, Cell, Can, Reads, supplied, sunk, operator, taken, set-aside, operand-1, operand-2, operand-3, ReadsWell}
 use Rattle.remus.proofs.Walk.Facts.{Facts}
 use Rattle.remus.proofs.Walk.Story.{own, cmd, Chosen, Done}
 use Rattle.remus.proofs.Walk.Pile.{frame, state, Entered, Inv}
 use Rattle.remus.proofs.Walk.Top.{top-frame, behind-less}
-use Rattle.remus.proofs.Walk.Operands.{point-shape, static-here, value-noted, value-kind, target-here, point-here, supply-fresh, react-fresh, sink-fresh, react-given, consume-run, ran-noted, ran-kind, some-command}
+use Rattle.remus.proofs.Walk.Operands.{point-shape, static-here, value-noted, value-kind, target-here, point-here, cell-here, keep-fresh, supply-fresh, react-fresh, sink-fresh, react-given, consume-run, ran-noted, ran-kind, some-command}
 use Rattle.remus.proofs.Walk.Walking.{Legal}
 
 module _ (p : List ℕ) (u : Facts p) {w m : List ℕ} {ns : List Note} {o i : ℕ} {fs : List Frame}
@@ -56,6 +56,9 @@ module _ (p : List ℕ) (u : Facts p) {w m : List ℕ} {ns : List Note} {o i : �
           let t = target-here p u v h k (own p m o j) (poly j a y l refl q z) (f .0) in
           of-point a y (command-at j l q) (f .0) (within (t .deployed)) (t .shape ∙ sym z)
 
+  cell-operand : (k b : ℕ) → CellBefore p (reactor m o) i k b → Cell p m ns o b
+  cell-operand k b c = (k, c .bits, cell-command p (reactor m o) c (omega arith), cell-here p u v h k b c)
+
   pub can-here : (c : Cmd) → cmd p m o i ≡ c → Can p m ns o c
   unfolding sources sinks
   can-here (allocMono x) e = tt
@@ -86,6 +89,11 @@ module _ (p : List ℕ) (u : Facts p) {w m : List ℕ} {ns : List Note} {o i : �
   can-here (allocPoly a b) e =
       let f = static-here p u v h .polys i a b h e .1 in rw (point-shape p (reactor m o) i (f .0) b (omega arith) (f .1)) (point-here p u v h (f .0) b (f .1))
   can-here (primitive x a b c) e = static-here p u v h .primitives i x a b c h e .0
+  can-here (cell x a) e = tt
+  can-here (fetch b) e = cell-operand _ b (static-here p u v h .fetches i b h e .0)
+  can-here (keep a b) e =
+      let f = static-here p u v h .keeps i a b h e in
+      (cell-operand _ b (f .1), keep-fresh p u v h a b _ e (f .1))
   can-here none e = some-command p u v h e
 
   -- ---- what the next command reads
@@ -111,6 +119,7 @@ module _ (p : List ℕ) (u : Facts p) {w m : List ℕ} {ns : List Note} {o i : �
       let r = consume-run p u v h b (f .0) (f .3) (marked b z) t in
       let l : x < sinks p (reactor m (content p m o b)) = rw (t .shape) (f .2) in
       (ran-noted p u v h (content p m o b) x r l, ran-kind p u v h (content p m o b) x r l)
+  read e (set-aside {a} {b}) = value a (static-here p u v h .keeps i a b h e .0)
   read e (operand-1 {x} {a} {b} {c} l) = value a (static-here p u v h .primitives i x a b c h e .1)
   read e (operand-2 {x} {a} {b} {c} l) = taken-value 2 (operands x) b l (static-here p u v h .primitives i x a b c h e .2)
   read e (operand-3 {x} {a} {b} {c} l) = taken-value 3 (operands x) c l (static-here p u v h .primitives i x a b c h e .3)
@@ -121,5 +130,8 @@ module _ (p : List ℕ) (u : Facts p) {w m : List ℕ} {ns : List Note} {o i : �
         noted = λ d l r. read e r .0;
         kinds = λ d l r. read e r .1;
         outside = λ x q. let g = static-here p u v h .globals i x h (e ∙ q) .1 in (g, legal m x g);
+        fetched = λ b q.
+            let f = static-here p u v h .fetches i b h (e ∙ q) in
+            cell-here p u v h (kindOf p (reactor m o) b) b (f .0) .holds;
         inside = λ d l r. let n = v .story .noted d l (read e r .0) in (within (n .deployed), n .has-slot);
       }

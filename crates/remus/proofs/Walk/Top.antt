@@ -1,13 +1,13 @@
 -- The topmost deployment, what is behind and entered before and after its next command, and the step in which no slot is written (`calm`).
 use Prim.Native.Nat.{ℕ, _+_, _≤_, _<_}
-use mathlib.Core.Path.{_≡_, refl, sym}
+use mathlib.Core.Path.{_≡_, refl, sym, _∙_}
 use mathlib.Core.List.{List, _∷_}
 use mathlib.Core.Logic.{_⊎_, inl, inr, _≢_}
 use native.Mathlib.Omega.{arith}
 use lib.ListN.{length}
 use Rattle.value.proofs.Tests.{same?}
 use Rattle.program.specs.Bytes.{reactors}
-use Rattle.program.specs.Command.{Cmd, sequenceOf, D, allocMono, makePoly, constant, global, supply, react, consume, sink, allocPoly, primitive, none}
+use Rattle.program.specs.Command.{Cmd, sequenceOf, D, allocMono, makePoly, constant, global, supply, react, consume, sink, allocPoly, primitive, cell, fetch, keep, none}
 use Rattle.image.specs.Memory.{reactor}
 use Rattle.image.specs.Sound.{Deployed, Depth}
 use Rattle.image.proofs.Memory.Changes.{Change, This-slot}
@@ -21,6 +21,16 @@ use Rattle.remus.proofs.Walk.Pile.{frame, state, Open, first as top, la
 pub record Onward (p m m′ : List ℕ) : Type 0 where
   pub kept : (d : ℕ) → Deployed p m d → Deployed p m′ d
   pub reactors : (d : ℕ) → Deployed p m d → reactor m′ d ≡ reactor m d
+
+pub onward-self : {p m : List ℕ} → Onward p m m
+onward-self = record { kept = λ d t. t; reactors = λ d t. refl }
+
+pub onward-on : {p m m₁ m′ : List ℕ} → Onward p m m₁ → Onward p m₁ m′ → Onward p m m′
+onward-on f g =
+    record {
+      kept = λ d t. g .kept d (f .kept d t);
+      reactors = λ d t. g .reactors d (f .kept d t) ∙ f .reactors d t;
+    }
 
 module _ (p : List ℕ) where
   pub onward : {W : ℕ → ℕ → Type 0} {N L : ℕ → Type 0} {m m′ : List ℕ} → Change p W N L m m′ → Onward p m m′
@@ -39,6 +49,9 @@ module _ (p : List ℕ) where
   done-right m ns E o l (sink x a) e d = let z : _≡_ {A = ℕ} 0 1 = cc in absurd (omega arith)
   done-right m ns E o l (allocPoly a b) e d = let z : _≡_ {A = ℕ} 0 1 = cc in absurd (omega arith)
   done-right m ns E o l (primitive x a b f) e d = let z : _≡_ {A = ℕ} 0 1 = cc in absurd (omega arith)
+  done-right m ns E o l (cell x v) e d = d
+  done-right m ns E o l (fetch b) e d = let z : _≡_ {A = ℕ} 0 1 = cc in absurd (omega arith)
+  done-right m ns E o l (keep a b) e d = let z : _≡_ {A = ℕ} 0 1 = cc in absurd (omega arith)
   done-right m ns E o l none e d = let z : _≡_ {A = ℕ} 0 1 = cc in absurd (omega arith)
 
   pub right-done : (m : List ℕ) (ns : List Note) (E : ℕ → Type 0) (o l : ℕ) (c : Cmd) → Right p m o l c → Done p m ns E o l c
@@ -52,6 +65,9 @@ module _ (p : List ℕ) where
   right-done m ns E o l (sink x a) d = absurd d
   right-done m ns E o l (allocPoly a b) d = absurd d
   right-done m ns E o l (primitive x a b f) d = absurd d
+  right-done m ns E o l (cell x v) d = d
+  right-done m ns E o l (fetch b) d = absurd d
+  right-done m ns E o l (keep a b) d = absurd d
   right-done m ns E o l none d = absurd d
 
   module _ {W : ℕ → ℕ → Type 0} {N L : ℕ → Type 0} {m m′ : List ℕ} {ns : List Note} {pile : List Frame} (c : Change p W N L m m′) (q : Piled p m pile ns) where

@@ -1,30 +1,38 @@
--- A step from a state with the invariant: what every command comes to (`every-command`), and so every step (`step-outcome`).
+-- A step from a state with the invariant: what every command comes to (`every-command`), and so every step
+-- (`step-outcome`), with what it leaves of slots and wirings (`Passed`).
 use Prim.Native.Nat.{ℕ, suc, _+_, _-_, _≤_, _<_}
 use mathlib.Core.Path.{_≡_, refl, sym, _∙_, ap}
 use mathlib.Core.Bool.{Bool, true, false}
 use mathlib.Core.List.{List, [], _∷_, _++_}
-use mathlib.Core.Logic.{_≢_}
+use mathlib.Core.Logic.{_⊎_, inl, inr, _≢_}
 use native.Mathlib.Omega.{arith}
 use lib.ListN.{length}
 use Rattle.value.specs.Test.{_=?_}
-use Rattle.value.proofs.Tests.{eq?, eq×?}
+use Rattle.value.proofs.Tests.{eq?, eq×?, same?}
 use Rattle.program.specs.Bytes.{reactors, globals, globalKind, declared, commandsIn}
-use Rattle.program.specs.Command.{Cmd, cmdOf, allocMono, makePoly, constant, global, supply, react, consume, sink, allocPoly, primitive, none}
+use Rattle.program.specs.Command.{Cmd, cmdOf, takesWords, allocMono, makePoly, constant, global, supply, react, consume, sink, allocPoly, primitive, cell, fetch, keep, none}
 use Rattle.program.specs.Location.{sizeOf}
+use Rattle.program.proofs.Slots.{slot-command, takes-cell}
 use Rattle.program.specs.Kind.{OfKind}
 use Rattle.load.specs.declared.Refusal.{Refusal}
-use Rattle.image.specs.Memory.{used, reactor, wired}
-use Rattle.remus.specs.Exec.{Eff, move, call, fail, globalValue, exec, eff, ready}
-use Rattle.remus.specs.Walk.{Note, run, Frame, State, Next, go, stop, over, notesOf, onto, stepAt, stepOn, step}
-use Rattle.remus.specs.Point.{Before, Allocation, mono, poly, Makes, a-deployment, nothing}
+use Rattle.image.specs.Memory.{used, reactor, wired, content}
+use Rattle.image.specs.Sound.{Deployed}
+use Rattle.image.proofs.Memory.Changes.{Same, same-self, same-on, This-slot}
+use Rattle.remus.specs.Exec.{Eff, move, call, fail, globalValue, there, exec, eff, opening, ready}
+use Rattle.remus.specs.Walk.{Note, run, Frame, State, Next, go, stop, over, suppliedNote, notesOf, onto, stepAt, stepOn, step}
+use Rattle.remus.specs.Point.{_∈_, Before, Allocation, mono, poly, Makes, a-deployment, nothing}
 use Rattle.remus.proofs.Walk.Facts.{Facts}
-use Rattle.remus.proofs.Walk.Story.{cmd}
-use Rattle.remus.proofs.Walk.Pile.{frame, state, Inv}
-use Rattle.remus.proofs.Walk.Top.{Onward, top-frame}
+use Rattle.remus.proofs.Walk.Story.{own, cmd, CellAt}
+use Rattle.remus.proofs.Walk.Pile.{frame, state, Open, first as top, later as under, Behind, Inv}
+use Rattle.remus.proofs.Walk.Top.{Onward, onward-self, onward-on, top-frame, not-behind}
+use Rattle.remus.proofs.Walk.Writes.{Writes, Gave}
+use Rattle.remus.proofs.Walk.Locations.{declared-in, not-cell}
+use Rattle.remus.proofs.Walk.Stores.{run-past}
 use Rattle.remus.proofs.Walk.Operands.{some-command}
-use Rattle.remus.proofs.Walk.Moves.{Ready, ready-kept, leave-kept}
-use Rattle.remus.proofs.Walk.Outcome.{Growth, no-words, words, Stopping, Outcome, constant-outcome, global-outcome, consume-outcome, primitive-outcome, supply-outcome, react-outcome, sink-outcome}
-use Rattle.remus.proofs.Walk.Making.{point-outcome, mono-outcome}
+use Rattle.remus.proofs.Walk.Moves.{run-out, opening-raw, opening-wired, NowWired, Ready, ready-kept, leave-kept}
+use Rattle.remus.proofs.Walk.Outcome.{Growth, no-words, words, Stopping, Carried, Outcome, constant-outcome, global-outcome, consume-outcome, fetch-outcome, primitive-outcome, supply-outcome, react-outcome, sink-outcome}
+use Rattle.remus.proofs.Walk.Making.{point-outcome, cell-outcome, mono-outcome}
+use Rattle.remus.proofs.Walk.Cells.{keep-outcome}
 use Rattle.remus.proofs.Walk.Choosing.{poly-outcome}
 
 -- every global is of its declared kind, whatever the words
@@ -46,7 +54,34 @@ module _ (p : List ℕ) (u : Facts p) (rd : List ℕ) (legal : Legal p rd) where
     every-command (sink x a) e = sink-outcome p u rd legal v h then x a e
     every-command (allocPoly a b) e = poly-outcome p u v h then a b e rd _ refl
     every-command (primitive x a b c) e = primitive-outcome p u rd legal v h then x a b c e
+    every-command (cell x a) e = cell-outcome p u v h then x a rd e
+    every-command (fetch b) e = fetch-outcome p u rd legal v h then b e
+    every-command (keep a b) e = keep-outcome p u v h then a b e rd
     every-command none e = absurd (some-command p u v h e)
+
+-- ---- no command notes a run
+
+supply-notes : (p : List ℕ) (t : Bool) (d a l : ℕ) {ns : List Note} → run d ∈ (suppliedNote p t a l ++ ns) → run d ∈ ns
+unfolding suppliedNote
+supply-notes p true d a l z = run-past z
+supply-notes p false d a l z = z
+
+runs-only : (p m : List ℕ) (o i : ℕ) (c : Cmd) {d : ℕ} {ns : List Note} → run d ∈ (notesOf p m o i c ++ ns) → run d ∈ ns
+unfolding notesOf
+runs-only p m o i (allocMono x) z = z
+runs-only p m o i (makePoly x) z = z
+runs-only p m o i (constant x v) z = run-past z
+runs-only p m o i (global x) z = run-past z
+runs-only p m o i (supply x a b) {d} z = supply-notes p (there p m o b) d (content p m o b) x z
+runs-only p m o i (react b) z = z
+runs-only p m o i (consume x b) z = run-past z
+runs-only p m o i (sink x a) z = run-past z
+runs-only p m o i (allocPoly a b) z = run-past z
+runs-only p m o i (primitive x a b c) z = run-past z
+runs-only p m o i (cell x v) z = z
+runs-only p m o i (fetch b) z = run-past z
+runs-only p m o i (keep a b) z = run-past z
+runs-only p m o i none z = z
 
 -- ---- steps
 
@@ -82,9 +117,40 @@ pub one-allocation : {p m : List ℕ} {o q q′ : ℕ} {c : Cmd} → Allocation 
 one-allocation mono mono = refl
 one-allocation (poly a b) (poly c d) = refl
 
--- what a step from s comes to; w the words before the turn
+-- in state s, command j of a is behind
+abbrev pub BehindIn : List ℕ → State → ℕ → ℕ → Type 0
+BehindIn p s a j = Behind p (s .words) (s .pile) (s .notes) a j
+
+-- a command behind in t was so in s, or was skipped as its deployment was wired, or is the one carried out
+pub data Newly (p : List ℕ) (s t : State) (a j : ℕ) : Type 0 where
+  before : BehindIn p s a j → Newly p s t a j
+  skipped : Deployed p (s .words) a → wired (s .words) a ≡ 1 → j < declared p (reactor (s .words) a) → Newly p s t a j
+  by-now : (m : List ℕ) (b : Before p s m a (cmd p (s .words) a j)) → b .index ≡ j → Deployed p (s .words) a
+      → reactor m a ≡ reactor (s .words) a → Gave p m (t .words) a j (cmd p (s .words) a j) → Newly p s t a j
+
+-- what a step from s to t leaves of slots and wirings
+pub record Passed (p : List ℕ) (s t : State) : Type 0 where
+  pub wireds : (d : ℕ) → Deployed p (s .words) d → wired (s .words) d ≡ 1 → wired (t .words) d ≡ 1
+  pub back : (d : ℕ) → Deployed p (t .words) d → wired (t .words) d ≡ 1
+      → Deployed p (s .words) d
+      × ((wired (s .words) d ≡ 1) ⊎ ((j : ℕ) → j < declared p (reactor (s .words) d) → BehindIn p s d j))
+  pub newly : (a j : ℕ) → BehindIn p t a j → Newly p s t a j
+  pub firm : (a j : ℕ) → BehindIn p s a j → takesWords (cmd p (s .words) a j) ≡ true
+      → ((x : ℕ) → cmd p (s .words) a j ≢ makePoly x) → Same p (s .words) (t .words) a (own p (s .words) a j)
+  pub cells : (a j x v : ℕ) → CellAt p (s .words) a j x v → wired (s .words) a ≡ 1
+      → Same p (s .words) (t .words) a (own p (s .words) a j)
+
+-- a step from s to t; w the words before the turn
+pub record Goes (p w : List ℕ) (s t : State) : Type 0 where
+  pub inv : Inv p w t
+  pub onward : Onward p (s .words) (t .words)
+  pub made : (k : ℕ) × Makes p s k × (used (t .words) ≡ used (s .words) + k)
+  pub roomy : Roomy p s
+  pub passed : Passed p s t
+
+-- what a step from s comes to
 abbrev pub Comes : List ℕ → List ℕ → State → Next → Type 0
-Comes p w s (go t) = Inv p w t × Onward p (s .words) (t .words) × ((k : ℕ) × Makes p s k × (used (t .words) ≡ used (s .words) + k)) × Roomy p s
+Comes p w s (go t) = Goes p w s t
 Comes p w s (stop v) = Stops p s v
 Comes p w s (over t) = s .pile ≡ []
 
@@ -94,13 +160,31 @@ module _ (p : List ℕ) (u : Facts p) (rd : List ℕ) (legal : Legal p rd) where
     here = state m (frame o i ∷ fs) ns
 
     leaves : i ≡ commandsIn p (reactor m o) → Comes p w here (go (state m fs (run o ∷ ns)))
-    leaves e = (
-      leave-kept p u v e,
-      record { kept = λ d t. t; reactors = λ d t. refl },
-      (0, nothing (λ m′ o′ q c b a. ended m′ o′ c b), omega arith),
-      λ m′ o′ q c b a. absurd (ended m′ o′ c b),
-    )
+    leaves e =
+        record {
+          inv = leave-kept p u v e;
+          onward = onward-self;
+          made = (0, nothing (λ m′ o′ q c b a. ended m′ o′ c b), omega arith);
+          roomy = λ m′ o′ q c b a. absurd (ended m′ o′ c b);
+          passed = record {
+            wireds = λ d t q. q;
+            back = λ d t q. (t, inl q);
+            newly = λ a j b. before (back a j b);
+            firm = λ a j b c n. same-self p;
+            cells = λ a j x y c z. same-self p;
+          };
+        }
       where
+        was : (a j : ℕ) → (a ≡ o) ⊎ (run a ∈ ns) → j < commandsIn p (reactor m a) → BehindIn p here a j
+        was a j (inl z) l =
+            let l₂ : j < commandsIn p (reactor m o) = rw z at l in
+            inl (i, top (sym z) refl, omega arith)
+        was a j (inr z) l = inr (z, l)
+
+        back : (a j : ℕ) → Behind p m fs (run o ∷ ns) a j → BehindIn p here a j
+        back a j (inl b) = inl (b .0, under (b .1), b .2)
+        back a j (inr b) = was a j (run-out (b .0)) (b .1)
+
         ended : (m′ : List ℕ) (o′ : ℕ) (c : Cmd) → Before p here m′ o′ c → ⊥
         ended m′ o′ c b =
             let top = same-top (b .top) in
@@ -123,11 +207,7 @@ module _ (p : List ℕ) (u : Facts p) (rd : List ℕ) (legal : Legal p rd) where
       point = record { index = i; lower = fs; top = refl; goes-on = λ z. omega (arith, h, z); is = refl; wiring = refl }
 
       onwards : {m′ : List ℕ} → Onward p m₁ m′ → Onward p m m′
-      onwards f =
-          record {
-            kept = λ d t. f .kept d (r .on-from .kept d t);
-            reactors = λ d t. f .reactors d (r .on-from .kept d t) ∙ r .on-from .reactors d t;
-          }
+      onwards f = onward-on (r .on-from) f
 
       -- an allocation of the next command
       at-point : {m₂ : List ℕ} {o₂ q : ℕ} {c : Cmd} → Before p here m₂ o₂ c → Allocation p m₂ o₂ c q → Allocation p m₁ o c₀ q
@@ -145,13 +225,140 @@ module _ (p : List ℕ) (u : Facts p) (rd : List ℕ) (legal : Legal p rd) where
           let k = one-allocation (at-point b a) a₁ in
           (n, rw (e₀, k) l)
 
-      by-effect : (x : Eff) → Outcome p w m₁ o i fs c₀ (notesOf p m₁ o i c₀ ++ ns) x → Comes p w here (onto p o i fs (notesOf p m₁ o i c₀ ++ ns) x)
+      abbrev notes : List Note
+      notes = notesOf p m₁ o i c₀ ++ ns
+
+      t₀ : Deployed p m o
+      t₀ = top-frame p v .deployed
+
+      -- every command that is behind in t is told of
+      abbrev AllNewly : State → Type 0
+      AllNewly t = (a j : ℕ) → BehindIn p t a j → Newly p here t a j
+
+      -- all of D is behind the first R command
+      D-behind : (d j : ℕ) → d ≡ o → i ≡ declared p (reactor m o) → j < declared p (reactor m d) → BehindIn p here d j
+      D-behind d j e q l = let l₂ : j < declared p (reactor m o) = rw e at l in inl (i, top (sym e) refl, omega arith)
+
+      -- the command carried out
+      here-now : (m′ : List ℕ) (pile : List Frame) (j : ℕ) → j ≡ i → Gave p m₁ m′ o i c₀
+          → Newly p here (state m′ pile notes) o j
+      unfolding point
+      here-now m′ pile j e g = rw e (by-now m₁ point refl t₀ (r .same) g)
+
+      ran-before : (m′ : List ℕ) → Onward p m m′ → (a j : ℕ) → run a ∈ ns → j < commandsIn p (reactor m′ a)
+          → BehindIn p here a j
+      ran-before m′ on a j k l = inr (k, rw (on .reactors a (v .piled .ran a k .0)) at l)
+
+      -- of an old open deployment
+      in-old : {a k : ℕ} (m′ : List ℕ) (pile : List Frame) (j : ℕ) → Open a k (frame o (i + 1) ∷ fs) → j < k
+          → Gave p m₁ m′ o i c₀ → Newly p here (state m′ pile notes) a j
+      in-old {k = k} m′ pile j (under z) l g = before (inl (k, under z, l))
+      in-old {a} m′ pile j (top e z) l g = by (same? j i)
+        where
+          by : (j ≡ i) ⊎ (j ≢ i) → Newly p here (state m′ pile notes) a j
+          by (inl q) = rw (← e) (here-now m′ pile j q g)
+          by (inr q) = before (inl (i, top e refl, omega arith))
+
+      on-move : (m′ : List ℕ) → Onward p m m′ → Gave p m₁ m′ o i c₀ → AllNewly (state m′ (frame o (i + 1) ∷ fs) notes)
+      on-move m′ on g a j (inr b) = before (ran-before m′ on a j (runs-only p m₁ o i c₀ (b .0)) (b .1))
+      on-move m′ on g a j (inl b) = in-old m′ (frame o (i + 1) ∷ fs) j (b .1) (b .2) g
+
+      on-call : (m′ : List ℕ) (d : ℕ) → Onward p m m′ → m′ ≡ m₁
+          → Inv p w (state m′ (frame d (opening p m′ d) ∷ frame o (i + 1) ∷ fs) notes) → Gave p m₁ m′ o i c₀
+          → AllNewly (state m′ (frame d (opening p m′ d) ∷ frame o (i + 1) ∷ fs) notes)
+      on-call m′ d on e n g a j (inr b) = before (ran-before m′ on a j (runs-only p m₁ o i c₀ (b .0)) (b .1))
+      on-call m′ d on e n g a j (inl b) = by (b .1) (b .2)
+        where
+          pile : List Frame
+          pile = frame d (opening p m′ d) ∷ frame o (i + 1) ∷ fs
+
+          opened-there : Deployed p m′ d
+          opened-there = n .piled .frames d (opening p m′ d) (top refl refl) .deployed
+
+          there : Deployed p m d
+          there = r .back d (rw e at opened-there)
+
+          -- D was skipped
+          opened : j < opening p m′ d → (wired m′ d ≡ 0) ⊎ (wired m′ d ≡ 1) → Newly p here (state m′ pile notes) d j
+          opened l (inl q) = absurd (omega (arith, opening-raw p m′ d q))
+          opened l (inr q) = side (r .wireds d there)
+            where
+              low : j < declared p (reactor m d)
+              low = let y = opening-wired p m′ d q in let z = on .reactors d there in omega (arith, ap (declared p) z)
+
+              side : NowWired p m m₁ o i d → Newly p here (state m′ pile notes) d j
+              side (inl z) = let q₂ : wired m₁ d ≡ 1 = rw e at q in skipped there (sym z ∙ q₂) low
+              side (inr z) = before (D-behind d j (z .0) (z .1) low)
+
+          by : {k : ℕ} → Open a k (frame d (opening p m′ d) ∷ frame o (i + 1) ∷ fs) → j < k
+              → Newly p here (state m′ pile notes) a j
+          by (top f z) l = rw (← f) (opened (omega arith) (n .story .two d opened-there))
+          by (under z) l = in-old m′ pile j z l g
+
+      passed : (m′ : List ℕ) (pile : List Frame) → Writes p m₁ m′ o i → AllNewly (state m′ pile notes)
+          → Passed p here (state m′ pile notes)
+      passed m′ pile wr new =
+          record {
+            wireds = λ d t q. wr .wireds d (r .on-from .kept d t) ∙ wire d q (r .wireds d t);
+            back = λ d t q. was d q (wr .back d t);
+            newly = new;
+            firm = λ a j b c n.
+                let k = v .story .scope a j b in
+                join a j (k .0) (k .1) c (λ z. let z₀ = z .0 in let z₁ = z .1 in not-behind p v (rw (z₀, z₁) at b)) n;
+            cells = λ a j x y c z.
+                join a j (c .deployed) (omega (arith, c .low, declared-in p (reactor m a))) (takes-cell (c .is))
+                (λ k.
+                let k₀ = k .0 in
+                let k₁ = k .1 in
+                let l : i < declared p (reactor m o) = rw (k₀, k₁) at (c .low) in
+                let z₂ : wired m o ≡ 1 = rw k₀ at z in
+                omega (arith, top-frame p v .raw l))
+                (λ n e. not-cell x y n (sym (c .is) ∙ e));
+          }
+        where
+          wire : (d : ℕ) → wired m d ≡ 1 → NowWired p m m₁ o i d → wired m₁ d ≡ 1
+          wire d q (inl z) = z ∙ q
+          wire d q (inr z) = z .2
+
+          was : (d : ℕ) → wired m′ d ≡ 1 → Deployed p m₁ d ⊎ (wired m′ d ≡ 0)
+              → Deployed p m d × ((wired m d ≡ 1) ⊎ ((j : ℕ) → j < declared p (reactor m d) → BehindIn p here d j))
+          was d q (inr z) = absurd (omega arith)
+          was d q (inl t) = (r .back d t, side (r .wireds d (r .back d t)))
+            where
+              side : NowWired p m m₁ o i d
+                  → (wired m d ≡ 1) ⊎ ((j : ℕ) → j < declared p (reactor m d) → BehindIn p here d j)
+              side (inl z) = inl (sym z ∙ sym (wr .wireds d t) ∙ q)
+              side (inr z) = inr (λ j l. D-behind d j (z .0) (z .1) l)
+
+          join : (a j : ℕ) → Deployed p m a → j < commandsIn p (reactor m a) → takesWords (cmd p m a j) ≡ true
+              → (This-slot p o i a j → ⊥) → ((x : ℕ) → cmd p m a j ≢ makePoly x) → Same p m m′ a (own p m a j)
+          join a j t l w n k =
+              let q = r .on-from .reactors a t in
+              let x = r .slots a (own p m a j) t (slot-command p (reactor m a) j l w) in
+              let y = wr .others a j (r .on-from .kept a t) (rw q l) (rw q w) n (rw q k) in
+              same-on p x (rw q at y)
+
+      goes : (m′ : List ℕ) (pile : List Frame) → Carried p w m₁ m′ o i (suc (length fs)) c₀ pile notes
+          → AllNewly (state m′ pile notes) → Goes p w here (state m′ pile notes)
+      goes m′ pile f new =
+          record {
+            inv = f .inv;
+            onward = onwards (f .forth);
+            made = made (f .grown);
+            roomy = roomy (f .grown);
+            passed = passed m′ pile (f .wrote) new;
+          }
+
+      by-effect : (x : Eff) → Outcome p w m₁ o i fs c₀ notes x → Comes p w here (onto p o i fs notes x)
       unfolding onto
-      by-effect (move m′) f = (f .0, onwards (f .1), made (f .2), roomy (f .2))
-      by-effect (call m′ d) f = (f .0, onwards (f .1), made (f .2), roomy (f .2))
+      by-effect (move m′) f = goes m′ (frame o (i + 1) ∷ fs) f (on-move m′ (onwards (f .forth)) (f .gave))
+      by-effect (call m′ d) f =
+          let g = f .0 in
+          goes m′ (frame d (opening p m′ d) ∷ frame o (i + 1) ∷ fs) g
+          (on-call m′ d (onwards (g .forth)) (f .1) (g .inv) (g .gave))
       by-effect (fail y) f = record { words = m₁; owner = o; command = c₀; before = point; why = f }
 
-      acts : Comes p w here (onto p o i fs (notesOf p m₁ o i c₀ ++ ns) (eff p rd (suc (length fs)) m o i))
+      acts : Comes p w here (onto p o i fs notes (eff p rd (suc (length fs)) m o i))
       unfolding eff
       acts = by-effect _ (every-command p u rd legal (r .inv) (rw (r .same) h) (r .wired-then) c₀ (rw (r .same) refl))
 

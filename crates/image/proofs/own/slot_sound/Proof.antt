@@ -1,4 +1,4 @@
-use Rattle.image.proofs.Made.{made-mono, made-other, made-point}
+use Rattle.image.proofs.Made.{made-mono, made-point, made-cell, made-other}
 use Rattle.image.specs.Passes.{slotSound}
 use borrow.Author.Needs.{needs}
 use mathlib.Core.Path.{_∙_, ap}
@@ -12,11 +12,16 @@ returns-2 : tie.Need-returns-2
 returns-2 c = c .point-sound .ensures ∙ ap (slotSound _ _ _ _ _) (made-point _ _ (c .before .if2 .taken))
 
 returns-3 : tie.Need-returns-3
+returns-3 c = c .cell-sound .ensures ∙ ap (slotSound _ _ _ _ _) (made-cell _ _ (c .before .if3 .taken))
+
+returns-4 : tie.Need-returns-4
 unfolding slotSound
-returns-3 c = ap (slotSound _ _ _ _ _) (made-other _ _ (c .before .before .if1 .left) (c .if2 .left))
+returns-4 c =
+    ap (slotSound _ _ _ _ _)
+    (made-other _ _ (c .before .before .before .before .if1 .left) (c .before .before .if2 .left) (c .if3 .left))
 
 pub slot-sound-spec : {M : Type 1} → statement M
 slot-sound-spec =
     tie.close
     (tie.spec
-    (λ c κs. search needs) returns (λ c κs. search needs) returns-2 returns-3)
+    (λ c κs. search needs) returns (λ c κs. search needs) returns-2 (λ c κs. search needs) returns-3 returns-4)

@@ -1,6 +1,6 @@
 use Prim.Native.Nat.{_+_, ℕ}
 use Rattle.load.specs.Scan.{agreed}
-use Rattle.program.proofs.Decode.{as-consume, as-poly, as-primitive, as-sink, as-supply, by-code}
+use Rattle.program.proofs.Decode.{as-consume, as-keep, as-poly, as-primitive, as-sink, as-supply, by-code}
 use Rattle.program.specs.Command.{Cmd}
 use Rattle.value.proofs.Tests.{same-eq}
 use borrow.Author.Needs.{needs}
@@ -49,13 +49,18 @@ returns-5 c =
 returns-6 : tie.Need-returns-6
 unfolding agreed
 returns-6 c =
+    let args = c .before .before .before .before .before .before .args in
+    as-keep (agreed (now (args .program)) (args .r) (args .self)) (args .c) (omega arith)
+    (same-eq (c .before .before .kind-at3 .ensures) (c .kind-at4 .ensures))
+
+returns-7 : tie.Need-returns-7
+unfolding agreed
+returns-7 c =
     let args = c .before .before .args in
-    by-code (λ (d : Cmd). true ≡ agreed (now (args .program)) (args .r) (args .self) d) (args .c) (λ e. refl)
-    (λ e. refl) (λ e. refl) (λ e. refl)
-    (λ e. absurd (c .match .rest .0 .0 .0 .0 .1 e)) (λ e. refl)
-    (λ e. absurd (c .match .rest .0 .0 .0 .1 e))
-    (λ e. absurd (c .match .rest .0 .0 .1 e))
-    (λ e. absurd (c .match .rest .0 .1 e))
+    by-code (λ (d : Cmd). true ≡ agreed (now (args .program)) (args .r) (args .self) d) (args .c)
+    (λ e. refl) (λ e. refl) (λ e. refl) (λ e. refl) (λ e. absurd (c .match .rest .0 .0 .0 .0 .0 .1 e))
+    (λ e. refl) (λ e. absurd (c .match .rest .0 .0 .0 .0 .1 e)) (λ e. absurd (c .match .rest .0 .0 .0 .1 e))
+    (λ e. absurd (c .match .rest .0 .0 .1 e)) (λ e. absurd (c .match .rest .0 .1 e)) (λ e. refl) (λ e. refl)
     (λ e. absurd (c .match .rest .1 e)) (λ e. refl)
 
 pub agreed-spec : {M : Type 1} → statement M
@@ -64,5 +69,6 @@ agreed-spec =
     (tie.spec
     (λ c κs. search needs) (λ c κs. search needs) (λ c κs. search needs) (λ c. search needs)
     (λ c κs. search needs) (λ c. search needs) (λ c. search needs) (λ c κs. search needs)
-    (λ c. search needs) (λ c. search needs) (λ c κs. search needs) returns returns-2 returns-3 returns-4
-    returns-5 returns-6)
+    (λ c. search needs) (λ c. search needs) (λ c κs. search needs) (λ c. search needs)
+    (λ c κs. search needs) (λ c. search needs) (λ c κs. search needs) returns returns-2 returns-3
+    returns-4 returns-5 returns-6 returns-7)

@@ -1,6 +1,7 @@
 use Rattle.load.proofs.Stands.{stands}
 use Rattle.load.specs.Scan.{standingAfter}
-use Rattle.program.proofs.Decode.{as-constant, as-consume, as-global, as-make, as-mono, as-poly, as-primitive, as-react, as-rest, as-sink, as-supply}
+use Rattle.program.proofs.Decode.{as-cell, as-constant, as-consume, as-fetch, as-global, as-keep, as-make, as-mono}
+use Rattle.program.proofs.Decode.{as-poly, as-primitive, as-react, as-rest, as-sink, as-supply}
 use borrow.Author.Needs.{needs}
 use denote.Ref.{now}
 use mathlib.Core.Path.{refl}
@@ -51,7 +52,7 @@ unfolding standingAfter
 returns-6 c =
     let args = c .before .before .before .args in
     as-react (standingAfter (now (args .program)) (args .r) (args .self) (args .here)) (args .c) (omega arith)
-    (c .after-react .ensures (now (args .program)) (args .r) (args .here))
+    (c .stand-as .ensures)
 
 returns-7 : tie.Need-returns-7
 unfolding standingAfter
@@ -84,6 +85,27 @@ returns-10 c =
 returns-11 : tie.Need-returns-11
 unfolding standingAfter
 returns-11 c =
+    let args = c .before .before .before .args in
+    as-cell (standingAfter (now (args .program)) (args .r) (args .self) (args .here)) (args .c) (omega arith)
+    (c .stand5 .ensures)
+
+returns-12 : tie.Need-returns-12
+unfolding standingAfter
+returns-12 c =
+    let args = c .before .before .before .args in
+    as-fetch (standingAfter (now (args .program)) (args .r) (args .self) (args .here)) (args .c) (omega arith)
+    (c .after-fetch .ensures (now (args .program)) (args .r))
+
+returns-13 : tie.Need-returns-13
+unfolding standingAfter
+returns-13 c =
+    let args = c .before .before .before .args in
+    as-keep (standingAfter (now (args .program)) (args .r) (args .self) (args .here)) (args .c) (omega arith)
+    (c .stand-as2 .ensures)
+
+returns-14 : tie.Need-returns-14
+unfolding standingAfter
+returns-14 c =
     let args = c .before .before .args in
     as-rest (standingAfter (now (args .program)) (args .r) (args .self) (args .here)) (args .c) (c .match .rest) refl
 
@@ -91,8 +113,9 @@ pub standing-after-spec : {M : Type 1} → statement M
 standing-after-spec =
     tie.close
     (tie.spec
-    (λ c. search needs) (λ c κs. search needs) (λ c κs. search needs) (λ c κs. search needs) (λ c κs. search needs)
-    (λ c κs. search needs) (λ c κs. search needs) after-supply-requires (λ c κs. search needs)
-    (λ c κs. search needs) (λ c κs. search needs) (λ c κs. search needs) (λ c κs. search needs) returns
-    returns-2 returns-3 returns-4 returns-5 returns-6 returns-7 returns-8 returns-9 returns-10
-    returns-11)
+    (λ c. search needs) (λ c κs. search needs) (λ c κs. search needs) (λ c κs. search needs)
+    (λ c κs. search needs) (λ c κs. search needs) (λ c κs. search needs) after-supply-requires
+    (λ c κs. search needs) (λ c κs. search needs) (λ c κs. search needs) (λ c κs. search needs)
+    (λ c κs. search needs) (λ c κs. search needs) (λ c κs. search needs) (λ c κs. search needs)
+    returns returns-2 returns-3 returns-4 returns-5 returns-6 returns-7 returns-8 returns-9
+    returns-10 returns-11 returns-12 returns-13 returns-14)

@@ -1,13 +1,20 @@
 use Prim.Native.Nat.{_+_, ℕ}
 use Rattle.load.specs.Scan.{formed}
-use Rattle.program.proofs.Decode.{as-constant, as-consume, as-global, as-make, as-mono, as-poly, as-primitive, as-react, as-rest, as-sink, as-supply}
+use Rattle.program.proofs.Decode.{as-cell, as-constant, as-consume, as-fetch, as-global, as-keep, as-make, as-mono}
+use Rattle.program.proofs.Decode.{as-poly, as-primitive, as-react, as-rest, as-sink, as-supply}
 use Rattle.value.proofs.Tests.{same-and, same-eq, same-le, same-lt}
+use Rattle.value.specs.Test.{_and_}
 use borrow.Author.Needs.{needs}
 use denote.Ref.{now}
-use mathlib.Core.Path.{ap, refl}
+use mathlib.Core.Bool.{Bool}
+use mathlib.Core.Path.{_≡_, _∙_, ap, refl}
 use native.Mathlib.Omega.{arith}
 use Rattle.load.proofs.refuse.formed.Statement.{statement}
 use Rattle.load.proofs.refuse.formed.Tie as tie
+
+-- what is asked of a content, with the definition's test of its kind
+with-kind : (m n : Bool) {z s t : Bool} → s ≡ t → z ≡ (m and s and n) → z ≡ (m and t and n)
+with-kind m n e h = h ∙ ap (λ (k : Bool). m and k and n) e
 
 returns : tie.Need-returns
 unfolding formed
@@ -26,8 +33,9 @@ returns-2 c =
 returns-3 : tie.Need-returns-3
 unfolding formed
 returns-3 c =
-    let args = c .before .before .before .before .before .before .before .args in
-    as-constant (formed (now (args .program)) (args .c)) (args .c) (omega arith) (c .constant-formed .ensures)
+    let args = c .before .before .before .before .before .before .before .before .before .args in
+    as-constant (formed (now (args .program)) (args .c)) (args .c) (omega arith)
+    (with-kind _ _ (same-lt refl (ap (λ (n : ℕ). 2 + n) (c .before .shapes2 .ensures))) (c .content-formed .ensures))
 
 returns-4 : tie.Need-returns-4
 unfolding formed
@@ -80,6 +88,27 @@ returns-10 c =
 returns-11 : tie.Need-returns-11
 unfolding formed
 returns-11 c =
+    let args = c .before .before .before .before .before .before .before .before .args in
+    as-cell (formed (now (args .program)) (args .c)) (args .c) (omega arith)
+    (with-kind _ _ (same-le refl refl) (c .content-formed2 .ensures))
+
+returns-12 : tie.Need-returns-12
+unfolding formed
+returns-12 c =
+    let args = c .before .before .before .before .before .before .args in
+    as-fetch (formed (now (args .program)) (args .c)) (args .c) (omega arith)
+    (same-eq (ap (λ (v : ℕ). args .c .x + args .c .a + v) (c .before .v .ensures)) refl)
+
+returns-13 : tie.Need-returns-13
+unfolding formed
+returns-13 c =
+    let args = c .before .before .before .before .before .before .args in
+    as-keep (formed (now (args .program)) (args .c)) (args .c) (omega arith)
+    (same-eq (ap (λ (v : ℕ). args .c .x + v) (c .before .v .ensures)) refl)
+
+returns-14 : tie.Need-returns-14
+unfolding formed
+returns-14 c =
     let args = c .before .before .before .before .before .before .args in
     as-rest (formed (now (args .program)) (args .c)) (args .c) (c .match .rest) refl
 
@@ -89,8 +118,10 @@ formed-spec =
     (tie.spec
     (λ c. search needs) (λ c. search needs) (λ c. search needs) (λ c κs. search needs)
     (λ c. search needs) (λ c. search needs) (λ c. search needs) (λ c κs. search needs)
-    (λ c. search needs) (λ c. search needs) (λ c κs. search needs) (λ c κs. search needs)
+    (λ c. search needs) (λ c. search needs) (λ c κs. search needs) (λ c. search needs)
+    (λ c κs. search needs) (λ c. search needs) (λ c. search needs) (λ c κs. search needs)
     (λ c. search needs) (λ c. search needs) (λ c κs. search needs) (λ c. search needs)
     (λ c. search needs) (λ c. search needs) (λ c. search needs) (λ c. search needs)
-    (λ c κs. search needs) returns returns-2 returns-3 returns-4 returns-5 returns-6 returns-7 returns-8
-    returns-9 returns-10 returns-11)
+    (λ c κs. search needs) (λ c κs. search needs) (λ c. search needs) (λ c. search needs)
+    (λ c. search needs) returns returns-2 returns-3 returns-4 returns-5 returns-6 returns-7
+    returns-8 returns-9 returns-10 returns-11 returns-12 returns-13 returns-14)

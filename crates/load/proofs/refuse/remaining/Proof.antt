@@ -12,7 +12,7 @@ unfolding remaining
 returns c =
     by-code (λ (d : Cmd). true ≡ remaining d) (c .before .before .args .c)
     (λ e. refl) (λ e. refl) (λ e. refl) (λ e. refl) (λ e. refl) (λ e. refl) (λ e. refl) (λ e. refl) (λ e. refl)
-    (λ e. absurd (c .if1 .taken e)) (λ e. refl)
+    (λ e. absurd (c .if1 .taken e)) (λ e. refl) (λ e. refl) (λ e. refl) (λ e. refl)
 
 returns-2 : tie.Need-returns-2
 unfolding remaining

@@ -1,5 +1,6 @@
 use Rattle.machine.specs.Act.{acted, doing}
-use Rattle.program.proofs.Decode.{as-constant, as-consume, as-global, as-make, as-mono, as-poly, as-primitive, as-react, as-rest, as-sink, as-supply}
+use Rattle.program.proofs.Decode.{as-cell, as-constant, as-consume, as-fetch, as-global, as-keep, as-make}
+use Rattle.program.proofs.Decode.{as-mono, as-poly, as-primitive, as-react, as-rest, as-sink, as-supply}
 use Rattle.program.specs.Command.{Cmd}
 use Rattle.remus.specs.Exec.{exec}
 use borrow.Author.Needs.{needs}
@@ -61,8 +62,25 @@ returns-10 c =
     rw (← as-primitive (λ (d : Cmd). d) (args .c) (omega arith) refl) (c .before .before .primitive .ensures _ _)
 
 returns-11 : tie.Need-returns-11
-unfolding exec acted
 returns-11 c =
+    let at-v2 = c .before .before .before .v2 in
+    let args = c .before .before .before .before .before .before .before .before .before .args in
+    rw (← as-cell (λ (d : Cmd). d) (args .c) (omega arith) refl, ← at-v2 .ensures)
+    (c .before .before .cell .ensures _ _)
+
+returns-12 : tie.Need-returns-12
+returns-12 c =
+    let args = c .before .before .before .before .before .before .before .before .args in
+    rw (← as-fetch (λ (d : Cmd). d) (args .c) (omega arith) refl) (c .before .before .fetch .ensures _ _)
+
+returns-13 : tie.Need-returns-13
+returns-13 c =
+    let args = c .before .before .before .before .before .before .before .before .args in
+    rw (← as-keep (λ (d : Cmd). d) (args .c) (omega arith) refl) (c .before .before .keep .ensures _ _)
+
+returns-14 : tie.Need-returns-14
+unfolding exec acted
+returns-14 c =
     let args = c .before .before .before .before .args in
     let rd = now (args .readings) in
     as-rest (doing (now (args .program)) rd (args .h) (now (args .memory)) (args .o) (args .i)) (args .c) (c .match .rest) refl
@@ -73,6 +91,8 @@ exec-spec =
     (tie.spec
     (λ c κs. search needs) (λ c κs. search needs) (λ c κs. search needs) (λ c κs. search needs) (λ c κs. search needs)
     (λ c κs. search needs) (λ c κs. search needs) (λ c κs. search needs) (λ c κs. search needs) (λ c κs. search needs)
-    (λ c κs. search needs) (λ c. search needs) returns (λ c. search needs) returns-2 (λ c. search needs) returns-3
+    (λ c κs. search needs) (λ c κs. search needs) (λ c κs. search needs) (λ c κs. search needs) (λ c κs. search needs)
+    (λ c. search needs) returns (λ c. search needs) returns-2 (λ c. search needs) returns-3
     (λ c. search needs) returns-4 (λ c. search needs) returns-5 (λ c. search needs) returns-6 (λ c. search needs) returns-7
-    (λ c. search needs) returns-8 (λ c. search needs) returns-9 (λ c. search needs) returns-10 returns-11)
+    (λ c. search needs) returns-8 (λ c. search needs) returns-9 (λ c. search needs) returns-10
+    (λ c. search needs) returns-11 (λ c. search needs) returns-12 (λ c. search needs) returns-13 returns-14)

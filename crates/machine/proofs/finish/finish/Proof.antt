@@ -1,23 +1,22 @@
-use Rattle.remus.specs.Clear.{finished, clearOf}
-use Rattle.machine.specs.Act.{eachOf}
+use Prim.Native.Nat.{_<_, ℕ}
+use Rattle.remus.specs.Clear.{finished}
 use borrow.Author.Needs.{needs}
+use mathlib.Core.Path.{subst, sym}
 use Rattle.machine.proofs.finish.finish.Statement.{statement}
 use Rattle.machine.proofs.finish.finish.Tie as tie
 
-pass-over-requires : tie.Need-pass-over-requires
-pass-over-requires c κs = rw (c .before .before .before .used .ensures) (c .before .before .before .before .before .before .before .pre .0)
+close-requires : tie.Need-close-requires
+close-requires c κs =
+    let at-fill-cells = c .before .before .before .fill-cells in
+    let pre = c .before .before .before .before .before .before .before .pre in
+    let clock = subst (λ (t : ℕ). t < 4294967295) (sym (pre .0 .kept-turns)) (pre .1) in
+    rw (at-fill-cells .ensures) (pre .0 .kept-tiled, clock)
 
 returns : tie.Need-returns
-unfolding finished clearOf eachOf
+unfolding finished
 returns c =
-    let at-pass-over = c .before .before .before .before .before .before .pass-over in
-    let at-turns = c .before .before .before .before .before .before .before .before .turns in
-    let at-used = c .before .before .before .before .before .before .before .before .before .before .used in
-    rw (← at-used .ensures, ← at-turns .ensures, ← at-pass-over .ensures) (c .before .before .set-turns .ensures)
+    let at-fill-cells = c .before .before .before .before .before .before .fill-cells in
+    rw (← at-fill-cells .ensures) (c .before .before .close .ensures)
 
 pub finish-spec : {M : Type 1} → statement M
-finish-spec =
-    tie.close
-    (tie.spec
-    (λ c κs. search needs) (λ c κs. search needs) pass-over-requires (λ c. search needs) (λ c κs. search needs) (λ c. search needs)
-    returns)
+finish-spec = tie.close (tie.spec (λ c κs. search needs) close-requires (λ c. search needs) returns)

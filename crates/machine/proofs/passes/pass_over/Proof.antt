@@ -3,7 +3,7 @@ use Rattle.image.specs.Memory.{startsBelow}
 use Rattle.image.specs.Passes.{over}
 use Rattle.image.specs.Cut.{Tiling, startsOn}
 use Rattle.machine.proofs.Clears.{local-each}
-use Rattle.machine.proofs.Passing.{pass-done, pass-inside, pass-next, pass-rises, pass-within}
+use Rattle.machine.proofs.Passing.{pass-done, pass-inside, pass-legal, pass-next, pass-rises, pass-within}
 use Rattle.machine.specs.Act.{eachOf}
 use borrow.Author.Needs.{needs}
 use lib.ListN.{length}
@@ -24,7 +24,7 @@ abbrev μ-loop : tie.MeasureT-loop
 
 loop-holds : tie.Need-loop-holds Inv-loop μ-loop
 unfolding startsBelow
-loop-holds c = (refl, c .before .before .pre, refl)
+loop-holds c = (refl, c .before .before .pre .0, refl)
 
 add-a : tie.Need-add-a Inv-loop μ-loop
 add-a c =
@@ -32,7 +32,11 @@ add-a c =
     omega (arith, pass-within _ _ _ _ (at-loop .inv .1) (c .before .before .loop-test .taken) _ (c .size-at .ensures .0))
 
 pass-one-requires : tie.Need-pass-one-requires Inv-loop μ-loop
-pass-one-requires c κs = pass-inside _ _ _ _ (c .before .before .before .before .loop .inv .1) (c .before .before .before .loop-test .taken)
+pass-one-requires c κs =
+    let tiling = c .before .before .before .before .loop .inv .1 in
+    let in-loop = c .before .before .before .loop-test .taken in
+    let pre = c .before .before .before .before .before .before .before .pre in
+    (pass-inside _ _ _ _ tiling in-loop, (pass-legal _ _ _ _ tiling in-loop, pre .1))
 
 loop-less : tie.Need-loop-less Inv-loop μ-loop
 loop-less c =
@@ -48,8 +52,12 @@ loop-again c =
     let at-loop = c .before .before .before .before .before .before .before .loop in
     let args = c .before .before .before .before .before .before .before .before .before .before .args in
     let in-loop = at-loop-test .taken in
+    let pre = c .before .before .before .before .before .before .before .before .before .before .pre in
+    let whole = pass-inside _ _ _ _ (at-loop .inv .1) in-loop in
+    let legal = pass-legal _ _ _ _ (at-loop .inv .1) in-loop in
     pass-next _ _ _ _ (at-loop .inv .1) in-loop _ (at-size-at .ensures .0) (eachOf (args .s) (args .program .now) (args .u)) _ _ _
-    (c .before .before .pass-one .ensures) (local-each _ _ _ _ _ (pass-inside _ _ _ _ (at-loop .inv .1) in-loop)) (at-loop .inv .0) (at-loop .inv .2)
+    (c .before .before .pass-one .ensures) (local-each _ _ _ _ _ whole legal (pre .1)) (at-loop .inv .0)
+    (at-loop .inv .2)
 
 same-length : tie.Need-same-length Inv-loop μ-loop
 same-length c = c .before .loop .inv .0

@@ -1,8 +1,16 @@
+use Prim.Native.Nat.{ℕ}
 use Rattle.remus.specs.Undo.{back, zeroFrom}
 use Rattle.machine.specs.Act.{eachOf}
 use borrow.Author.Needs.{needs}
+use mathlib.Core.Path.{_≡_}
+use native.Mathlib.Omega.{arith}
 use Rattle.machine.proofs.undo.later_back.Statement.{statement}
 use Rattle.machine.proofs.undo.later_back.Tie as tie
+
+pass-over-requires : tie.Need-pass-over-requires
+pass-over-requires c κs =
+    let pre = c .before .before .before .pre in
+    (pre, λ e. let z : _≡_ {A = ℕ} 0 1 = cc in absurd (omega arith))
 
 returns : tie.Need-returns
 unfolding back zeroFrom eachOf
@@ -12,4 +20,4 @@ pub later-back-spec : {M : Type 1} → statement M
 later-back-spec =
     tie.close
     (tie.spec
-    (λ c κs. search needs) (λ c κs. search needs) (λ c. search needs) returns)
+    pass-over-requires (λ c κs. search needs) (λ c. search needs) returns)

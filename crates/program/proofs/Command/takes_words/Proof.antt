@@ -24,7 +24,7 @@ returns-4 c =
     by-code (λ (d : Cmd). true ≡ takesWords d) (c .before .args .self)
     (λ e. refl) (λ e. refl) (λ e. refl) (λ e. refl)
     (λ e. absurd (omega arith)) (λ e. absurd (omega arith)) (λ e. refl) (λ e. absurd (omega arith))
-    (λ e. refl) (λ e. refl) (λ e. refl)
+    (λ e. refl) (λ e. refl) (λ e. refl) (λ e. refl) (λ e. refl) (λ e. refl)
 
 pub takes-words-spec : {M : Type 1} → statement M
 takes-words-spec = tie.close (tie.spec returns returns-2 returns-3 returns-4)

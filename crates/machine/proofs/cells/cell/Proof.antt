@@ -1,0 +1,14 @@
+use Rattle.machine.proofs.Acting.{gives}
+use Rattle.remus.specs.Exec.{exec}
+use borrow.Author.Needs.{needs}
+use Rattle.machine.proofs.cells.cell.Statement.{statement}
+use Rattle.machine.proofs.cells.cell.Tie as tie
+
+returns : tie.Need-returns
+unfolding exec
+returns c =
+    let at-of-kind = c .before .before .before .before .of-kind in
+    λ h rd. gives _ _ _ _ _ _ (c .before .before .give .ensures) (at-of-kind .ensures)
+
+pub cell-spec : {M : Type 1} → statement M
+cell-spec = tie.close (tie.spec (λ c κs. search needs) (λ c κs. search needs) (λ c. search needs) returns)
