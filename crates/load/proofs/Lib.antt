@@ -5,3 +5,6 @@ pub mod Shapes
 pub mod Turns
 pub mod TableBytes
 pub mod Exact
+pub mod Conditions
+pub mod Primitives
+pub mod Sequence

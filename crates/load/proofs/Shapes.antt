@@ -1,8 +1,8 @@
--- Every location but a value's or a cell's has a shape as its kind: so it is before the first command, and so it stays.
--- With it a Supply that is not refused names one of a byte's bits.
+-- Every location but a value's or a cell's has a shape as its kind, and nothing stands past a reactor's locations: so it is before
+-- the first command, and so it stays. With it a Supply that is not refused names one of a byte's bits.
 -- Assumes nothing.
 use Prim.Native.Nat.{ℕ, zero, suc, _≤_, _<_}
-use mathlib.Core.Path.{_≡_, refl, sym, _∙_}
+use mathlib.Core.Path.{_≡_, refl, _∙_}
 use mathlib.Core.Bool.{Bool, true, false}
 use mathlib.Core.Logic.{_⊎_, inl, inr, ⊎-elim}
 use mathlib.Core.List.{List}
@@ -12,13 +12,14 @@ use lib.Seq.{getD-set-same, getD-set-other, set-out}
 use Rattle.value.specs.Test.{need, pick, _=?_}
 use Rattle.value.proofs.Tests.{cases, below, eq?, eq×?, lt?, le?, both?, not-true}
 use Rattle.value.proofs.Zeros.{zeros-at}
-use Rattle.program.specs.Bytes.{shapes}
-use Rattle.program.specs.Command.{Cmd, decode, allocMono, makePoly, constant, global, supply, react, consume, sink}
+use Rattle.program.specs.Bytes.{shapes, commandsIn}
+use Rattle.program.specs.Location.{sources, sinks, commandLoc, sinkLoc, locations}
+use Rattle.program.specs.Command.{Cmd, allocMono, makePoly, constant, global, supply, react, consume, sink}
 use Rattle.program.specs.Command.{allocPoly, primitive, cell, fetch, keep, none}
 use Rattle.program.specs.declared.Command.{Command}
-use Rattle.program.proofs.Decode.{as-supply}
-use Rattle.load.specs.Scan.{standingAt, kindAt, stand, isPoint, isDeployment, formed, located, agreed, disorder, refusalOf, standingAfter, advance, afterOf, withSources, withSinks, beginOf}
-use Rattle.load.specs.Legal.{LegalTables, Shaped, FreeSource}
+use Rattle.load.specs.Scan.{standingAt, kindAt, stand, isCell, isPoint, isDeployment, formed, located, agreed, disorder, refusalOf, standingAfter, advance, afterOf, withSources, withSinks, beginOf}
+use Rattle.load.specs.Legal.{LegalTables, Shaped, FreeSource, Within}
+use Rattle.load.specs.Lent.{right}
 use Rattle.load.specs.declared.Scan.{Scan}
 
 -- ---- what a stored entry is
@@ -85,19 +86,30 @@ module _ (p : List ℕ) (some : 0 < shapes p) where
   unfolding beginOf
   begin-shaped r = sinks-shaped r _ (sources-shaped r _ blank-shaped _) _
 
-  sources-next : (r : ℕ) (s : Scan) (n : ℕ) → withSources n p r s .next ≡ s .next
-  unfolding withSources stand
-  sources-next r s zero = refl
-  sources-next r s (suc n) = sources-next r s n
+-- ---- a state stays within the locations
 
-  sinks-next : (r : ℕ) (s : Scan) (n : ℕ) → withSinks n p r s .next ≡ s .next
-  unfolding withSinks stand
-  sinks-next r s zero = refl
-  sinks-next r s (suc n) = sinks-next r s n
+module _ (p : List ℕ) (r : ℕ) where
+  within-stand : (s : Scan) (l t k : ℕ) → Within p r s → l < locations p r → Within p r (stand s l t k)
+  unfolding stand standingAt
+  within-stand s l t k w h m g = getD-set-other (s .standing) l m t 0 (λ e. omega arith) ∙ w m g
 
-  pub begin-next : (r : ℕ) → beginOf p r .next ≡ 0
+  sources-within : (s : Scan) → Within p r s → (n : ℕ) → n ≤ sources p r → Within p r (withSources n p r s)
+  unfolding withSources locations sinkLoc
+  sources-within s w zero h = w
+  sources-within s w (suc n) h = within-stand _ n _ _ (sources-within s w n (omega arith)) (omega arith)
+
+  sinks-within : (s : Scan) → Within p r s → (n : ℕ) → n ≤ sinks p r → Within p r (withSinks n p r s)
+  unfolding withSinks locations sinkLoc
+  sinks-within s w zero h = w
+  sinks-within s w (suc n) h = within-stand _ _ _ _ (sinks-within s w n (omega arith)) (omega arith)
+
+  blank-within : Within p r (record { standing = replicate 174 0; kind = replicate 174 0; next = 0 })
+  unfolding standingAt
+  blank-within l g = zeros-at 174 l
+
+  pub begin-within : Within p r (beginOf p r)
   unfolding beginOf
-  begin-next r = sinks-next r _ _ ∙ sources-next r _ _
+  begin-within = sinks-within _ (sources-within _ blank-within _ (omega arith)) _ (omega arith)
 
 -- ---- a command that is not refused
 
@@ -123,6 +135,41 @@ module _ (p : List ℕ) (r : ℕ) (s : Scan) (c : Command) where
       let g = needed _ 5 _ (omega arith) (f .1) in
       record { formed = b .0; located = f .0; agreed = g .0; ordered = g .1 }
 
+  module _ (w : Within p r s) where
+    -- what stands is within the locations
+    stands-within : (b t : ℕ) → t ≤ standingAt s b → 0 < t → b < locations p r
+    stands-within b t h g =
+        ⊎-elim (λ (l : b < locations p r). l) (λ (l : locations p r ≤ b). absurd (omega (arith, w b l)))
+        (below b (locations p r))
+
+    standing-within : (here : ℕ) → here < locations p r → (d : Cmd) → NotRefused d → Within p r
+        (standingAfter p r s here d)
+    unfolding standingAfter located agreed isDeployment isPoint isCell locations sinkLoc
+    standing-within here h (allocMono x) n = within-stand p r s here _ _ w h
+    standing-within here h (makePoly x) n = within-stand p r s here _ _ w h
+    standing-within here h (constant x v) n = within-stand p r s here _ _ w h
+    standing-within here h (global x) n = within-stand p r s here _ _ w h
+    standing-within here h (supply x a b) n = within-stand p r s b _ _ w
+        (stands-within b 127 (le? (both? (n .located) .1)) (omega arith))
+    standing-within here h (react b) n = within-stand p r s b _ _ w
+        (stands-within b 127 (le? (n .located)) (omega arith))
+    standing-within here h (consume x b) n = within-stand p r s here _ _ w h
+    standing-within here h (sink x a) n = within-stand p r s _ _ _ w
+        (let l : x < sinks p r = lt? (both? (n .agreed) .0) in omega arith)
+    standing-within here h (allocPoly a b) n =
+        within-stand p r _ here _ _ (within-stand p r s b _ _ w
+        (stands-within b 4 (le? (both? (both? (n .located) .1) .0)) (omega arith))) h
+    standing-within here h (primitive x a b d) n = within-stand p r s here _ _ w h
+    standing-within here h (cell x v) n = within-stand p r s here _ _ w h
+    standing-within here h (fetch b) n = within-stand p r s here _ _ w h
+    standing-within here h (keep a b) n = within-stand p r s b _ _ w
+        (stands-within b 2 (le? (both? (both? (n .located) .1) .0)) (omega arith))
+    standing-within here h none n = w
+
+    pub after-within : s .next < commandsIn p r → (d : Cmd) → refusalOf p r s c d ≡ 0 → Within p r (afterOf p r s d)
+    unfolding afterOf advance standingAt commandLoc locations sinkLoc
+    after-within h d e = standing-within _ (omega arith) d (not-refused d e)
+
   module _ (legal : LegalTables p) (sh : Shaped p s) where
     -- the kind of a deployment or a branch point is a shape
     deployment-shape : (b : ℕ) → isDeployment s b ≡ true → kindAt s b < shapes p
@@ -135,12 +182,16 @@ module _ (p : List ℕ) (r : ℕ) (s : Scan) (c : Command) where
 
     standing-shaped : (here : ℕ) (d : Cmd) → NotRefused d → Shaped p (standingAfter p r s here d)
     unfolding standingAfter formed located
-    standing-shaped here (allocMono x) n = shaped-stand p (legal .some-shape) s here _ _ sh (λ g. legal .shape x (lt? (both? (n .formed) .1)))
-    standing-shaped here (makePoly x) n = shaped-stand p (legal .some-shape) s here _ _ sh (λ g. lt? (both? (n .formed) .1))
+    standing-shaped here (allocMono x) n = shaped-stand p (legal .some-shape) s here _ _ sh
+        (λ g. legal .shape x (lt? (both? (n .formed) .1)))
+    standing-shaped here (makePoly x) n = shaped-stand p (legal .some-shape) s here _ _ sh
+        (λ g. lt? (both? (n .formed) .1))
     standing-shaped here (constant x v) n = value-stand p (legal .some-shape) s here _ sh
     standing-shaped here (global x) n = value-stand p (legal .some-shape) s here _ sh
-    standing-shaped here (supply x a b) n = shaped-stand p (legal .some-shape) s b _ _ sh (λ g. deployment-shape b (both? (n .located) .1))
-    standing-shaped here (react b) n = shaped-stand p (legal .some-shape) s b _ _ sh (λ g. deployment-shape b (n .located))
+    standing-shaped here (supply x a b) n = shaped-stand p (legal .some-shape) s b _ _ sh
+        (λ g. deployment-shape b (both? (n .located) .1))
+    standing-shaped here (react b) n = shaped-stand p (legal .some-shape) s b _ _ sh
+        (λ g. deployment-shape b (n .located))
     standing-shaped here (consume x b) n = value-stand p (legal .some-shape) s here _ sh
     standing-shaped here (sink x a) n = shaped-stand p (legal .some-shape) s _ _ _ sh (λ g. legal .some-shape)
     standing-shaped here (allocPoly a b) n =
@@ -166,5 +217,10 @@ module _ (p : List ℕ) (r : ℕ) (s : Scan) (c : Command) where
         let u = needed _ 6 0 (omega arith) (o .1) in
         (omega arith, not-true _ (u .0))
 
-    pub free-source : c .code ≡ 5 → refusalOf p r s c (decode c) ≡ 0 → FreeSource s c
-    free-source q e = supply-free (not-refused _ (rw (sym (as-supply (λ (d : Cmd). d) c q refl)) at e))
+    pub free-source : right p r s c (supply (c .x) (c .a) (c .b)) ≡ true → FreeSource s c
+    unfolding right
+    free-source e =
+        let f = both? e in
+        let l = both? (both? (f .1) .1) in
+        let a = both? (l .1) in
+        supply-free (record { formed = f .0; located = l .0; agreed = a .0; ordered = eq? (a .1) })

@@ -1,22 +1,25 @@
--- One turn of the loop over a reactor's commands, and of the loop over the reactors, said of their definitions.
+-- One turn of the loops over a reactor's commands, and of the loop over the reactors, said of their definitions.
 -- Assumes nothing.
 use Prim.Native.Nat.{ℕ, zero, suc, _+_, _*_, _-_, _≤_, _<_}
-use mathlib.Core.Path.{_≡_, refl, sym, _∙_, ap}
-use mathlib.Core.Bool.{true, false}
+use mathlib.Core.Path.{_≡_, refl, sym, _∙_, ap, subst}
+use mathlib.Core.Bool.{Bool, true, false, true≢false}
 use mathlib.Core.List.{List}
 use native.Mathlib.Omega.{arith}
 use Rattle.value.proofs.Tests.{goes, stops}
 use Rattle.program.specs.Bytes.{commandsIn, commandsAt, commandAt, entryAt}
 use Rattle.program.specs.Command.{Cmd, decode, bytesAt, bytesOf}
 use Rattle.program.specs.declared.Command.{Command}
-use Rattle.load.specs.Scan.{refusalOf, afterOf, scanned, onward, scanOf, beginOf, complete}
+use Rattle.load.specs.Scan.{Scanned, refusalOf, afterOf, scanned, onward, scanOf, beginOf, complete}
 use Rattle.load.specs.Refusal.{atCommand}
 use Rattle.load.specs.Check.{ended, reactorsOf}
+use Rattle.load.specs.Legal.{LegalTables, Shaped, Within}
+use Rattle.load.specs.Lent.{Stepped, Stopped, Passed, Ran, refusalNext}
 use Rattle.load.specs.declared.Scan.{Scan}
-use Rattle.load.specs.declared.Scanned.{Scanned}
 use Rattle.load.specs.declared.Checked.{Checked}
 use Rattle.load.specs.declared.Checked.the-variants.{Refused}
 use Rattle.load.specs.declared.Refusal.the-variants.{Missing}
+use Rattle.load.proofs.Shapes.{after-shaped, after-within}
+use Rattle.load.proofs.Stands.{after-next}
 
 -- ---- a command
 
@@ -31,83 +34,160 @@ module _ (more : Scan → Scanned) (p : List ℕ) (r : ℕ) (s : Scan) (d : Cmd)
   onward-refused zero d = absurd (d refl)
   onward-refused (suc n) d = refl
 
-module _ (p : List ℕ) (r : ℕ) (s : Scan) (first : ℕ) (begins : first ≡ commandsAt p r) where
-  -- the byte of the next command, and its bytes
-  next-at : first + 8 * s .next ≡ commandAt p r (s .next)
-  unfolding commandAt
-  next-at = omega arith
+-- from s₀ on, all but `left` of the n commands have been taken
+pub record Running (p : List ℕ) (r n : ℕ) (s₀ s : Scan) (left : ℕ) : Type 0 where
+  pub scans : (m : ℕ) → scanOf (n + m) p r s₀ ≡ scanOf (left + m) p r s
+  pub count : s .next + left ≡ s₀ .next + n
+  pub few : left ≤ n
+  pub shaped : Shaped p s
+  pub within : Within p r s
 
-  scan-step : (n : ℕ) → 0 < n →
-      scanOf n p r s ≡ onward (scanOf (n - 1) p r) p r s (decode (bytesOf p r (s .next))) (refusalOf p r s (bytesOf p r (s .next)) (decode (bytesOf p r (s .next))))
+module _ (p : List ℕ) (r : ℕ) where
+  pub run-start : (n : ℕ) (s : Scan) → Shaped p s → Within p r s → Running p r n s s n
+  run-start n s sh w = record { scans = λ m. refl; count = refl; few = omega arith; shaped = sh; within = w }
+
+  pub run-done : (n : ℕ) (s₀ s : Scan) (left : ℕ) → Running p r n s₀ s left → left ≤ 0 → Passed p r n s₀ s
+  run-done n s₀ s left run h =
+      record {
+        on = λ m. run .scans m ∙ ap (λ (k : ℕ). scanOf k p r s) (omega arith);
+        count = omega (arith, run .count);
+        shaped = run .shaped;
+        within = run .within;
+      }
+
+  scan-step : (s : Scan) (n : ℕ) → 0 < n →
+      scanOf n p r s ≡ onward (scanOf (n - 1) p r) p r s (decode (bytesOf p r (s .next))) (refusalNext p r s)
   unfolding scanOf
-  scan-step zero h = absurd (omega arith)
-  scan-step (suc n) h = let e : suc n - 1 ≡ n = omega arith in rw e
+  scan-step s zero h = absurd (omega arith)
+  scan-step s (suc n) h = let e : suc n - 1 ≡ n = omega arith in rw e
 
-  module _ (n : ℕ) (c : Command) (code : ℕ) (h : 0 < n) (ec : c ≡ bytesAt p (first + 8 * s .next)) (en : code ≡ refusalOf p r s c (decode c)) where
+  -- the next command is read at its byte, and taken or refused
+  module _ (n : ℕ) (s₀ s : Scan) (left : ℕ) (run : Running p r n s₀ s left) (h : 0 < left)
+      (first : ℕ) (begins : first ≡ commandsAt p r) (c : Command) (ec : c ≡ bytesAt p (first + 8 * s .next))
+      (u : Scan) (t : Bool) (step : Stepped p r s u c t) where
     next-bytes : c ≡ bytesOf p r (s .next)
-    unfolding bytesOf
-    next-bytes = ec ∙ ap (bytesAt p) next-at
+    unfolding bytesOf commandAt
+    next-bytes = ec ∙ ap (bytesAt p) (omega arith)
 
-    turn : scanOf n p r s ≡ onward (scanOf (n - 1) p r) p r s (decode c) code
-    turn =
-        scan-step n h
-        ∙ ap (λ (c : Command). onward (scanOf (n - 1) p r) p r s (decode c) (refusalOf p r s c (decode c))) (sym next-bytes)
-        ∙ ap (onward (scanOf (n - 1) p r) p r s (decode c)) (sym en)
+    next-refusal : refusalOf p r s c (decode c) ≡ refusalNext p r s
+    next-refusal = ap (λ (c : Command). refusalOf p r s c (decode c)) next-bytes
 
-    pub scan-refused : (code ≡ 0 → ⊥) → scanned code (first + 8 * s .next) s ≡ scanOf n p r s
-    scan-refused d = sym (turn ∙ onward-refused _ p r s _ code d ∙ ap (λ (q : ℕ). scanned code q s) (sym next-at))
+    stopped-here : (refusalOf p r s c (decode c) ≡ 0 → ⊥) → Stopped p r n s₀ s
+    stopped-here d =
+        let no : refusalNext p r s ≡ 0 → ⊥ = (λ z. d (next-refusal ∙ z)) in
+        (no, λ m. run .scans m ∙ scan-step s (left + m) (omega arith) ∙ onward-refused _ p r s _ _ no)
 
-    pub scan-taken : code ≡ 0 → (t : Scan) → t ≡ afterOf p r s (decode c) → scanOf n p r s ≡ scanOf (n - 1) p r t
-    scan-taken z t e = turn ∙ onward-taken _ p r s _ code z ∙ ap (scanOf (n - 1) p r) (sym e)
+    pub run-refused : t ≡ true → Stopped p r n s₀ u
+    run-refused e = let q = step .stays e in subst (λ (v : Scan). Stopped p r n s₀ v) (sym (q .1)) (stopped-here (q .0))
 
-pub scan-done : (p : List ℕ) (r : ℕ) (s : Scan) (n : ℕ) → n ≤ 0 → scanned 0 0 s ≡ scanOf n p r s
-unfolding scanOf
-scan-done p r s zero h = refl
-scan-done p r s (suc n) h = absurd (omega arith)
+    module _ (legal : LegalTables p) (l : s .next < commandsIn p r) where
+      taken-here : refusalOf p r s c (decode c) ≡ 0 → Running p r n s₀ (afterOf p r s (decode c)) (left - 1)
+      taken-here z =
+          record {
+            scans = λ m.
+                run .scans m ∙ scan-step s (left + m) (omega arith)
+                ∙ onward-taken _ p r s _ _ (sym next-refusal ∙ z)
+                ∙ ap (λ (c : Command). scanOf (left + m - 1) p r (afterOf p r s (decode c))) (sym next-bytes)
+                ∙ ap (λ (k : ℕ). scanOf k p r (afterOf p r s (decode c))) (omega arith);
+            count = omega (arith, run .count, after-next p r s (decode c));
+            few = omega (arith, run .few);
+            shaped = after-shaped p r s c legal (run .shaped) (decode c) z;
+            within = after-within p r s c (run .within) l (decode c) z;
+          }
+
+      pub run-taken : t ≡ false → Running p r n s₀ u (left - 1)
+      run-taken e = let q = step .goes e in subst (λ (v : Scan). Running p r n s₀ v (left - 1)) (sym (q .1))
+          (taken-here (q .0))
+
+  -- ---- D commands, then R commands
+
+  pub ran-from : {n : ℕ} {s v u : Scan} {t : Bool} → s ≡ v → Ran p r n s u t → Ran p r n v u t
+  ran-from {n = n} {u = u} {t = t} e = subst (λ (v : Scan). Ran p r n v u t) e
+
+  module _ {n d : ℕ} (k : ℕ) {s u : Scan} (en : n ≡ d + k) where
+    pub ran-stopped : {t : Bool} → t ≡ true → Ran p r d s u t → Ran p r n s u t
+    ran-stopped e ran =
+        let q = ran .stopped e in
+        record {
+          stopped = λ z. (q .0, λ m. ap (λ (i : ℕ). scanOf i p r s) (omega arith) ∙ q .1 (k + m));
+          passed = λ z. absurd (true≢false (sym e ∙ z));
+        }
+
+    pub ran-both : {v : Scan} {t : Bool} → Passed p r d s u → Ran p r k u v t → Ran p r n s v t
+    ran-both first then =
+        let on : (m : ℕ) → scanOf (n + m) p r s ≡ scanOf (k + m) p r u =
+        (λ m. ap (λ (i : ℕ). scanOf i p r s) (omega arith) ∙ first .on (k + m)) in
+        record {
+          stopped = λ e. let q = then .stopped e in (q .0, λ m. on m ∙ q .1 m);
+          passed = λ e.
+              let q = then .passed e in
+              record {
+                on = λ m. on m ∙ q .on m;
+                count = omega (arith, q .count, first .count);
+                shaped = q .shaped;
+                within = q .within;
+              };
+        }
 
 -- ---- a reactor
 
-module _ (more : Unit {0} → Checked) (entry : ℕ) (t : Scanned) where
-  ended-refused : (n : ℕ) → (n ≡ 0 → ⊥) → Refused (atCommand n (t .place)) ≡ ended more entry t n
+module _ (more : Unit {0} → Checked) (entry : ℕ) where
+  ended-refused : (t : Scanned) (n q : ℕ) (u : Scan) → t ≡ scanned n q u → (n ≡ 0 → ⊥) → Refused (atCommand n q) ≡
+      ended more entry t (t .code)
   unfolding ended
-  ended-refused zero d = absurd (d refl)
-  ended-refused (suc n) d = refl
+  ended-refused t zero q u e d = absurd (d refl)
+  ended-refused t (suc n) q u e d = sym (ap (λ (t : Scanned). ended more entry t (t .code)) e)
 
-  ended-missing : (n : ℕ) → n ≡ 0 → complete (t .scan) ≡ false → Refused (Missing entry) ≡ ended more entry t n
+  ended-missing : (t : Scanned) (u : Scan) → t ≡ scanned 0 0 u → complete u ≡ false → Refused (Missing entry) ≡ ended
+      more entry t (t .code)
   unfolding ended
-  ended-missing zero z e = stops _ e refl
-  ended-missing (suc n) z e = absurd (omega arith)
+  ended-missing t u e q = stops _ q refl ∙ sym (ap (λ (t : Scanned). ended more entry t (t .code)) e)
 
-  ended-on : (n : ℕ) → n ≡ 0 → complete (t .scan) ≡ true → ended more entry t n ≡ more tt
+  ended-on : (t : Scanned) (u : Scan) → t ≡ scanned 0 0 u → complete u ≡ true → ended more entry t (t .code) ≡ more tt
   unfolding ended
-  ended-on zero z e = sym (goes _ _ e refl)
-  ended-on (suc n) z e = absurd (omega arith)
+  ended-on t u e q = ap (λ (t : Scanned). ended more entry t (t .code)) e ∙ sym (goes _ _ q refl)
 
 module _ (accepted : Checked) (p : List ℕ) (r : ℕ) where
   abbrev After : ℕ → Unit {0} → Checked
   After m _ = reactorsOf accepted m p (r + 1)
 
-  reactors-step : (m : ℕ) → 0 < m →
-      reactorsOf accepted m p r ≡ ended (After (m - 1)) (entryAt p r) (scanOf (commandsIn p r) p r (beginOf p r)) (scanOf (commandsIn p r) p r (beginOf p r) .code)
+  abbrev Scan-of : Scanned
+  Scan-of = scanOf (commandsIn p r) p r (beginOf p r)
+
+  reactors-step : (m : ℕ) → 0 < m → reactorsOf accepted m p r ≡ ended (After (m - 1)) (entryAt p r) Scan-of
+      (Scan-of .code)
   unfolding reactorsOf
   reactors-step zero h = absurd (omega arith)
   reactors-step (suc m) h = let e : suc m - 1 ≡ m = omega arith in rw e
 
-  module _ (m n : ℕ) (s : Scan) (t : Scanned) (h : 0 < m) (en : n ≡ commandsIn p r) (es : s ≡ beginOf p r) (et : t ≡ scanOf n p r s) where
-    reactor : ended (After (m - 1)) (entryAt p r) t (t .code) ≡ reactorsOf accepted m p r
-    reactor =
-        ap (λ (t : Scanned). ended (After (m - 1)) (entryAt p r) t (t .code))
-        (et ∙ ap (λ (n : ℕ). scanOf n p r s) en ∙ ap (scanOf (commandsIn p r) p r) es)
+  -- what the scan of the reactor with the number q comes to
+  module _ (m : ℕ) (h : 0 < m) {q : ℕ} {u : Scan} {t : Bool} (eq : q ≡ r)
+      (ran : Ran p q (commandsIn p q) (beginOf p q) u t) where
+    ran-here : Ran p r (commandsIn p r) (beginOf p r) u t
+    ran-here = subst (λ (q : ℕ). Ran p q (commandsIn p q) (beginOf p q) u t) eq ran
+
+    pub reactor-refused : t ≡ true → (at : ℕ) → at ≡ commandAt p r (u .next) →
+        Refused (atCommand (refusalOf p r u (bytesAt p at) (decode (bytesAt p at))) at) ≡ reactorsOf accepted m p r
+    unfolding bytesOf
+    reactor-refused e at f =
+        let stop = ran-here .stopped e in
+        let all : commandsIn p r ≡ commandsIn p r + 0 = omega arith in
+        ap (λ (i : ℕ). Refused (atCommand (refusalOf p r u (bytesAt p i) (decode (bytesAt p i))) i)) f
+        ∙ ended-refused (After (m - 1)) (entryAt p r) Scan-of _ _ u
+        (ap (λ (n : ℕ). scanOf n p r (beginOf p r)) all ∙ stop .1 0) (stop .0)
         ∙ sym (reactors-step m h)
 
-    pub reactor-refused : (t .code ≡ 0 → ⊥) → Refused (atCommand (t .code) (t .place)) ≡ reactorsOf accepted m p r
-    reactor-refused d = ended-refused _ _ t _ d ∙ reactor
+    module _ (e : t ≡ false) where
+      all-taken : Scan-of ≡ scanned 0 0 u
+      unfolding scanOf
+      all-taken = let all : commandsIn p r ≡ commandsIn p r + 0 = omega arith in ap
+          (λ (n : ℕ). scanOf n p r (beginOf p r)) all ∙ ran-here .passed e .on 0
 
-    pub reactor-missing : t .code ≡ 0 → complete (t .scan) ≡ false → Refused (Missing (entryAt p r)) ≡ reactorsOf accepted m p r
-    reactor-missing z e = ended-missing _ _ t _ z e ∙ reactor
+      pub reactor-missing : complete u ≡ false → Refused (Missing (entryAt p r)) ≡ reactorsOf accepted m p r
+      reactor-missing f = ended-missing (After (m - 1)) (entryAt p r) Scan-of u all-taken f ∙ sym (reactors-step m h)
 
-    pub reactor-taken : t .code ≡ 0 → complete (t .scan) ≡ true → reactorsOf accepted m p r ≡ reactorsOf accepted (m - 1) p (r + 1)
-    reactor-taken z e = sym reactor ∙ ended-on _ _ t _ z e
+      pub reactor-taken : complete u ≡ true → reactorsOf accepted m p r ≡ reactorsOf accepted (m - 1) p (r + 1)
+      reactor-taken f = reactors-step m h ∙ ended-on (After (m - 1)) (entryAt p r) Scan-of u all-taken f
 
   pub reactors-done : (m : ℕ) → m ≤ 0 → accepted ≡ reactorsOf accepted m p r
   unfolding reactorsOf

@@ -6,10 +6,9 @@ use lib.ListN.{length}
 use Rattle.value.specs.Test.{_and_, _≤?_, _=?_, guard, sweep}
 use Rattle.program.specs.Bytes.{mostBytes, headerEnd, reactors, mainOf, entryAt, tablesEnd, wholeLength, commandsIn}
 use Rattle.program.specs.Location.{sizeOf}
-use Rattle.load.specs.Scan.{scanOf, beginOf, complete}
+use Rattle.load.specs.Scan.{Scanned, scanOf, beginOf, complete}
 use Rattle.load.specs.Refusal.{refusalNumber, refusalPlace, atCommand}
 use Rattle.load.specs.Tables.{headerLegal, tableLegal}
-use Rattle.load.specs.declared.Scanned.{Scanned}
 use Rattle.load.specs.declared.Refusal.the-variants.{ProgramLength, TableByte, Missing}
 use Rattle.load.specs.declared.Checked.{Checked}
 use Rattle.load.specs.declared.Checked.the-variants.{Accepted, Refused}

@@ -5,6 +5,7 @@ use mathlib.Core.Bool.{false}
 use mathlib.Core.List.{List}
 use Rattle.program.specs.Bytes.{shapes, reactors, sourcesIn, shapeOf, commandsIn}
 use Rattle.program.specs.declared.Command.{Command}
+use Rattle.program.specs.Location.{locations}
 use Rattle.load.specs.Scan.{freePoint, standingAt, kindAt, isSupplied}
 use Rattle.load.specs.declared.Scan.{Scan}
 
@@ -22,3 +23,7 @@ FreeSource s c = (c .x < 8) × (isSupplied s (c .b) (c .x) ≡ false)
 -- a branch point's or deployment's kind is a shape; an own sink's is 0
 abbrev pub Shaped : List ℕ → Scan → Type 0
 Shaped p s = (l : ℕ) → freePoint ≤ standingAt s l → kindAt s l < shapes p
+
+-- nothing stands past the locations of reactor r
+abbrev pub Within : List ℕ → ℕ → Scan → Type 0
+Within p r s = (l : ℕ) → locations p r ≤ l → standingAt s l ≡ 0

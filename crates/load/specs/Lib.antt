@@ -11,3 +11,4 @@ pub mod Fault
 pub mod Kinds
 pub mod Open
 pub mod Programs
+pub mod Lent

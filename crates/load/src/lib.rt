@@ -1,31 +1,55 @@
 // The load check: which programs are accepted, and why another is refused. Document 01, "Bytecode"
 // and the table of refusals.
 //
-// A program is at most 65,535 bytes. The check reads its header and tables byte by byte and its
-// commands once, in order, and stops at the first fault. It is linear in the program's length; what
-// it knows of a reactor's locations is two tables of 174 bytes.
-mod after;
+// A program is at most 65,535 bytes. The check reads its header and tables as a whole, and looks for
+// the first byte that is not legal only where there is one; then its commands once, in order, and stops
+// at the first that is refused, whose number is sought only then. It is linear in the program's length;
+// what it knows of a reactor's locations is two tables of 174 bytes, which are lent to the scan and
+// changed in place.
 mod answer;
+mod giving;
+mod known;
 mod reactor;
 mod refuse;
 mod standing;
 mod tables;
+mod take;
 mod verdict;
 
 pub use verdict::check;
 
-// A standing and a kind for each of up to 174 locations, and the index of the next command.
+// A standing and a kind for each of up to 174 locations, and the index of the next command, as one
+// value: for the number of a refusal. The definitions of specs/ speak of it.
 pub struct Scan {
     pub standing: [u8; 174],
     pub kind: [u8; 174],
     pub next: u8,
 }
 
-// The state after some commands; or, where code is not 0, the refusal's number and its place.
-pub struct Scanned {
-    pub code: u8,
-    pub place: u32,
-    pub scan: Scan,
+// What goes from command to command beside the tables of standings and kinds: the index of the next
+// command, and whether that one is refused.
+pub struct Progress {
+    pub next: u8,
+    pub refused: bool,
+}
+
+// A reactor, and what is read once for all of its commands: the header's counts of shapes and globals,
+// and the reactor's own shape and counts.
+pub struct Facts {
+    pub reactor: u8,
+    pub shapes: u8,
+    pub globals: u8,
+    pub shape: u8,
+    pub sources: u8,
+    pub declared: u8,
+    pub running: u8,
+    pub sinks: u8,
+}
+
+// What the tables say of one location.
+pub struct Location {
+    pub standing: u8,
+    pub kind: u8,
 }
 
 // Why a call is refused: the rows of 01's table in its order, from 1 on, then those of 02, each with

@@ -28,7 +28,7 @@ ghost use Rattle.program.specs.Kind.{contentLegal};
 ghost use Rattle.load.specs.Scan as S;
 
 // 3 for a Constant and a Cell: x is a kind that is `allowed` there, and v is legal beside that kind.
-fn content_formed(program: &[u8], c: Command, allowed: bool) -> bool
+pub(crate) fn content_formed(program: &[u8], c: Command, allowed: bool) -> bool
     ensures { λ r. ⌜ r ≡ ((c .a + c .b =? 0) and allowed and contentLegal (now (program .entry)) (c .x) (C.vOf c)) ⌝ }
 {
     let v = c.v();

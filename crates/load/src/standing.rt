@@ -1,9 +1,14 @@
 // The standings and kinds of locations. Every function is total: past the tables a location stands
 // as nothing, and no change reaches it.
+use crate::Location;
 use crate::Scan;
+use program::byte;
 ghost use mathlib.Core.Path.{_≡_};
+ghost use Prim.Native.Nat.{ℕ, _/_, _%_, _^_};
+ghost use lib.ListN.{getD, set};
 ghost use Rattle.value.specs.Test.{_=?_};
 ghost use Rattle.load.specs.Bits.{byteBit};
+ghost use Rattle.load.specs.Lent.{state};
 ghost use Rattle.load.specs.Scan as S;
 
 // A deployment that awaits its React has WAITING and a bit for each source that is supplied.
@@ -38,27 +43,6 @@ impl Scan {
         if l < 174 { self.kind[l] } else { 0 }
     }
 
-    // The state with another standing and kind at l.
-    pub(crate) fn stand(self, l: usize, standing: u8, kind: u8) -> Scan
-        ensures { λ r. ⌜ r ≡ S.stand self l standing kind ⌝ }
-    {
-        let mut next = self;
-        if l < 174 {
-            next.standing[l] = standing;
-            next.kind[l] = kind;
-        }
-        next
-    }
-
-    // The state with another standing at l, its kind as it was.
-    pub(crate) fn stand_as(self, l: u8, standing: u8) -> Scan
-        ensures { λ r. ⌜ r ≡ S.stand self l standing (S.kindAt self l) ⌝ }
-    {
-        let at = l as usize;
-        let k = self.kind_at(at);
-        self.stand(at, standing, k)
-    }
-
     pub(crate) fn is_value(self, l: u8) -> bool
         ensures { λ r. ⌜ r ≡ S.isValue self l ⌝ }
     {
@@ -89,9 +73,44 @@ impl Scan {
     pub(crate) fn is_supplied(self, l: u8, x: u8) -> bool
         ensures { λ r. ⌜ r ≡ S.isSupplied self l x ⌝ }
     {
-        let s = self.standing_at(l as usize);
-        s as u16 / bit(x) % 2 == 1
+        has_source(self.standing_at(l as usize), x)
     }
+}
+
+// What the lent tables say of location l; past them nothing stands there.
+pub(crate) fn seen(standing: &[u8; 174], kind: &[u8; 174], l: u8) -> Location
+    ensures standing { λ s. ⌜ s .standing ≡ getD (now (standing .entry)) l 0 ⌝ }
+    ensures kind { λ s. ⌜ s .kind ≡ getD (now (kind .entry)) l 0 ⌝ }
+{
+    let at = l as usize;
+    Location {
+        standing: byte(standing, at),
+        kind: byte(kind, at),
+    }
+}
+
+// Makes v the entry of location l, unless it lies past the table.
+pub(crate) fn put(table: &mut [u8], l: usize, v: u8)
+    ensures { λ _. ⌜ now (table .exit) ≡ set (now (table .entry)) l v ⌝ }
+{
+    if l < table.len() {
+        table[l] = v;
+    }
+}
+
+// Gives location l another standing and kind.
+pub(crate) fn stand(standing: &mut [u8; 174], kind: &mut [u8; 174], l: usize, s: u8, k: u8)
+    ensures { λ _. ⌜ ((n : ℕ) → state (now (standing .exit)) (now (kind .exit)) n ≡ S.stand (state (now (standing .entry)) (now (kind .entry)) n) l s k) ⌝ }
+{
+    put(standing, l, s);
+    put(kind, l, k);
+}
+
+// Whether a deployment of this standing has source x supplied.
+pub(crate) fn has_source(standing: u8, x: u8) -> bool
+    ensures { λ r. ⌜ r ≡ (standing / 2 ^ x % 2 =? 1) ⌝ }
+{
+    standing as u16 / bit(x) % 2 == 1
 }
 
 // The weight of bit x of a byte; 256, which no byte reaches, for a higher one.

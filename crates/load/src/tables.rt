@@ -2,16 +2,19 @@
 use program::Header;
 use program::byte;
 use program::entry_at;
+use program::globals;
 use program::main_of;
+use program::reactors;
 use program::shape_at;
 use program::shapes;
-use program::sink_kind;
 use program::sinks_in;
 use program::sources_in;
 use program::tables_end;
 ghost use mathlib.Core.Path.{_≡_};
-ghost use Prim.Native.Nat.{ℕ, _-_, _<_};
-ghost use Rattle.value.specs.Test.{sweep, _<?_};
+ghost use mathlib.Core.Bool.{not};
+ghost use lib.ListN.{length};
+ghost use Prim.Native.Nat.{ℕ, _+_, _-_, _≤_, _<_};
+ghost use Rattle.value.specs.Test.{sweep, _and_, _or_, _<?_, _=?_};
 ghost use Rattle.program.specs.Bytes as B;
 ghost use Rattle.load.specs.Tables as T;
 
@@ -33,6 +36,21 @@ fn header_legal(program: &[u8], i: u8) -> bool
         3 => h.globals <= Header::MOST_GLOBALS,
         _ => byte(program, i as usize) == 0,
     }
+}
+
+// Whether every byte of the header is legal.
+pub(crate) fn header_passes(program: &[u8]) -> bool
+    ensures { λ t. ⌜ t ≡ (sweep (T.headerLegal (now (program .entry))) 0 8 =? 8) ⌝ }
+{
+    let counts = header_legal(program, 0)
+        & header_legal(program, 1)
+        & header_legal(program, 2)
+        & header_legal(program, 3);
+    counts
+        & header_legal(program, 4)
+        & header_legal(program, 5)
+        & header_legal(program, 6)
+        & header_legal(program, 7)
 }
 
 // The first byte of the header that is not legal; 8 if there is none.
@@ -76,34 +94,44 @@ fn shape_legal(program: &[u8], s: u8, k: u8) -> bool
     port_legal(s, sinks_in(program, s), k - 9, x)
 }
 
-// The first sink of shape s that is a reactor's; 7 if there is none.
-fn reactor_sink(program: &[u8], s: u8) -> u8
-    ensures { λ r. ⌜ r ≡ sweep (λ (x : ℕ). B.sinkKind (now (program .entry)) s x <? 2) 0 7 ⌝ }
+// Whether main may have shape s: no sources, and no reactor kind among its sinks. This loop and those
+// below that answer a truth have no way out: where a program is accepted there is none to take.
+fn main_fits(program: &[u8], s: u8) -> bool
+    requires { ⌜ B.shapeAt (now program) s + 16 ≤ length (now program) ⌝ }
+    ensures { λ t. ⌜ t ≡ T.mainLegal (now (program .entry)) s ⌝ }
 {
+    let at = shape_at(program, s) as usize;
+    let mut all = program[at] == 0;
     let mut x: u8 = 0;
     while x < Header::MOST_SINKS {
-        if !(sink_kind(program, s, x) < 2) {
-            return x;
-        }
+        all = all & (program[at + 9 + x as usize] < 2);
         x = x + 1;
     }
-    x
+    all
 }
 
-// Whether main may have shape s: no sources, and no reactor kind among its sinks.
-fn main_legal(program: &[u8], s: u8) -> bool
-    ensures { λ r. ⌜ r ≡ T.mainLegal (now (program .entry)) s ⌝ }
+// Whether reactor r may have shape s.
+fn shape_fits(program: &[u8], r: u8, s: u8) -> bool
+    requires { ⌜ B.entryAt (now program) 0 ≤ length (now program) ⌝ }
+    ensures { λ t. ⌜ t ≡ ((s <? B.shapes (now (program .entry))) and (not (r =? B.mainOf (now (program .entry))) or T.mainLegal (now (program .entry)) s)) ⌝ }
 {
-    (sources_in(program, s) == 0) & (reactor_sink(program, s) == 7)
+    if shapes(program) <= s {
+        return false;
+    }
+    if r != main_of(program) {
+        return true;
+    }
+    main_fits(program, s)
 }
 
 // Whether byte k of the entry of reactor r is legal.
 fn entry_legal(program: &[u8], r: u8, k: u8) -> bool
+    requires { ⌜ B.entryAt (now program) 0 ≤ length (now program) ⌝ }
     ensures { λ t. ⌜ t ≡ T.entryLegal (now (program .entry)) r k ⌝ }
 {
     let x = byte(program, entry_at(program, r as u32) + k as usize);
     if k == 0 {
-        return (x < shapes(program)) & (!(r == main_of(program)) | main_legal(program, x));
+        return shape_fits(program, r, x);
     }
     if k == 1 {
         return x <= Header::MOST_DECLARED;
@@ -116,7 +144,8 @@ fn entry_legal(program: &[u8], r: u8, k: u8) -> bool
 
 // Whether byte i of the tables is legal.
 fn table_legal(program: &[u8], i: u16) -> bool
-    requires { ⌜ i < B.tablesEnd (now program) ⌝ }
+    requires here { ⌜ i < B.tablesEnd (now program) ⌝ }
+    requires inside { ⌜ B.tablesEnd (now program) ≤ length (now program) ⌝ }
     ensures { λ r. ⌜ r ≡ T.tableLegal (now (program .entry)) i ⌝ }
 {
     let s = shape_at(program, 0);
@@ -132,8 +161,102 @@ fn table_legal(program: &[u8], i: u16) -> bool
     entry_legal(program, (o / 4) as u8, (o % 4) as u8)
 }
 
+// Whether the kinds of all globals are legal.
+fn globals_pass(program: &[u8]) -> bool
+    requires { ⌜ B.shapeAt (now program) 0 ≤ length (now program) ⌝ }
+    ensures { λ t. ⌜ t ≡ (sweep (λ (i : ℕ). B.byte (now (program .entry)) (8 + i) <? 2) 0 (B.globals (now (program .entry))) =? B.globals (now (program .entry))) ⌝ }
+{
+    let n = globals(program);
+    let mut all = true;
+    let mut i: u8 = 0;
+    while i < n {
+        all = all & (program[8 + i as usize] < 2);
+        i = i + 1;
+    }
+    all
+}
+
+// Whether the seven kinds from byte `at` on will do for the n ports of shape s.
+fn ports_pass(program: &[u8], at: usize, s: u8, n: u8) -> bool
+    requires { ⌜ (at + 7 ≤ length (now program)) × (s < 255) ⌝ }
+    ensures { λ t. ⌜ t ≡ (sweep (λ (x : ℕ). T.portLegal s n x (B.byte (now (program .entry)) (at + x))) 0 7 =? 7) ⌝ }
+{
+    let mut all = true;
+    let mut x: u8 = 0;
+    while x < Header::MOST_SOURCES {
+        let most = if x < n { s + 1 } else { 0 };
+        all = all & (program[at + x as usize] <= most);
+        x = x + 1;
+    }
+    all
+}
+
+// Whether every byte of shape s is legal, which stands at byte `at`.
+fn shape_passes(program: &[u8], at: usize, s: u8) -> bool
+    requires { ⌜ (at ≡ B.shapeAt (now program) s) × (at + 16 ≤ length (now program)) × (s < 255) ⌝ }
+    ensures { λ t. ⌜ t ≡ (sweep (T.shapeLegal (now (program .entry)) s) 0 16 =? 16) ⌝ }
+{
+    let n = program[at];
+    let m = program[at + 1];
+    (n <= Header::MOST_SOURCES)
+        & (between(1, Header::MOST_SINKS, m)
+            & (ports_pass(program, at + 2, s, n) & ports_pass(program, at + 9, s, m)))
+}
+
+fn shapes_pass(program: &[u8]) -> bool
+    requires { ⌜ B.entryAt (now program) 0 ≤ length (now program) ⌝ }
+    ensures { λ t. ⌜ t ≡ (sweep (λ (s : ℕ). sweep (T.shapeLegal (now (program .entry)) s) 0 16 =? 16) 0 (B.shapes (now (program .entry))) =? B.shapes (now (program .entry))) ⌝ }
+{
+    let n = shapes(program);
+    let mut at = shape_at(program, 0) as usize;
+    let mut all = true;
+    let mut s: u8 = 0;
+    while s < n {
+        all = all & shape_passes(program, at, s);
+        at = at + 16;
+        s = s + 1;
+    }
+    all
+}
+
+// Whether every byte of the entry of reactor r is legal, which stands at byte `at`.
+fn entry_passes(program: &[u8], at: usize, r: u8) -> bool
+    requires { ⌜ (at ≡ B.entryAt (now program) r) × (at + 4 ≤ length (now program)) ⌝ }
+    ensures { λ t. ⌜ t ≡ (sweep (T.entryLegal (now (program .entry)) r) 0 4 =? 4) ⌝ }
+{
+    shape_fits(program, r, program[at])
+        & (program[at + 1] <= Header::MOST_DECLARED)
+        & between(1, Header::MOST_RUNNING, program[at + 2])
+        & (program[at + 3] == 0)
+}
+
+fn entries_pass(program: &[u8]) -> bool
+    requires { ⌜ B.tablesEnd (now program) ≤ length (now program) ⌝ }
+    ensures { λ t. ⌜ t ≡ (sweep (λ (r : ℕ). sweep (T.entryLegal (now (program .entry)) r) 0 4 =? 4) 0 (B.reactors (now (program .entry))) =? B.reactors (now (program .entry))) ⌝ }
+{
+    let n = reactors(program);
+    let mut at = entry_at(program, 0);
+    let mut all = true;
+    let mut r: u8 = 0;
+    while r < n {
+        all = all & entry_passes(program, at, r);
+        at = at + 4;
+        r = r + 1;
+    }
+    all
+}
+
+// Whether every byte of the tables is legal.
+pub(crate) fn tables_pass(program: &[u8]) -> bool
+    requires { ⌜ B.tablesEnd (now program) ≤ length (now program) ⌝ }
+    ensures { λ t. ⌜ t ≡ (sweep (T.tableLegal (now (program .entry))) 8 (B.tablesEnd (now (program .entry)) - 8) =? B.tablesEnd (now (program .entry))) ⌝ }
+{
+    globals_pass(program) & shapes_pass(program) & entries_pass(program)
+}
+
 // The first byte of the tables that is not legal; the byte after them if there is none.
 pub(crate) fn table_fault(program: &[u8]) -> u16
+    requires { ⌜ B.tablesEnd (now program) ≤ length (now program) ⌝ }
     ensures { λ r. ⌜ r ≡ sweep (T.tableLegal (now (program .entry))) 8 (B.tablesEnd (now (program .entry)) - 8) ⌝ }
 {
     let end = tables_end(program);

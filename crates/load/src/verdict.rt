@@ -3,23 +3,32 @@
 use crate::Checked;
 use crate::Refusal;
 use crate::Scan;
+use crate::known::facts_of;
+use crate::reactor::complete;
+use crate::reactor::scan;
 use crate::tables::header_fault;
+use crate::tables::header_passes;
 use crate::tables::table_fault;
+use crate::tables::tables_pass;
 use program::Header;
-use program::commands_in;
+use program::bytes_at;
 use program::entry_at;
 use program::main_of;
 use program::reactors;
-use program::size_of;
+use program::results_from;
 use program::tables_end;
 use program::whole_length;
 ghost use mathlib.Core.Path.{_≡_};
+ghost use lib.ListN.{length};
+ghost use Prim.Native.Nat.{_≤_, _<_};
 ghost use Rattle.value.specs.Test.{_and_, _≤?_};
 ghost use Rattle.program.specs.Bytes as B;
+ghost use Rattle.program.specs.Command as C;
 ghost use Rattle.program.specs.Location as L;
 ghost use Rattle.load.specs.Check.{checkOf, numberOf, placeOf, reactorsOf};
 ghost use Rattle.load.specs.Legal.{LegalTables};
 ghost use Rattle.load.specs.Refusal.{atCommand};
+ghost use Rattle.load.specs.Scan as S;
 ghost use Rattle.load.specs.declared.Checked.the-variants.{Accepted};
 
 // The refusal of the command at byte `at`, by its number.
@@ -38,29 +47,65 @@ fn at_command(number: u8, at: usize) -> Refusal
     }
 }
 
+// The refusal of the command at byte `at`, the next of reactor r in state s.
+fn refusal(program: &[u8], r: u8, at: u32, s: Scan) -> Refusal
+    ensures { λ w. ⌜ w ≡ atCommand (S.refusalOf (now (program .entry)) r s (C.bytesAt (now (program .entry)) at) (C.decode (C.bytesAt (now (program .entry)) at))) at ⌝ }
+{
+    let c = bytes_at(program, at as u64);
+    let number = s.refuse(program, r, c);
+    at_command(number, at as usize)
+}
+
+// How many of main's R commands have a result; they are the program's last.
+fn main_results(program: &[u8], n: u8) -> u8
+    requires here { ⌜ (n ≡ B.running (now program) (B.mainOf (now program))) × (0 < B.reactors (now program)) ⌝ }
+    requires whole { ⌜ (length (now program) ≡ B.wholeLength (now program)) × (length (now program) ≤ 65535) ⌝ }
+    ensures { λ m. ⌜ m ≡ L.results (now (program .entry)) (B.mainOf (now (program .entry))) n ⌝ }
+{
+    let at = program.len() - 8 * (n as usize);
+    results_from(program, at as u64, n)
+}
+
+// The words that main takes.
+fn main_size(program: &[u8]) -> usize
+    requires tables { ⌜ LegalTables (now program) ⌝ }
+    requires whole { ⌜ (0 < B.reactors (now program)) × (length (now program) ≡ B.wholeLength (now program)) × (length (now program) ≤ 65535) ⌝ }
+    ensures { λ n. ⌜ n ≡ L.sizeOf (now (program .entry)) (B.mainOf (now (program .entry))) ⌝ }
+{
+    let f = facts_of(program, main_of(program));
+    let results = main_results(program, f.running);
+    3 + 2 * (f.sources as usize + f.declared as usize + results as usize + f.sinks as usize)
+}
+
 // The reactors, one after the other.
 fn check_reactors(program: &[u8]) -> Checked
-    requires { ⌜ LegalTables (now program) ⌝ }
+    requires tables { ⌜ LegalTables (now program) ⌝ }
+    requires whole { ⌜ (0 < B.reactors (now program)) × (length (now program) ≡ B.wholeLength (now program)) × (length (now program) ≤ 65535) ⌝ }
     ensures { λ c. ⌜ c ≡ reactorsOf (Accepted (L.sizeOf (now (program .entry)) (B.mainOf (now (program .entry))))) (B.reactors (now (program .entry))) (now (program .entry)) 0 ⌝ }
 {
     let count = reactors(program);
     let mut first = tables_end(program) as u32;
     let mut r: u8 = 0;
     while r < count {
-        let n = commands_in(program, r as u32);
-        let s = Scan::begin(program, r);
-        let t = s.run(program, r, first, n);
-        if t.code != 0 {
-            return Checked::Refused(at_command(t.code, t.place as usize));
+        let f = facts_of(program, r);
+        let mut standing: [u8; 174] = [0; 174];
+        let mut kind: [u8; 174] = [0; 174];
+        let t = scan(program, f, &mut standing, &mut kind, first);
+        if t.refused {
+            let s = Scan {
+                standing,
+                kind,
+                next: t.next,
+            };
+            return Checked::Refused(refusal(program, r, first + 8 * (t.next as u32), s));
         }
-        let end = t.scan;
-        if !end.complete() {
+        if !complete(&standing, f.first_sink() + f.sinks as usize) {
             return Checked::Refused(Refusal::Missing(entry_at(program, r as u32)));
         }
-        first = first + 8 * (n as u32);
+        first = first + 8 * (f.declared as u32 + f.running as u32);
         r = r + 1;
     }
-    Checked::Accepted(size_of(program, main_of(program) as u32) as usize)
+    Checked::Accepted(main_size(program))
 }
 
 // Whether a program may have n bytes: the header's at least, and "at most 65,535".
@@ -80,17 +125,15 @@ pub fn check(program: &[u8]) -> Checked
     if !length_legal(n) {
         return Checked::Refused(Refusal::ProgramLength(n));
     }
-    let h = header_fault(program);
-    if h != Header::BYTES {
-        return Checked::Refused(Refusal::TableByte(h as usize));
+    if !header_passes(program) {
+        return Checked::Refused(Refusal::TableByte(header_fault(program) as usize));
     }
     let end = tables_end(program);
     if n < end as usize {
         return Checked::Refused(Refusal::ProgramLength(n));
     }
-    let t = table_fault(program);
-    if t != end {
-        return Checked::Refused(Refusal::TableByte(t as usize));
+    if !tables_pass(program) {
+        return Checked::Refused(Refusal::TableByte(table_fault(program) as usize));
     }
     if n != whole_length(program) as usize {
         return Checked::Refused(Refusal::ProgramLength(n));

@@ -4,3 +4,4 @@ pub mod Command
 pub mod Location
 pub mod Kind
 pub mod Open
+pub mod Counts

@@ -19,7 +19,7 @@ use crate::Command;
 use crate::bytes::byte;
 use crate::entry::commands_at;
 ghost use mathlib.Core.Path.{_≡_};
-ghost use Prim.Native.Nat.{_≤_};
+ghost use Prim.Native.Nat.{_+_, _≤_};
 ghost use lib.ListN.{length};
 ghost use Rattle.program.specs.Bytes as B;
 ghost use Rattle.program.specs.Command as C;
@@ -60,19 +60,6 @@ impl Command {
             + 65536 * (self.v2 as u32)
             + 16777216 * (self.v3 as u32)
     }
-
-    // Whether it has a result, and so takes words in memory: Supply, React and Sink have none.
-    pub fn takes_words(self) -> bool
-        ensures { λ t. ⌜ t ≡ C.takesWords (C.decode self) ⌝ }
-    {
-        let code = self.code;
-        match code {
-            Command::SUPPLY => false,
-            Command::REACT => false,
-            Command::SINK => false,
-            _ => true,
-        }
-    }
 }
 
 // The place `at`, or the program's end if it lies past it: the bytes from there on are the same.
@@ -87,8 +74,48 @@ fn place(program: &[u8], at: u64) -> usize
     }
 }
 
-// The eight bytes from byte `at` on.
-pub fn bytes_at(program: &[u8], at: u64) -> Command
+// The same bytes by way of one word, low byte first: what is read byte by byte before it the compiler
+// then reads at once.
+fn through_word(c: Command) -> Command
+    ensures { λ r. ⌜ r ≡ c ⌝ }
+{
+    let w = c.code as u64
+        + 256 * (c.x as u64)
+        + 65536 * (c.a as u64)
+        + 16777216 * (c.b as u64)
+        + 4294967296 * (c.v() as u64);
+    let v = w / 4294967296;
+    Command {
+        code: (w % 256) as u8,
+        x: (w / 256 % 256) as u8,
+        a: (w / 65536 % 256) as u8,
+        b: (w / 16777216 % 256) as u8,
+        v0: (v % 256) as u8,
+        v1: (v / 256 % 256) as u8,
+        v2: (v / 65536 % 256) as u8,
+        v3: (v / 16777216 % 256) as u8,
+    }
+}
+
+// The eight bytes from byte i on, where the program has them all.
+pub fn bytes_within(program: &[u8], i: usize) -> Command
+    requires { ⌜ i + 8 ≤ length (now program) ⌝ }
+    ensures { λ c. ⌜ c ≡ C.bytesAt (now (program .entry)) i ⌝ }
+{
+    through_word(Command {
+        code: program[i],
+        x: program[i + 1],
+        a: program[i + 2],
+        b: program[i + 3],
+        v0: program[i + 4],
+        v1: program[i + 5],
+        v2: program[i + 6],
+        v3: program[i + 7],
+    })
+}
+
+// The same at the program's end and past it.
+fn bytes_near_end(program: &[u8], at: u64) -> Command
     ensures { λ c. ⌜ c ≡ C.bytesAt (now (program .entry)) at ⌝ }
 {
     let i = place(program, at);
@@ -102,6 +129,19 @@ pub fn bytes_at(program: &[u8], at: u64) -> Command
         v2: byte(program, i + 6),
         v3: byte(program, i + 7),
     }
+}
+
+// The eight bytes from byte `at` on.
+pub fn bytes_at(program: &[u8], at: u64) -> Command
+    ensures { λ c. ⌜ c ≡ C.bytesAt (now (program .entry)) at ⌝ }
+{
+    let n = program.len() as u64;
+    if 8 <= n {
+        if at <= n - 8 {
+            return bytes_within(program, at as usize);
+        }
+    }
+    bytes_near_end(program, at)
 }
 
 // The byte at which command i of reactor r stands.

@@ -6,6 +6,7 @@
 mod bytes;
 mod commands;
 mod entry;
+mod facts;
 mod kind;
 mod location;
 mod shape;
@@ -17,6 +18,7 @@ pub use bytes::reactors;
 pub use bytes::shapes;
 pub use commands::bytes_at;
 pub use commands::bytes_of;
+pub use commands::bytes_within;
 pub use entry::commands_at;
 pub use entry::commands_in;
 pub use entry::declared;
@@ -26,10 +28,15 @@ pub use entry::running;
 pub use entry::shape_of;
 pub use entry::tables_end;
 pub use entry::whole_length;
+pub use facts::fact;
+pub use facts::fill_facts;
+pub use facts::size_in;
 pub use kind::content_legal;
 pub use kind::legal;
 pub use kind::mark_of;
 pub use location::command_loc;
+pub use location::result_of;
+pub use location::results_from;
 pub use location::sink_loc;
 pub use location::sinks;
 pub use location::size_of;
@@ -60,4 +67,9 @@ pub struct Command {
     pub v1: u8,
     pub v2: u8,
     pub v3: u8,
+}
+
+// What is asked of a reactor most often, in one number: see facts.rt.
+pub struct Counts {
+    pub word: u64,
 }

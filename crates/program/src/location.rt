@@ -1,6 +1,7 @@
 // Locations of a reactor, from 0: sources, D commands, R commands, sinks; and the words that a
 // deployment takes.
-use crate::commands::bytes_at;
+use crate::Command;
+use crate::bytes::byte;
 use crate::entry::commands_at;
 use crate::entry::commands_in;
 use crate::entry::declared;
@@ -9,8 +10,12 @@ use crate::entry::shape_of;
 use crate::shape::sinks_in;
 use crate::shape::sources_in;
 ghost use mathlib.Core.Path.{_≡_};
-ghost use Prim.Native.Nat.{_≤_, _<_};
+ghost use Prim.Native.Nat.{ℕ, _≤_, _<_};
+ghost use Rattle.value.specs.Test.{pick};
+ghost use Rattle.program.specs.Bytes as B;
+ghost use Rattle.program.specs.Command as C;
 ghost use Rattle.program.specs.Location as L;
+ghost use Rattle.program.specs.declared.Command.{Command};
 
 // How many sources reactor r has.
 pub fn sources(program: &[u8], r: u32) -> u8
@@ -42,22 +47,44 @@ pub fn sink_loc(program: &[u8], r: u32, x: u8) -> u16
     sources(program, r) as u16 + commands_in(program, r) + x as u16
 }
 
+// 1 for a command that has a result, and so takes words in memory; 0 for Supply, React and Sink.
+pub fn result_of(code: u8) -> u8
+    ensures is { λ n. ⌜ ((c : Command) → c .code ≡ code → n ≡ pick (C.takesWords (C.decode c)) 1 0) ⌝ }
+    ensures one { λ n. ⌜ n < 2 ⌝ }
+{
+    match code {
+        Command::SUPPLY => 0,
+        Command::REACT => 0,
+        Command::SINK => 0,
+        _ => 1,
+    }
+}
+
+// How many of the n R commands from byte `at` on have a result.
+pub fn results_from(program: &[u8], at: u64, n: u8) -> u8
+    requires { ⌜ at < 30000000000000 ⌝ }
+    ensures is { λ m.
+        let p = now (program .entry) in
+        ⌜ ((r : ℕ) → at ≡ B.commandAt p r (B.declared p r) → m ≡ L.results p r n) ⌝ }
+    ensures few { λ m. ⌜ m ≤ n ⌝ }
+{
+    let i = at as usize;
+    let mut m: u8 = 0;
+    let mut j: u8 = 0;
+    while j < n {
+        m = m + result_of(byte(program, i + 8 * (j as usize)));
+        j = j + 1;
+    }
+    m
+}
+
 // How many of the first n R commands of reactor r have a result.
 fn results(program: &[u8], r: u32, n: u8) -> u8
     ensures is { λ m. ⌜ m ≡ L.results (now (program .entry)) r n ⌝ }
     ensures few { λ m. ⌜ m ≤ n ⌝ }
 {
-    let first = commands_at(program, r) + 8 * (declared(program, r) as u64);
-    let mut m: u8 = 0;
-    let mut j: u8 = 0;
-    while j < n {
-        let c = bytes_at(program, first + 8 * (j as u64));
-        if c.takes_words() {
-            m = m + 1;
-        }
-        j = j + 1;
-    }
-    m
+    let at = commands_at(program, r) + 8 * (declared(program, r) as u64);
+    results_from(program, at, n)
 }
 
 // Where the words of location l begin, from the deployment's first: after three (reactor, wired,

@@ -2,10 +2,12 @@
 use Prim.Native.Nat.{ℕ, zero, suc, _+_, _≤_, _<_}
 use native.Mathlib.Omega.{arith}
 use native.Mathlib.Nat.{eq-or-lt-of-le}
-use mathlib.Core.Path.{_≡_, subst}
-use mathlib.Core.Logic.{⊎-elim}
+use mathlib.Core.Path.{_≡_, refl, subst}
+use mathlib.Core.Logic.{_≢_, ⊎-elim}
 use lib.ListN.{List·getD-eq-default}
-use Rattle.value.specs.Primitive.{table, none, rowOf}
+use Rattle.value.specs.Primitive.{table, none, rowOf, primitive}
+use Rattle.value.specs.declared.Value.{Value}
+use Rattle.value.proofs.Tests.{below}
 
 -- Q holds of the n numbers from k on
 abbrev pub Each : (ℕ → Type 0) → ℕ → ℕ → Type 0
@@ -30,3 +32,15 @@ missed k (suc n) x low m = omega (arith, missed k n x low (m .0), m .1)
 pub past : (x : ℕ) → 14 ≤ x → rowOf x ≡ none
 unfolding rowOf table
 past x h = List·getD-eq-default table none h
+
+-- a primitive but the choice does not look at its third operand
+pub third-unread : (x : ℕ) (a b c d : Value) → x ≢ 11 → primitive x a b c ≡ primitive x a b d
+unfolding primitive rowOf table
+third-unread x a b c d n =
+    ⊎-elim
+    (λ (h : x < 11). each (λ x. primitive x a b c ≡ primitive x a b d) 0 11
+    (refl, (refl, (refl, (refl, (refl, (refl, (refl, (refl, (refl, (refl, (refl, tt))))))))))) x (omega arith) h)
+    (λ (h : 11 ≤ x).
+    ⊎-elim
+    (λ (g : x < 14). each (λ x. primitive x a b c ≡ primitive x a b d) 12 2 (refl, (refl, tt)) x (omega (arith, n)) g)
+    (λ (g : 14 ≤ x). rw (past x g)) (below x 14)) (below x 11)

@@ -231,7 +231,7 @@ module _ (p : List ℕ) where
   header-first = omega (arith, globals-end, shapes-end, entries-end)
 
   -- the bytes of the globals, of each shape and of each entry
-  three-tables : Passes (tableLegal p) headerEnd (tablesEnd p) ↔
+  pub three-tables : Passes (tableLegal p) headerEnd (tablesEnd p) ↔
       (Passes (λ i. byte p i <? 2) headerEnd (shapeAt p 0) ×
       ((s : ℕ) → s < shapes p → (k : ℕ) → k < 16 → shapeLegal p s k ≡ true) ×
       ((r : ℕ) → r < reactors p → (k : ℕ) → k < 4 → entryLegal p r k ≡ true))

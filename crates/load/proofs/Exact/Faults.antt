@@ -14,7 +14,7 @@ use Rattle.program.specs.Bytes.{mostBytes, headerEnd, reactors, mainOf, entryAt
 use Rattle.program.specs.Bytes.{commandAt}
 use Rattle.program.specs.Command.{Cmd, cmdOf, bytesOf, decode}
 use Rattle.program.specs.Location.{sizeOf}
-use Rattle.load.specs.Scan.{refusalOf, scanned, scanOf, beginOf, complete}
+use Rattle.load.specs.Scan.{Scanned, refusalOf, scanned, scanOf, beginOf, complete}
 use Rattle.load.specs.Refusal.{refusalNumber, refusalPlace, atCommand}
 use Rattle.load.specs.Tables.{headerLegal, tableLegal}
 use Rattle.load.specs.Check.{numberOf, ended, reactorsOf, checkOf}
@@ -28,7 +28,6 @@ use Rattle.load.specs.Fault.{sink-missing, Reached}
 use Rattle.load.specs.Fault.{Fault, length-wrong, header-byte, tables-cut, table-byte, not-whole, command}
 use Rattle.load.specs.Fault.{missing}
 use Rattle.load.specs.Fault.{FirstFault, CheckNumber, CheckNumbers}
-use Rattle.load.specs.declared.Scanned.{Scanned}
 use Rattle.load.specs.declared.Refusal.{Refusal}
 use Rattle.load.specs.declared.Refusal.the-variants.{ProgramLength, TableByte, Missing}
 use Rattle.load.specs.declared.Checked.{Checked}

@@ -11,14 +11,13 @@ use Rattle.value.proofs.Sweeps.{from-more, Passes, sweeps?}
 use Rattle.program.specs.Bytes.{mostBytes, headerEnd, reactors, mainOf, entryAt, tablesEnd, wholeLength, commandsIn}
 use Rattle.program.specs.Location.{sizeOf}
 use Rattle.load.specs.Tables.{headerLegal, tableLegal}
-use Rattle.load.specs.Scan.{scanOf, beginOf, complete}
+use Rattle.load.specs.Scan.{Scanned, scanOf, beginOf, complete}
 use Rattle.load.specs.Refusal.{refusalNumber}
 use Rattle.load.specs.Check.{numberOf, ended, reactorsOf, checkOf, IsAccepted}
 use Rattle.load.specs.Rules.{AcceptedSize}
 use Rattle.load.specs.Accepted.{ReactorAccepted}
 use Rattle.load.proofs.Refusals.{refusal-counts}
 use Rattle.load.proofs.Exact.Bytes.{header-first}
-use Rattle.load.specs.declared.Scanned.{Scanned}
 use Rattle.load.specs.declared.Refusal.{Refusal}
 use Rattle.load.specs.declared.Refusal.the-variants.{Missing}
 use Rattle.load.specs.declared.Checked.{Checked}

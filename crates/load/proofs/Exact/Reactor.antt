@@ -7,12 +7,11 @@ use native.Mathlib.Omega.{arith}
 use native.Mathlib.Nat.{eq-or-lt-of-le}
 use Rattle.program.specs.Bytes.{reactors, commandsIn}
 use Rattle.program.specs.Command.{cmdOf}
-use Rattle.load.specs.Scan.{scanOf, beginOf}
+use Rattle.load.specs.Scan.{Scanned, scanOf, beginOf}
 use Rattle.load.specs.Rules.{ReactorRule, Rules, TablesRight}
 use Rattle.load.specs.Accepted.{ReactorAccepted}
 use Rattle.load.specs.Kinds.{KindsFound}
 use Rattle.load.specs.declared.Scan.{Scan}
-use Rattle.load.specs.declared.Scanned.{Scanned}
 use Rattle.load.proofs.Exact.Places.{value-exact}
 use Rattle.load.proofs.Exact.Fits.{Fits, Stepwise}
 use Rattle.load.proofs.Exact.Rule.{rule-exact}

@@ -7,9 +7,8 @@ use native.Mathlib.Omega.{arith}
 use Rattle.value.proofs.Tests.{same?}
 use Rattle.program.specs.Bytes.{commandAt}
 use Rattle.program.specs.Command.{Cmd, cmdOf, decode, bytesOf}
-use Rattle.load.specs.Scan.{refusalOf, afterOf, scanned, onward, scanOf}
+use Rattle.load.specs.Scan.{Scanned, refusalOf, afterOf, scanned, onward, scanOf}
 use Rattle.load.specs.declared.Scan.{Scan}
-use Rattle.load.specs.declared.Scanned.{Scanned}
 
 module _ (p : List ℕ) (r : ℕ) where
   -- the refusal of the next command

@@ -1,97 +1,252 @@
-use Prim.Native.Nat.{_*_, _+_, _-_, _≤_, ℕ}
-use Rattle.load.proofs.Shapes.{begin-next, begin-shaped}
+use Prim.Native.Nat.{_+_, _-_, _≤_, ℕ}
 use Rattle.load.proofs.Turns.{reactor-missing, reactor-refused, reactor-taken, reactors-done}
 use Rattle.load.specs.Check.{reactorsOf}
+use Rattle.load.specs.Scan.{standingAt}
 use Rattle.load.specs.declared.Checked.the-variants.{Accepted, Refused}
 use Rattle.load.specs.declared.Refusal.the-variants.{Missing}
-use Rattle.load.specs.declared.Scan.{Scan}
-use Rattle.program.proofs.Places.{commands-first, commands-next}
-use Rattle.program.specs.Bytes.{commandsAt, mainOf, reactors}
-use Rattle.program.specs.Location.{sizeOf}
+use Rattle.program.proofs.Places.{commands-first, commands-next, commands-within, tables-within}
+use Rattle.program.specs.Bytes.{commandAt, commandsAt, commandsIn, declared, mainOf, reactors, running}
+use Rattle.program.specs.Location.{locations, sinkLoc, sizeOf}
 use Rattle.value.proofs.Tests.{passed, refused}
 use borrow.Author.Needs.{needs}
 use denote.Ref.{now}
-use mathlib.Core.Path.{_∙_, _≡_, ap, sym}
+use mathlib.Core.Path.{_∙_, _≡_, ap, refl, sym}
 use native.Mathlib.Omega.{arith}
 use Rattle.load.proofs.verdict.check_reactors.Statement.{statement}
 use Rattle.load.proofs.verdict.check_reactors.Tie as tie
 
 abbrev Inv-loop : tie.InvT-loop
 Inv-loop program count first₀ r₀ first r =
-    (reactorsOf (Accepted (sizeOf program (mainOf program))) (reactors program) program 0 ≡ reactorsOf (Accepted (sizeOf program (mainOf program))) (reactors program - r) program r)
-    × (r ≤ reactors program) × (first ≡ commandsAt program r) × (first ≤ 65536 + 4080 * r)
+    (reactorsOf (Accepted (sizeOf program (mainOf program))) (reactors program) program 0 ≡ reactorsOf
+    (Accepted (sizeOf program (mainOf program))) (reactors program - r) program r)
+    × (r ≤ reactors program) × (first ≡ commandsAt program r)
 
 abbrev μ-loop : tie.MeasureT-loop
 μ-loop program count first₀ r₀ first r = reactors program - r
 
 loop-holds : tie.Need-loop-holds Inv-loop μ-loop
 loop-holds c =
-    let p = now (c .before .before .before .args .program) in (
+    let args = c .before .before .before .args in
+    let p = now (args .program) in (
       ap (λ (n : ℕ). reactorsOf (Accepted (sizeOf p (mainOf p))) n p 0) (omega arith),
       omega arith,
-      c .tables-end .ensures ∙ sym (commands-first _),
-      omega arith,
+      c .tables-end
+          .ensures ∙ sym (commands-first p),
     )
 
-run-requires : tie.Need-run-requires Inv-loop μ-loop
-run-requires c κs =
-    let p = now (c .before .before .before .before .before .before .before .args .program) in
-    let pre = c .before .before .before .before .before .before .before .pre in
-    let loop = c .before .before .before .loop in
-    let begin = c .begin .ensures in (
-      pre,
+facts-of-requires : tie.Need-facts-of-requires Inv-loop μ-loop
+facts-of-requires c κs =
+    let at-reactors = c .before .before .before .reactors in
+    let args = c .before .before .before .before .before .args in
+    let pre = c .before .before .before .before .before .pre in
+    let p = now (args .program) in
+    (pre .0, ((omega (arith, c .loop-test .taken, at-reactors .ensures)), omega (arith, pre .1 .1, tables-within p)))
+
+scan-requires : tie.Need-scan-requires Inv-loop μ-loop
+unfolding commandsIn
+scan-requires c κs =
+    let at-facts-of = c .before .before .facts-of in
+    let at-loop-test = c .before .before .before .loop-test in
+    let at-loop = c .before .before .before .before .loop in
+    let at-reactors = c .before .before .before .before .before .before .reactors in
+    let args = c .before .before .before .before .before .before .before .before .args in
+    let pre = c .before .before .before .before .before .before .before .before .pre in
+    let p = now (args .program) in
+    let r = at-loop .r in
+    let number = at-facts-of .ensures .0 in
+    let facts = at-facts-of .ensures .1 in
+    let within = commands-within p r (omega (arith, at-loop-test .taken, at-reactors .ensures)) in (
+      pre .0,
       (
-        rw begin (begin-shaped p (pre .some-shape) (loop .r)),
+        facts,
         (
-          loop .inv .2,
-          omega arith,
-          omega (arith, ap (λ (s : Scan). s .next) begin ∙ begin-next p (pre .some-shape) (loop .r), pre .few-commands (loop .r) (omega arith)),
+          (refl, refl),
+          (
+            at-loop .inv .2 ∙ ap (commandsAt p) (sym number),
+            omega (
+              arith,
+              at-loop .inv .2,
+              within,
+              pre .1 .1,
+              facts .its-declared ∙ ap (declared p) number,
+              facts
+                  .its-running ∙ ap (running p) number,
+            ),
+            pre .1 .2,
+          ),
         ),
       ),
     )
 
+add-refusal : tie.Need-add-refusal Inv-loop μ-loop
+add-refusal c =
+    let at-loop-test = c .before .before .before .before .before .before .loop-test in
+    let at-loop = c .before .before .before .before .before .before .before .loop in
+    let at-reactors = c .before .before .before .before .before .before .before .before .before .reactors in
+    let args = c .before .before .before .before .before .before .before .before .before .before .before .args in
+    let pre = c .before .before .before .before .before .before .before .before .before .before .before .pre in
+    let p = now (args .program) in
+    omega (
+      arith,
+      at-loop .inv .2,
+      commands-within p (at-loop .r)
+          (omega (arith, at-loop-test .taken, at-reactors .ensures)),
+      pre .1 .1,
+      pre .1 .2,
+    )
+
 returns : tie.Need-returns Inv-loop μ-loop
+unfolding commandAt
 returns c =
-    ap Refused (c .at-command .ensures)
-    ∙ reactor-refused _ _ _ _ _ _ _ (omega arith) (c .before .before .before .before .before .before .commands-in .ensures .0)
-    (c .before .before .before .before .before .begin .ensures)
-    (c .before .before .before .before .run .ensures) (c .before .before .if1 .taken)
-    ∙ sym (c .before .before .before .before .before .before .before .before .loop .inv .0)
+    let at-if1 = c .before .before .if1 in
+    let at-scan = c .before .before .before .scan in
+    let at-facts-of = c .before .before .before .before .before .before .facts-of in
+    let at-loop-test = c .before .before .before .before .before .before .before .loop-test in
+    let at-loop = c .before .before .before .before .before .before .before .before .loop in
+    let at-reactors = c .before .before .before .before .before .before .before .before .before .before .reactors in
+    let args = c .before .before .before .before .before .before .before .before .before .before .before .before .args
+    in
+    let p = now (args .program) in
+    ap Refused (c .refusal .ensures)
+    ∙ reactor-refused _ p (at-loop .r) _ (omega (arith, at-loop-test .taken, at-reactors .ensures))
+    (at-facts-of .ensures .0) (at-scan .ensures) (at-if1 .taken) _ (omega (arith, at-loop .inv .2))
+    ∙ sym (at-loop .inv .0)
+
+add-complete : tie.Need-add-complete Inv-loop μ-loop
+add-complete c = omega (arith, c .before .first-sink .ensures .1)
+
+complete-requires : tie.Need-complete-requires Inv-loop μ-loop
+unfolding locations sinkLoc commandsIn standingAt
+complete-requires c κs =
+    let p = now (c .before .before .before .before .before .before .before .before .before .before .before .before
+    .before .args .program) in
+    let facts = c .before .before .before .before .before .before .before .facts-of .ensures .1 in
+    let end : c .before .first-sink .result + c .before .before .before .before .before .before .before .facts-of
+    .result .sinks ≡ locations p (c .before .before .before .before .before .before .before .facts-of .result .reactor)
+    = omega (
+      arith,
+      c .before .first-sink .ensures .0,
+      facts .its-sources,
+      facts .its-declared,
+      facts .its-running,
+      facts .its-sinks,
+    ) in (
+      omega (arith, c .before .first-sink .ensures .1),
+      λ l h. c .before .before .before .before .scan .ensures .passed
+          (c .before .before .before .if1 .left) .within l (omega (arith, end)),
+    )
 
 returns-2 : tie.Need-returns-2 Inv-loop μ-loop
 returns-2 c =
+    let at-complete = c .before .before .complete in
+    let at-if1 = c .before .before .before .before .before .before .if1 in
+    let at-scan = c .before .before .before .before .before .before .before .scan in
+    let at-facts-of = c .before .before .before .before .before .before .before .before .before .before .facts-of in
+    let at-loop-test = c .before .before .before .before .before .before .before .before .before .before .before
+    .loop-test in
+    let at-loop = c .before .before .before .before .before .before .before .before .before .before .before .before
+    .loop in
+    let at-reactors = c .before .before .before .before .before .before .before .before .before .before .before .before
+    .before .before .reactors in
+    let args = c .before .before .before .before .before .before .before .before .before .before .before .before
+    .before .before .before .before .args in
+    let p = now (args .program) in
     ap (λ (e : ℕ). Refused (Missing e)) (c .entry-at .ensures .0)
-    ∙ reactor-missing _ _ _ _ _ _ _ (omega arith) (c .before .before .before .before .before .before .before .before .commands-in .ensures .0)
-    (c .before .before .before .before .before .before .before .begin .ensures)
-    (c .before .before .before .before .before .before .run .ensures) (c .before .before .before .before .if1 .left) (refused (c .before .before .complete .ensures) (c .before .if2 .taken))
-    ∙ sym (c .before .before .before .before .before .before .before .before .before .before .loop .inv .0)
+    ∙ reactor-missing _ p (at-loop .r) _ (omega (arith, at-loop-test .taken, at-reactors .ensures))
+    (at-facts-of .ensures .0) (at-scan .ensures) (at-if1 .left)
+    (refused (at-complete .ensures _ _) (c .before .if2 .taken))
+    ∙ sym (at-loop .inv .0)
+
+add-first-2 : tie.Need-add-first-2 Inv-loop μ-loop
+add-first-2 c =
+    let at-loop-test = c .before .before .before .before .before .before .before .before .before .before .before
+    .before .loop-test in
+    let at-loop = c .before .before .before .before .before .before .before .before .before .before .before .before
+    .before .loop in
+    let at-reactors = c .before .before .before .before .before .before .before .before .before .before .before .before
+    .before .before .before .reactors in
+    let args = c .before .before .before .before .before .before .before .before .before .before .before .before
+    .before .before .before .before .before .args in
+    let pre = c .before .before .before .before .before .before .before .before .before .before .before .before .before
+    .before .before .before .before .pre in
+    let p = now (args .program) in
+    omega (
+      arith,
+      at-loop .inv .2,
+      commands-within p (at-loop .r)
+          (omega (arith, at-loop-test .taken, at-reactors .ensures)),
+      pre .1 .1,
+      pre .1 .2,
+    )
+
+add-r : tie.Need-add-r Inv-loop μ-loop
+add-r c =
+    let at-loop-test = c .before .before .before .before .before .before .before .before .before .before .before
+    .before .loop-test in
+    let at-reactors = c .before .before .before .before .before .before .before .before .before .before .before .before
+    .before .before .before .reactors in
+    omega (arith, at-loop-test .taken, at-reactors .ensures)
+
+loop-less : tie.Need-loop-less Inv-loop μ-loop
+loop-less c =
+    let at-loop-test = c .before .before .before .before .before .before .before .before .before .before .before
+    .before .loop-test in
+    let at-reactors = c .before .before .before .before .before .before .before .before .before .before .before .before
+    .before .before .before .reactors in
+    omega (arith, at-loop-test .taken, at-reactors .ensures)
 
 loop-again : tie.Need-loop-again Inv-loop μ-loop
+unfolding commandsIn
 loop-again c =
-    let p = now (c .before .before .before .before .before .before .before .before .before .before .before .before .before .args .program) in
-    let loop = c .before .before .before .before .before .before .before .before .before .loop in (
-      loop .inv .0
-          ∙ reactor-taken _ _ _ _ _ _ _ (omega arith) (c .before .before .before .before .before .before .before .commands-in .ensures .0)
-          (c .before .before .before .before .before .before .begin .ensures)
-          (c .before .before .before .before .before .run .ensures) (c .before .before .before .if1 .left) (passed (c .before .complete .ensures) (c .if2 .left))
-          ∙ ap (λ (m : ℕ). reactorsOf (Accepted (sizeOf p (mainOf p))) m p (loop .r + 1)) (omega arith),
-      omega arith,
-      omega (arith, commands-next p (loop .r)),
-      omega arith,
+    let at-if2 = c .before .before .if2 in
+    let at-complete = c .before .before .before .complete in
+    let at-if1 = c .before .before .before .before .before .before .before .if1 in
+    let at-scan = c .before .before .before .before .before .before .before .before .scan in
+    let at-facts-of = c .before .before .before .before .before .before .before .before .before .before .before
+    .facts-of in
+    let at-loop-test = c .before .before .before .before .before .before .before .before .before .before .before
+    .before .loop-test in
+    let at-loop = c .before .before .before .before .before .before .before .before .before .before .before .before
+    .before .loop in
+    let at-reactors = c .before .before .before .before .before .before .before .before .before .before .before .before
+    .before .before .before .reactors in
+    let args = c .before .before .before .before .before .before .before .before .before .before .before .before
+    .before .before .before .before .before .args in
+    let p = now (args .program) in
+    let r = at-loop .r in
+    let number = at-facts-of .ensures .0 in
+    let facts = at-facts-of .ensures .1 in (
+      at-loop .inv .0
+          ∙ reactor-taken _ p r _ (omega (arith, at-loop-test .taken, at-reactors .ensures)) number (at-scan .ensures)
+          (at-if1 .left) (passed (at-complete .ensures _ _) (at-if2 .left))
+          ∙ ap (λ (m : ℕ). reactorsOf (Accepted (sizeOf p (mainOf p))) m p (r + 1))
+          (omega (arith, at-loop-test .taken, at-reactors .ensures)),
+      omega (arith, at-loop-test .taken, at-reactors .ensures),
+      omega (
+        arith,
+        at-loop .inv .2,
+        commands-next p r,
+        facts .its-declared ∙ ap (declared p) number,
+        facts
+            .its-running ∙ ap (running p) number,
+      ),
     )
+
+main-size-requires : tie.Need-main-size-requires Inv-loop μ-loop
+main-size-requires c κs = c .before .before .before .before .before .pre
 
 returns-3 : tie.Need-returns-3 Inv-loop μ-loop
 returns-3 c =
-    ap Accepted (c .size-of .ensures .0 ∙ ap (sizeOf _) (c .before .main-of .ensures))
-    ∙ reactors-done _ _ _ _ (omega arith)
-    ∙ sym (c .before .before .before .loop .inv .0)
+    let at-loop = c .before .before .loop in
+    ap Accepted (c .main-size .ensures) ∙ reactors-done _ _ _ _ (omega arith) ∙ sym (at-loop .inv .0)
 
 pub check-reactors-spec : {M : Type 1} → statement M
 check-reactors-spec =
     tie.close
     (tie.spec
     Inv-loop μ-loop (λ c κs. search needs) (λ c κs. search needs) (λ c. omega arith) loop-holds
-    (λ c. omega arith) (λ c κs. search needs) (λ c κs. search needs) run-requires (λ c. omega arith) (λ c κs. search needs)
-    returns (λ c κs. search needs) (λ c. omega arith) (λ c κs. search needs) returns-2
-    (λ c. omega arith) (λ c. omega arith) (λ c. omega arith) (λ c. omega arith) (λ c. omega arith)
-    loop-again (λ c κs. search needs) (λ c. omega arith) (λ c κs. search needs) (λ c. omega arith) returns-3)
+    facts-of-requires scan-requires (λ c. omega arith) (λ c. omega arith) add-refusal
+    (λ c κs. search needs) returns (λ c κs. search needs) (λ c. omega arith) add-complete
+    complete-requires (λ c. omega arith) (λ c κs. search needs) returns-2 (λ c. omega arith)
+    (λ c. omega arith) (λ c. omega arith) (λ c. omega arith) add-first-2 add-r loop-less loop-again
+    main-size-requires returns-3)

@@ -1,0 +1,58 @@
+use Prim.Native.Nat.{_+_, ℕ}
+use Rattle.load.proofs.Sequence.{step-refused, step-taken}
+use Rattle.load.proofs.Stands.{advanced}
+use Rattle.load.specs.Lent.{Stepped, state}
+use Rattle.load.specs.Scan.{advance, afterOf, standingAfter}
+use Rattle.load.specs.declared.Scan.{Scan}
+use Rattle.program.specs.Bytes.{declared}
+use Rattle.program.specs.Command.{decode}
+use Rattle.program.specs.Location.{commandLoc}
+use Rattle.value.proofs.Tests.{lt×, no, not-false, not-true, yes}
+use Rattle.value.specs.Test.{_<?_}
+use borrow.Author.Needs.{needs}
+use denote.Ref.{now}
+use mathlib.Core.Bool.{false, true}
+use mathlib.Core.Path.{_∙_, _≡_, ap, refl, subst, sym}
+use native.Mathlib.Omega.{arith}
+use Rattle.load.proofs.Progress.take_running.Statement.{statement}
+use Rattle.load.proofs.Progress.take_running.Tie as tie
+
+running-requires : tie.Need-running-requires
+running-requires c κs =
+    let pre = c .before .before .before .before .before .pre in
+    (pre .0, (pre .1 .0, pre .1 .1 .0))
+
+returns : tie.Need-returns
+returns c =
+    let args = c .before .before .before .before .before .before .before .args in
+    let pre = c .before .before .before .before .before .before .before .pre in
+    let p = now (args .program) in
+    let r = args .facts .reactor in
+    let s = state (now (args .standing)) (now (args .kind)) (args .self .next) in
+    let q : (args .self .next <? declared p r) ≡ false = lt× (omega (arith, pre .0 .its-declared, pre .1 .1 .1 .0)) in
+    let off = not-true _ (c .if1 .taken) in
+    subst (λ (u : Scan). Stepped p r s u (args .c) true)
+    (sym (c .before .running .ensures .1 (args .self .next) ∙ sym (no _ off refl)))
+    (step-refused p r s (args .c) false q (sym (c .before .running .ensures .0 (args .self .next)) ∙ off))
+
+returns-2 : tie.Need-returns-2
+unfolding afterOf commandLoc
+returns-2 c =
+    let at-running = c .before .before .running in
+    let args = c .before .before .before .before .before .before .before .before .args in
+    let pre = c .before .before .before .before .before .before .before .before .pre in
+    let p = now (args .program) in
+    let r = args .facts .reactor in
+    let s = state (now (args .standing)) (now (args .kind)) (args .self .next) in
+    let q : (args .self .next <? declared p r) ≡ false = lt× (omega (arith, pre .0 .its-declared, pre .1 .1 .1 .0)) in
+    let on = not-false _ (c .before .if1 .left) in
+    step-taken p r s (args .c) false q _ (sym (at-running .ensures .0 (args .self .next)) ∙ on)
+    (advanced p r s _ (decode (args .c)) (at-running .ensures .1 (args .self .next) ∙ sym (yes _ on refl))
+    ∙ ap (λ (k : ℕ). advance (standingAfter p r s (k + args .self .next) (decode (args .c)))) (pre .0 .its-sources))
+
+pub take-running-spec : {M : Type 1} → statement M
+take-running-spec =
+    tie.close
+    (tie.spec
+    (λ c. search needs) (λ c. search needs) (λ c. search needs) running-requires returns
+    (λ c. search needs) returns-2)

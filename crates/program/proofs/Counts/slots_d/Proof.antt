@@ -1,0 +1,17 @@
+use Rattle.program.proofs.Slots.{slot-low}
+use Rattle.program.specs.Location.{sources}
+use borrow.Author.Needs.{needs}
+use native.Mathlib.Omega.{arith}
+use Rattle.program.proofs.Counts.slots_d.Statement.{statement}
+use Rattle.program.proofs.Counts.slots_d.Tie as tie
+
+returns : tie.Need-returns
+returns c = (
+  (λ p r e. omega (arith, c .sources .ensures p r e, slot-low p r (sources p r) (omega arith))),
+  (omega arith, omega arith),
+)
+
+pub slots-d-spec : {M : Type 1} → statement M
+slots-d-spec =
+    tie.close
+    (tie.spec (λ c κs. search needs) (λ c. search needs) (λ c. search needs) (λ c. search needs) returns)
