@@ -6,6 +6,8 @@ pub mod Chains
 pub mod Made
 pub mod Positions
 pub mod Cuts
+pub mod Merging
+pub mod Sweeping
 pub mod Starts
 pub mod Memory
 pub mod Exact

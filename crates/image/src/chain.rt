@@ -23,7 +23,7 @@ fn linked(table: &[u8], o: u32, last: u32, c: u32) -> bool
 }
 
 // Whether reactor r has shape s and has not been seen.
-fn joins(program: &[u8], seen: &[u8], s: u8, r: u32) -> bool
+pub(crate) fn joins(program: &[u8], seen: &[u8], s: u8, r: u32) -> bool
     ensures { λ t. ⌜ t ≡ ((B.shapeOf (now (program .entry)) r =? s) and (getD (now (seen .entry)) r 0 =? 0)) ⌝ }
 {
     (shape_of(program, r) == s) & (byte(seen, r as usize) == 0)

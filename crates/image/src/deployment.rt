@@ -1,5 +1,7 @@
 // The slots of a deployment, two words for each location, and a new deployment.
+use crate::words::pair;
 use crate::words::put;
+use crate::words::put_pair;
 use crate::words::reactor;
 use crate::words::set_used;
 use crate::words::used;
@@ -44,10 +46,7 @@ pub fn value_at(program: &[u8], memory: &[u32], a: u32, l: u16) -> Value
     ensures { λ v. ⌜ v ≡ M.valueAt (now (program .entry)) (now (memory .entry)) a l ⌝ }
 {
     let i = slot(program, memory, a, l);
-    Value {
-        mark: word(memory, i),
-        content: word(memory, i + 1),
-    }
+    pair(memory, i)
 }
 
 // Stores a value at location l.
@@ -55,8 +54,7 @@ pub fn store(program: &[u8], memory: &mut [u32], a: u32, l: u16, v: Value)
     ensures { λ _. ⌜ now (memory .exit) ≡ M.store (now (program .entry)) (now (memory .entry)) a l v ⌝ }
 {
     let i = slot(program, memory, a, l);
-    put(memory, i, v.mark);
-    put(memory, i + 1, v.content)
+    put_pair(memory, i, v)
 }
 
 // The words of the deployment at a.

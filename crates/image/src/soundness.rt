@@ -23,7 +23,7 @@ ghost use Rattle.image.specs.Passes as P;
 ghost use Rattle.image.specs.Cut as W;
 
 // Whether main comes first.
-fn main_first(program: &[u8], memory: &[u32], u: u32) -> bool
+pub(crate) fn main_first(program: &[u8], memory: &[u32], u: u32) -> bool
     ensures { λ r. ⌜ r ≡ ((M.mainAt <? u) and (M.reactor (now (memory .entry)) M.mainAt =? B.mainOf (now (program .entry)))) ⌝ }
 {
     (MAIN_AT < u) & (reactor(memory, MAIN_AT) == main_of(program) as u32)

@@ -2,10 +2,17 @@
 use crate::deployment::size_at;
 use crate::words::MAIN_AT;
 use crate::words::reactor;
+use program::Counts;
+use program::fact;
 use program::reactors;
+use program::size_in;
 ghost use mathlib.Core.Path.{_≡_};
-ghost use Prim.Native.Nat.{_≤_, _<_};
+ghost use mathlib.Core.List.{List};
+ghost use mathlib.Core.Logic.{_≢_};
+ghost use Prim.Native.Nat.{ℕ, _≤_, _<_};
 ghost use lib.ListN.{length};
+ghost use Rattle.program.specs.Bytes as B;
+ghost use Rattle.program.specs.Counts.{Facts, Tells};
 ghost use Rattle.image.specs.Memory as M;
 ghost use Rattle.image.specs.Passes as P;
 ghost use Rattle.image.specs.Cut as W;
@@ -37,4 +44,30 @@ pub(crate) fn following(program: &[u8], memory: &[u32], u: u32, a: u32) -> u32
     ensures { λ b. ⌜ W.Follows (now (program .entry)) (now (memory .entry)) u a b ⌝ }
 {
     a + size_at(program, memory, a)
+}
+
+// What a table has of the reactor of the deployment at a.
+pub fn counts_at(facts: &[u64; 64], memory: &[u32], a: u32) -> Counts
+    ensures right { λ k.
+        let r = M.reactor (now (memory .entry)) a in
+        ⌜ ((p : List ℕ) → Facts p (now (facts .entry)) → k .word ≢ 0 → Tells p r (k .word)) ⌝ }
+    ensures legal { λ k.
+        let r = M.reactor (now (memory .entry)) a in
+        ⌜ ((p : List ℕ) → Facts p (now (facts .entry)) → k .word ≢ 0 → r < B.reactors p) ⌝ }
+    ensures known { λ k.
+        let r = M.reactor (now (memory .entry)) a in
+        ⌜ ((p : List ℕ) → Facts p (now (facts .entry)) → r < B.reactors p → r < 64 → Tells p r (k .word)) ⌝ }
+{
+    let r = reactor(memory, a);
+    fact(facts, r)
+}
+
+// The words of the deployment at a, by a table.
+pub fn size_by(program: &[u8], facts: &[u64; 64], memory: &[u32], a: u32) -> u32
+    requires { ⌜ Facts (now program) (now facts) ⌝ }
+    ensures is { λ n. ⌜ n ≡ M.sizeAt (now (program .entry)) (now (memory .entry)) a ⌝ }
+    ensures small { λ n. ⌜ n < 131074 ⌝ }
+{
+    let r = reactor(memory, a);
+    size_in(program, facts, r)
 }

@@ -1,6 +1,9 @@
 // Words by their index, and by what they are.
+use value::Value;
 ghost use mathlib.Core.Path.{_≡_};
+ghost use Prim.Native.Nat.{_+_, _<_};
 ghost use lib.ListN.{set};
+ghost use Rattle.value.specs.Value.{value};
 ghost use Rattle.image.specs.Memory as M;
 
 pub const MAIN_AT: u32 = 2;
@@ -27,6 +30,36 @@ pub fn put(memory: &mut [u32], i: usize, v: u32)
     if i < memory.len() {
         memory[i] = v;
     }
+}
+
+// The two words from `i` on, as a value: 0 past the end.
+pub fn pair(memory: &[u32], i: usize) -> Value
+    requires { ⌜ i < 18446744073709551615 ⌝ }
+    ensures { λ v. ⌜ v ≡ value (M.word (now (memory .entry)) i) (M.word (now (memory .entry)) (i + 1)) ⌝ }
+{
+    if i + 1 < memory.len() {
+        return Value {
+            mark: memory[i],
+            content: memory[i + 1],
+        };
+    }
+    Value {
+        mark: word(memory, i),
+        content: 0,
+    }
+}
+
+// Stores both, and nothing past the end.
+pub fn put_pair(memory: &mut [u32], i: usize, v: Value)
+    requires { ⌜ i < 18446744073709551615 ⌝ }
+    ensures { λ _. ⌜ now (memory .exit) ≡ set (set (now (memory .entry)) i (v .mark)) (i + 1) (v .content) ⌝ }
+{
+    if i + 1 < memory.len() {
+        memory[i] = v.mark;
+        memory[i + 1] = v.content;
+        return;
+    }
+    put(memory, i, v.mark)
 }
 
 // u, the count of used words.
