@@ -1,34 +1,70 @@
 -- What a command's code leaves, as the definition of the command says it.
 -- Assumes nothing.
-use Prim.Native.Nat.{ℕ, zero, suc, _+_, _-_, _<_, _≤_}
-use mathlib.Core.Path.{_≡_, refl, sym, ap, _∙_}
+use Prim.Native.Nat.{ℕ, zero, suc, _+_, _*_, _-_, _<_, _≤_}
+use mathlib.Core.Path.{_≡_, sym, ap, _∙_}
+use mathlib.Core.Bool.{true, false}
 use mathlib.Core.List.{List}
 use native.Mathlib.Omega.{arith}
-use Rattle.value.specs.Value.{value, deploymentMark}
+use lib.ListN.{set}
+use Rattle.value.specs.Value.{value, blankMark, deploymentMark, isBlank}
 use Rattle.value.specs.declared.Value.{Value}
-use Rattle.value.proofs.Tests.{yes, le! }
-use Rattle.program.specs.Location.{commandLoc, sizeOf}
-use Rattle.image.specs.Memory.{used, turns, reactor, store, place}
-use Rattle.image.specs.Cut.{placed}
-use Rattle.remus.specs.Exec.{move, chosen, globalValue}
+use Rattle.value.proofs.Tests.{eq!, eq×}
+use Rattle.program.specs.Location.{sources}
+use Rattle.program.proofs.Slots.{slot-low}
+use Rattle.image.specs.Memory.{word, turns, reactor, slot, mark, content, valueAt, store}
+use Rattle.remus.specs.Exec.{there, globalValue}
 use Rattle.remus.specs.Turn.{readingAt}
-use Rattle.machine.specs.Act.{Acted, acted}
+use Rattle.machine.specs.declared.Outcome.the-variants.{Given, Move}
+use Rattle.machine.specs.Act.{Acted, did}
 
--- a value given, by what it equals
-pub gives : (p m : List ℕ) (o l : ℕ) (v w : Value) {x : Acted} → x ≡ acted m (move (store p m o l v)) → v ≡ w → x ≡ acted m (move (store p m o l w))
-gives p m o l v w e f = e ∙ ap (λ (u : Value). acted m (move (store p m o l u))) f
+-- ---- a slot's two words, by their index
+module _ (p m : List ℕ) (o l i : ℕ) (e : i ≡ slot p m o l) where
+  pub read-at : {v : Value} → v ≡ value (word m i) (word m (i + 1)) → v ≡ valueAt p m o l
+  unfolding valueAt mark content
+  read-at h = rw e at h
 
--- the deployment that is there
-pub found : (p rd : List ℕ) (h : ℕ) (m : List ℕ) (o i d q b : ℕ) {x : Acted} → 0 < d
-    → x ≡ acted m (move (store p m o (commandLoc p (reactor m o) i) (value deploymentMark d))) → x ≡ acted m (chosen p rd h m o i d q b)
-unfolding chosen
-found p rd h m o i zero q b l e = absurd (omega arith)
-found p rd h m o i (suc d) q b l e = e
+  pub content-at : {n : ℕ} → n ≡ word m (i + 1) → n ≡ content p m o l
+  unfolding content
+  content-at h = rw e at h
 
--- a deployment is placed where u after it fits a word
-pub fits : (p m : List ℕ) (r old : ℕ) → used m + sizeOf p r ≤ 4294967295 → placed p m r old ≡ place p m r old
-unfolding placed
-fits p m r old h = sym (yes _ (le! h) refl)
+  pub stored-at : (v : Value) {m′ : List ℕ} → m′ ≡ set (set m i (v .mark)) (i + 1) (v .content) → m′ ≡ store p m o l v
+  unfolding store
+  stored-at v h = rw e at h
+
+-- sources come first
+pub source-at : (p m : List ℕ) (d x : ℕ) → x < sources p (reactor m d) → d + 3 + 2 * x ≡ slot p m d x
+unfolding slot
+source-at p m d x h = omega (arith, slot-low p (reactor m d) x (omega arith))
+
+-- ---- what is at b, by the value v read there
+module _ (p m : List ℕ) (o b : ℕ) {v : Value} (e : v ≡ valueAt p m o b) where
+  pub is-blank : v .mark ≡ blankMark → isBlank (valueAt p m o b) ≡ true
+  unfolding isBlank
+  is-blank h = eq! (sym (ap (λ (w : Value). w .mark) e) ∙ h)
+
+  pub not-blank : (v .mark ≡ blankMark → ⊥) → isBlank (valueAt p m o b) ≡ false
+  unfolding isBlank
+  not-blank n = eq× (λ h. n (ap (λ (w : Value). w .mark) e ∙ h))
+
+  pub is-there : v .mark ≡ deploymentMark → there p m o b ≡ true
+  unfolding there valueAt
+  is-there h = eq! (sym (ap (λ (w : Value). w .mark) e) ∙ h)
+
+  pub not-there : (v .mark ≡ deploymentMark → ⊥) → there p m o b ≡ false
+  unfolding there valueAt
+  not-there n = eq× (λ h. n (ap (λ (w : Value). w .mark) e ∙ h))
+
+  pub content-of : v .content ≡ content p m o b
+  unfolding valueAt
+  content-of = ap (λ (w : Value). w .content) e
+
+-- ---- a value given, or stored elsewhere, by what it equals
+module _ (p m : List ℕ) (o l : ℕ) (v w : Value) where
+  pub gives : {x : Acted} → x ≡ did Given (store p m o l v) → v ≡ w → x ≡ did Given (store p m o l w)
+  gives e f = e ∙ ap (λ (u : Value). did Given (store p m o l u)) f
+
+  pub leaves : {m′ : List ℕ} → m′ ≡ store p m o l v → v ≡ w → did Move m′ ≡ did Move (store p m o l w)
+  leaves e f = ap (did Move) (e ∙ ap (store p m o l) f)
 
 -- a global by its number
 pub global-time : (rd m : List ℕ) (x t : ℕ) → x < 1 → t ≡ turns m + 1 → value 1 t ≡ globalValue rd m x

@@ -1,7 +1,7 @@
--- Cells by the bytes: which D commands are Cells and which R commands Keeps, and what was kept, one command further.
--- Where a reactor has no cell, nothing is kept.
+-- Cells by the bytes: which D commands are Cells and which R commands Keeps. Where a reactor has no cell, nothing is
+-- kept.
 -- Assumes nothing.
-use Prim.Native.Nat.{ℕ, zero, suc, _+_, _*_, _-_, _≤_, _<_}
+use Prim.Native.Nat.{ℕ, zero, suc, _+_, _*_, _≤_, _<_}
 use mathlib.Core.Path.{_≡_, refl, sym, ap, _∙_}
 use mathlib.Core.Bool.{Bool, true, false, not}
 use mathlib.Core.Logic.{_⊎_, inl, inr, ⊎-elim}
@@ -11,8 +11,8 @@ use lib.ListN.{length}
 use Rattle.value.specs.Test.{_<?_, _=?_, sweep}
 use Rattle.value.proofs.Tests.{clash, eq!, eq×, lt×?, not-true, same?}
 use Rattle.value.proofs.Sweeps.{swept, sweeps}
-use Rattle.program.specs.Bytes.{byte, reactors, declared, running, commandsIn, commandsAt, commandAt}
-use Rattle.program.specs.Command.{Cmd, decode, bytesAt, bytesOf, madeBy, cmdOf, keep}
+use Rattle.program.specs.Bytes.{byte, reactors, declared, running, commandsIn, commandsAt}
+use Rattle.program.specs.Command.{Cmd, decode, bytesOf, madeBy, cmdOf, keep}
 use Rattle.program.specs.Location.{commandLoc}
 use Rattle.program.specs.declared.Command.{Command}
 use Rattle.program.proofs.Decode.{as-keep, by-code}
@@ -22,6 +22,7 @@ use Rattle.image.proofs.Exact.Tiling.{tiles?}
 use Rattle.image.proofs.Memory.Each.{each}
 use Rattle.image.proofs.Memory.Tiles.{in-reactor}
 use Rattle.remus.specs.Cells.{keepBy, keepFrom, keepOne, keepOf}
+use Rattle.machine.proofs.Told.{code-at}
 use Rattle.machine.specs.Cells.{isHeld, noCell, hasCell, hasCells, CellAt, Remembering}
 
 -- ---- what a command's code says
@@ -39,8 +40,8 @@ held-by c =
 -- b the code of D command j
 module _ (p : List ℕ) (r j at b : ℕ) (e : at ≡ commandsAt p r) (f : b ≡ byte p (at + 8 * j)) where
   test : (b =? 11) ≡ isHeld (madeBy (cmdOf p r j))
-  unfolding cmdOf bytesOf bytesAt commandAt
-  test = rw (f, e) (held-by (bytesOf p r j))
+  unfolding cmdOf
+  test = rw (← code-at p r j at b e f) (held-by (bytesOf p r j))
 
   pub cell-here : b ≡ 11 → noCell p r j ≡ false
   cell-here h = ap not (sym test ∙ eq! h)
@@ -72,24 +73,6 @@ module _ (p : List ℕ) (r i : ℕ) where
         | inl e ↦ inl (c .a, c .b, unfold cmdOf in sym (as-keep (λ (d : Cmd). d) c e refl))
         | inr n ↦ inr (λ m o l. keep-not p m o l r i c refl n)
       ]
-
--- ---- the commands in order
-
-module _ (p : List ℕ) (end i : ℕ) (m : List ℕ) (o : ℕ) where
-  pub keep-first : (r : ℕ) → end ≡ commandsIn p r → i ≡ declared p r → r ≡ reactor m o
-      → keepFrom p (end - i) i m o ≡ keepOne p m o
-  unfolding keepOne commandsIn
-  keep-first r e f g = let k : end - i ≡ running p r = omega arith in rw (k, f, g)
-
-  pub keep-next : i < end
-      → keepFrom p (end - (i + 1)) (i + 1) (keepBy p m o (commandLoc p (reactor m o) i) (cmdOf p (reactor m o) i)) o
-      ≡ keepFrom p (end - i) i m o
-  unfolding keepFrom
-  keep-next h = let e : end - i ≡ suc (end - (i + 1)) = omega arith in rw e
-
-  pub keep-done : end ≤ i → m ≡ keepFrom p (end - i) i m o
-  unfolding keepFrom
-  keep-done h = let e : end - i ≡ 0 = omega arith in rw e
 
 -- ---- no cell, nothing kept
 

@@ -1,4 +1,5 @@
--- A pass over the deployments that changes each in its own words, and the loops over D slots and sinks, one step further.
+-- A pass over the deployments that changes each in its own words, and the loops over D slots, R commands and
+-- sinks, one step further.
 -- Assumes nothing.
 use Prim.Native.Nat.{ℕ, zero, suc, _+_, _*_, _-_, _≤_, _<_}
 use mathlib.Core.Path.{_≡_, refl, sym, ap, _∙_}
@@ -7,20 +8,22 @@ use mathlib.Core.List.{List, [], _∷_}
 use native.Mathlib.Omega.{arith}
 use lib.ListN.{length, set, length-set}
 use Rattle.value.specs.Test.{_<?_, _=?_, guard}
-use Rattle.value.specs.Value.{value, pointMark}
+use Rattle.value.specs.Value.{value}
 use Rattle.value.specs.declared.Value.{Value}
-use Rattle.program.specs.Bytes.{reactors, mainOf}
-use Rattle.program.specs.Command.{Cmd, bytesOf, madeBy, cmdOf}
+use Rattle.program.specs.Bytes.{reactors, declared, running, mainOf, commandsIn}
+use Rattle.program.specs.Command.{Cmd, decode, point, madeBy, cmdOf}
 use Rattle.program.specs.declared.Command.{Command}
 use Rattle.program.proofs.Decode.{as-make, by-code}
 use Rattle.program.specs.Location.{commandLoc, sinkLoc, sizeOf}
-use Rattle.image.specs.Memory.{mainAt, word, reactor, mark, content, valueAt, store, sizeAt, startsFrom, patch}
+use Rattle.image.specs.Memory.{mainAt, word, reactor, slot, mark, content, sizeAt, startsFrom, patch}
 use Rattle.image.specs.Passes.{over, tilesFrom}
 use Rattle.image.specs.Cut.{Tiling, Follows, startsOn}
 use Rattle.image.proofs.Tiles.{starts-done, follows}
+use Rattle.remus.specs.Cells.{keepBy, keepFrom, keepOne}
 use Rattle.remus.specs.Clear.{pairsFrom}
-use Rattle.remus.specs.Undo.{below, slotBack, slotsBack}
-use Rattle.machine.proofs.Clears.{Local}
+use Rattle.remus.specs.Undo.{slotBack, slotsBack}
+use Rattle.machine.specs.Cells.{Remembering}
+use Rattle.machine.proofs.Clears.{Local, local-by, local-slot}
 use Rattle.machine.proofs.Stretch.{patch-cons, patch-none}
 
 -- ---- the deployments
@@ -80,41 +83,81 @@ module _ (p : List ℕ) (m : List ℕ) (u a : ℕ) where
 -- ---- the D slots of one
 
 module _ (p : List ℕ) (u n j : ℕ) (m : List ℕ) (o : ℕ) where
-  pub slots-next : j < n
-      → slotsBack p u (n - (j + 1)) (j + 1) (slotBack p u m o (commandLoc p (reactor m o) j) (madeBy (cmdOf p (reactor m o) j))) o ≡ slotsBack p u (n - j) j m o
+  -- z are the words once slot j is brought back
+  pub slots-next : (z : List ℕ) (r : ℕ) (x : List ℕ) → j < n → n ≡ declared p r → reactor m o ≡ r
+      → z ≡ slotBack p u m o (commandLoc p (reactor m o) j) (madeBy (cmdOf p (reactor m o) j))
+      → slotsBack p u (n - j) j m o ≡ x → (reactor z o ≡ r) × (slotsBack p u (n - (j + 1)) (j + 1) z o ≡ x)
   unfolding slotsBack
-  slots-next h = let e : n - j ≡ suc (n - (j + 1)) = omega arith in rw e
+  slots-next z r x h d e f g =
+      let k : n - j ≡ suc (n - (j + 1)) = omega arith in
+      let low : j < declared p (reactor m o) = rw e (omega arith) in
+      let same : reactor z o ≡ reactor m o = rw f (local-slot p u o m j _ low .same) in
+      (same ∙ e, rw f (rw k at g))
 
   pub slots-done : n ≤ j → m ≡ slotsBack p u (n - j) j m o
   unfolding slotsBack
   slots-done h = let e : n - j ≡ 0 = omega arith in rw e
 
--- ---- what the bytes of a D command say of its slot
+-- ---- the R commands of one
 
-module _ (p : List ℕ) (u : ℕ) (m : List ℕ) (o l r j : ℕ) (c : Command) (e : c ≡ bytesOf p r j) where
-  pub slot-point : {z : List ℕ} → c .code ≡ 2 → z ≡ store p m o l (value pointMark (below (reactors p + 1) m u (content p m o l)))
-      → z ≡ slotBack p u m o l (madeBy (cmdOf p r j))
-  unfolding cmdOf slotBack madeBy
-  slot-point f h = rw (← e) (as-make (λ (d : Cmd). slotBack p u m o l (madeBy d)) c f h)
+module _ (p : List ℕ) (m : List ℕ) (o n : ℕ) where
+  pub keeps-first : n ≡ running p (reactor m o) → keepFrom p (n - 0) (declared p (reactor m o) + 0) m o ≡ keepOne p m o
+  unfolding keepOne
+  keeps-first e =
+      let k : n - 0 ≡ running p (reactor m o) = omega arith in
+      let i : declared p (reactor m o) + 0 ≡ declared p (reactor m o) = omega arith in
+      rw (k, i)
 
-  pub slot-other : (c .code ≡ 2 → ⊥) → m ≡ slotBack p u m o l (madeBy (cmdOf p r j))
-  unfolding cmdOf slotBack madeBy
+  pub keeps-done : (i j : ℕ) → n ≤ j → m ≡ keepFrom p (n - j) i m o
+  unfolding keepFrom
+  keeps-done i j h = let e : n - j ≡ 0 = omega arith in rw e
+
+  -- z are the words once what R command j kept is in its cell
+  module _ (known : Remembering p) (r j : ℕ) (low : r < reactors p) (count : n ≡ running p r) where
+    pub keeps-next : reactor m o ≡ r → (z x : List ℕ) → j < n
+        → z ≡ keepBy p m o (commandLoc p (reactor m o) (declared p r + j)) (cmdOf p r (declared p r + j))
+        → keepFrom p (n - j) (declared p r + j) m o ≡ x
+        → (reactor z o ≡ r) × (keepFrom p (n - (j + 1)) (declared p r + (j + 1)) z o ≡ x)
+    unfolding keepFrom commandsIn
+    keeps-next same z x h e g =
+        let k : n - j ≡ suc (n - (j + 1)) = omega arith in
+        let i : declared p r + (j + 1) ≡ declared p r + j + 1 = omega arith in
+        let c = declared p r + j in
+        let step : z ≡ keepBy p m o (commandLoc p (reactor m o) c) (cmdOf p (reactor m o) c) = rw same (rw same at e) in
+        let kept = local-by p o known m c _ (rw same low) (rw same (omega arith)) in
+        (rw step (kept .same) ∙ same, rw (i, step) (rw k at g))
+
+-- ---- what the code of a D command says of its slot
+
+module _ (p : List ℕ) (u : ℕ) (m : List ℕ) (o l : ℕ) (c : Command) where
+  pub slot-point : {z : List ℕ} → c .code ≡ 2 → z ≡ slotBack p u m o l (point (c .x))
+      → z ≡ slotBack p u m o l (madeBy (decode c))
+  unfolding madeBy
+  slot-point f h = as-make (λ (d : Cmd). slotBack p u m o l (madeBy d)) c f h
+
+  pub slot-other : (c .code ≡ 2 → ⊥) → m ≡ slotBack p u m o l (madeBy (decode c))
+  unfolding slotBack madeBy
   slot-other f =
-      rw (← e)
-      (by-code (λ (d : Cmd). m ≡ slotBack p u m o l (madeBy d)) c (λ q. refl) (λ q. absurd (f q)) (λ q. refl) (λ q. refl) (λ q. refl) (λ q. refl)
-      (λ q. refl) (λ q. refl) (λ q. refl) (λ q. refl) (λ q. refl) (λ q. refl) (λ q. refl) (λ q. refl))
+      by-code (λ (d : Cmd). m ≡ slotBack p u m o l (madeBy d)) c (λ q. refl) (λ q. absurd (f q)) (λ q. refl) (λ q. refl)
+      (λ q. refl) (λ q. refl) (λ q. refl) (λ q. refl) (λ q. refl) (λ q. refl) (λ q. refl) (λ q. refl) (λ q. refl)
+      (λ q. refl)
 
 -- ---- main's sinks
 
 module _ (p m sk : List ℕ) (n x : ℕ) where
-  pub sinks-next : (v : Value) (l r : ℕ) → v ≡ valueAt p m mainAt l → l ≡ sinkLoc p r x → r ≡ mainOf p → x < n → 2 * n ≤ length sk
-      → patch (set (set sk (2 * x) (v .mark)) (2 * x + 1) (v .content)) (2 * (x + 1)) (pairsFrom p (n - (x + 1)) (x + 1) m) ≡ patch sk (2 * x) (pairsFrom p (n - x) x m)
-  unfolding pairsFrom valueAt
-  sinks-next v l r e f g h k =
+  -- v the sink x, whose words lie at i
+  pub sinks-next : (v : Value) (i : ℕ) → reactor m mainAt ≡ mainOf p
+      → i ≡ slot p m mainAt (sinkLoc p (reactor m mainAt) x) → v ≡ value (word m i) (word m (i + 1)) → x < n
+      → 2 * n ≤ length sk
+      → patch (set (set sk (2 * x) (v .mark)) (2 * x + 1) (v .content)) (2 * (x + 1))
+      (pairsFrom p (n - (x + 1)) (x + 1) m)
+      ≡ patch sk (2 * x) (pairsFrom p (n - x) x m)
+  unfolding pairsFrom mark content
+  sinks-next v i g f e h k =
       let s : n - x ≡ suc (n - (x + 1)) = omega arith in
-      let i : 2 * (x + 1) ≡ 2 * x + 1 + 1 = omega arith in
-      let q : 2 * x + 1 < length (set sk (2 * x) (mark p m mainAt l)) = simp length-set (omega arith) in
-      rw (s, i, e, ← g, ← f) (patch-cons _ (2 * x + 1) _ _ q ∙ patch-cons sk (2 * x) _ _ (omega arith))
+      let t : 2 * (x + 1) ≡ 2 * x + 1 + 1 = omega arith in
+      let q : 2 * x + 1 < length (set sk (2 * x) (word m i)) = simp length-set (omega arith) in
+      rw (s, t, e, ← g, ← f) (patch-cons _ (2 * x + 1) _ _ q ∙ patch-cons sk (2 * x) _ _ (omega arith))
 
   pub sinks-done : n ≤ x → sk ≡ patch sk (2 * x) (pairsFrom p (n - x) x m)
   unfolding pairsFrom

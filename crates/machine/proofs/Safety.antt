@@ -1,11 +1,15 @@
 -- A sound image of an accepted program is safe for the turn's code, whatever the readings.
 -- Assumes nothing.
 use Prim.Native.Nat.{ℕ, _≤_}
-use mathlib.Core.Path.{_≡_, subst, ap}
+use mathlib.Core.Path.{_≡_, _∙_, subst, ap}
 use mathlib.Core.List.{List}
 use native.Mathlib.Omega.{arith}
 use lib.ListN.{length}
+use Rattle.program.specs.Bytes.{mainOf, commandsIn}
+use Rattle.program.specs.Counts.{Facts}
+use Rattle.program.specs.Location.{sources}
 use Rattle.program.specs.Kind.{kindOf}
+use Rattle.program.proofs.Places.{commands-within}
 use Rattle.load.specs.Check.{numberOf, checkOf}
 use Rattle.load.specs.Rules.{Rules}
 use Rattle.load.specs.declared.Checked.the-variants.{Accepted}
@@ -25,6 +29,8 @@ use Rattle.remus.proofs.Undo.Runs.{After, run-keeps}
 use Rattle.remus.proofs.Undo.Undoing.{undoes}
 use Rattle.machine.specs.Answer.{Ending, Safe, Sure}
 use Rattle.machine.specs.Cells.{Remembering}
+use Rattle.machine.specs.Places.{Loaded}
+use Rattle.remus.proofs.Steady.{steady}
 
 tiling : (p m : List ℕ) (u : ℕ) → u ≤ length m → Tiles p m u mainAt → Tiling p m u mainAt
 tiling p m u h t = record { fits = h; tiled = tiles! p m (length m) u mainAt (omega arith) t }
@@ -54,6 +60,7 @@ module _ (p : List ℕ) (rules : Rules p) (m rd : List ℕ) (few : length m ≤ 
       let filled = kept-all p (all-static p rules) m′ good .change in
       record {
         remembers = remembers;
+        first = k .0 .later .reactors mainAt (s .main) ∙ s .first;
         tiled = tiling p m′ (used m′) (good .fits) (good .tiles);
         kept-tiled = tiling p _ _ (filled .good .fits) (filled .good .tiles);
         kept-turns = filled .clock;
@@ -69,12 +76,31 @@ module _ (p : List ℕ) (rules : Rules p) (m rd : List ℕ) (few : length m ≤ 
       record {
         few = few;
         past = omega (arith, in-to p (s .main));
+        steady = λ sk e. steady p rules m rd sk s e;
         ends = ends;
         stops = stops;
         undoes = λ w m′ e. undoes p rules m rd m′ w s e;
       }
 
+-- an accepted program, by its rules
+loads : (p : List ℕ) → Rules p → (t : List ℕ) → Facts p t → Loaded p t
+unfolding commandsIn sources mainOf
+loads p rules t f =
+    record {
+      facts = f;
+      few = rules .tables .header .few-reactors;
+      inside = λ r l. omega (arith, commands-within p r l, rules .tables .whole);
+      short = λ r l.
+          let e = rules .tables .entries r l in
+          omega (arith, rules .tables .every-shape _ (e .shape) .few-sources, e .few-declared, e .few-running);
+      some = λ r l. rules .tables .entries r l .some-running;
+      main = omega (arith, rules .tables .header .some-reactor);
+    }
+
 pub sure : (p : List ℕ) (size : ℕ) → checkOf p ≡ Accepted size → Sure p
-sure p size e m rd few h =
+sure p size e =
     let rules = exact p .0 (ap numberOf e) in
-    safe p rules m rd few (exact-soundness p (rules .tables .header .few-reactors) m few .0 h)
+    record {
+      loaded = loads p rules;
+      safe = λ m rd few h. safe p rules m rd few (exact-soundness p (rules .tables .header .few-reactors) m few .0 h);
+    }

@@ -3,6 +3,7 @@
 use Prim.Native.Nat.{ℕ, _*_, _≤_, _<_}
 use mathlib.Core.Path.{_≡_, sym, subst}
 use mathlib.Core.List.{List}
+use native.Mathlib.Omega.{arith}
 use lib.ListN.{length}
 use Rattle.program.specs.Bytes.{mainOf}
 use Rattle.program.specs.Location.{sinks}
@@ -16,10 +17,13 @@ use Rattle.remus.specs.Undo.{undoOf}
 use Rattle.remus.specs.declared.Turned.{Turned}
 use Rattle.machine.specs.declared.Ended.the-variants.{Whole, Stopped}
 use Rattle.machine.specs.Act.{Workable, ranAs}
-use Rattle.machine.specs.Answer.{turned}
+use Rattle.machine.specs.Answer.{turned, Safe}
 use Rattle.machine.proofs.Keeping.{run-keeps, Worked}
 
 -- ---- main's run
+
+pub workable : {p rd m : List ℕ} → Safe p rd m → turns m < mostTurns → Workable m
+workable s h = record { few = s .few; past = s .past; clock = omega arith }
 
 module _ (p rd m m′ : List ℕ) where
   pub run-whole : ranAs Whole m′ ≡ runOf 64 p rd 1 m mainAt → mainRun p rd m ≡ ran m′

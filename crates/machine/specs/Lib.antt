@@ -1,3 +1,5 @@
 pub mod Act
-pub mod Answer
 pub mod Cells
+pub mod Places
+pub mod Opened
+pub mod Answer

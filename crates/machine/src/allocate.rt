@@ -1,97 +1,85 @@
-// The commands that allocate: AllocMono and AllocPoly. 01: "At 65 the turn ends with 15; else, if
-// its size exceeds n less u at that moment, with 14".
+// The commands that allocate: AllocMono and AllocPoly. A new deployment stands one deeper than its
+// owner: past the limit of depths the turn ends with 15, and else, where it does not fit the words that
+// are left, with 14.
+use crate::Ended;
 use crate::Outcome;
 use crate::command::give;
-use crate::command::here;
 use image::MOST_DEPTH;
-use image::content;
-use image::mark;
 use image::next;
-use image::place;
+use image::pair;
+use image::put;
+use image::put_pair;
 use image::reactor;
-use image::store;
+use image::set_used;
 use image::used;
+use image::word;
 use load::Refusal;
+use program::fact;
 use program::reactors;
-use program::size_of;
 use value::Value;
 ghost use mathlib.Core.Path.{_≡_};
 ghost use mathlib.Core.Bool.{true, false};
 ghost use mathlib.Core.List.{List};
-ghost use Prim.Native.Nat.{ℕ, _-_, _<_, _≤_};
+ghost use Prim.Native.Nat.{ℕ, _+_, _<_, _≤_};
 ghost use lib.ListN.{length};
 ghost use Rattle.value.specs.Test.{_≤?_};
 ghost use Rattle.value.specs.Value as W;
 ghost use Rattle.program.specs.Bytes as B;
 ghost use Rattle.program.specs.Command as C;
+ghost use Rattle.program.specs.Counts.{Facts};
 ghost use Rattle.program.specs.Location as L;
 ghost use Rattle.image.specs.Memory as M;
 ghost use Rattle.remus.specs.Exec as X;
-ghost use Rattle.machine.specs.Act.{did, acted, Acts};
+ghost use Rattle.machine.specs.Act.{did, acted, Acts, Declares, Here, Stands};
 
-// Whether a deployment of reactor r fits the words that are left.
-fn room(program: &[u8], memory: &[u32], r: u32) -> bool
-    ensures { λ t. ⌜ t ≡ (L.sizeOf (now (program .entry)) r ≤? length (now (memory .entry)) - M.used (now (memory .entry))) ⌝ }
+// Whether so many words are left behind u.
+fn room(memory: &[u32], size: u32) -> bool
+    ensures { λ t. ⌜ t ≡ (M.used (now (memory .entry)) + size ≤? length (now (memory .entry))) ⌝ }
 {
-    let u = used(memory) as usize;
-    if memory.len() < u {
-        return false;
-    }
-    size_of(program, r) as usize <= memory.len() - u
+    used(memory) as usize + size as usize <= memory.len()
 }
 
-// A new deployment of reactor r, for which there is room.
-fn place_new(program: &[u8], memory: &mut [u32], r: u32, old: u32)
+// A new deployment of reactor r, of this size, for which there is room.
+fn place_new(memory: &mut [u32], r: u32, old: u32, size: u32)
     requires { ⌜ length (now memory) ≤ M.mostWords ⌝ }
-    requires { ⌜ L.sizeOf (now program) r ≤ length (now memory) - M.used (now memory) ⌝ }
-    ensures { λ _. ⌜ now (memory .exit) ≡ M.place (now (program .entry)) (now (memory .entry)) r old ⌝ }
-{
-    place(program, memory, r, old)
-}
-
-// The new deployment at u is the command's.
-fn allocate(program: &[u8], memory: &mut [u32], o: u32, i: u16, x: u8) -> Outcome
-    requires { ⌜ i < 511 ⌝ }
-    requires { ⌜ length (now memory) ≤ M.mostWords ⌝ }
-    requires { ⌜ L.sizeOf (now program) x ≤ length (now memory) - M.used (now memory) ⌝ }
-    ensures { λ r. ⌜ did r (now (memory .exit)) ≡ acted (now (memory .entry)) (X.move (M.store (now (program .entry)) (M.place (now (program .entry)) (now (memory .entry)) x 0) o (L.commandLoc (now (program .entry)) (M.reactor (now (memory .entry)) o) i) (W.value W.deploymentMark (M.used (now (memory .entry)))))) ⌝ }
+    requires { ⌜ M.used (now memory) + size ≤ length (now memory) ⌝ }
+    ensures { λ _.
+        ⌜ ((p : List ℕ) → size ≡ L.sizeOf p r → now (memory .exit) ≡ M.place p (now (memory .entry)) r old) ⌝ }
 {
     let u = used(memory);
-    let l = here(program, memory, o, i);
-    place_new(program, memory, x as u32, 0);
-    store(
-        program,
+    put(memory, u as usize, r);
+    put(memory, u as usize + 1, 0);
+    put(memory, u as usize + 2, old);
+    set_used(memory, u + size)
+}
+
+// 1 AllocMono: a new deployment of reactor x.
+pub(crate) fn alloc_mono(facts: &[u64; 64], memory: &mut [u32], h: u8, here: usize, x: u8) -> Ended
+    requires { ⌜ here < 8589934592 ⌝ }
+    requires { ⌜ length (now memory) ≤ M.mostWords ⌝ }
+    ensures { λ r.
+        let m = now (memory .entry) in
+        ⌜ ((p : List ℕ) (o i : ℕ) → Facts p (now (facts .entry)) → B.reactors p ≤ 64 → x < B.reactors p
+        → Stands m o → Here p m o i here → Declares p h m o i (C.allocMono x) r (now (memory .exit))) ⌝ }
+{
+    if MOST_DEPTH <= h {
+        return Ended::Stopped(Refusal::TooDeep(x as usize));
+    }
+    let size = fact(facts, x as u32).size();
+    if !room(memory, size) {
+        return Ended::Stopped(Refusal::NoRoom(x as usize));
+    }
+    let u = used(memory);
+    place_new(memory, x as u32, 0, size);
+    put_pair(
         memory,
-        o,
-        l,
+        here,
         Value {
             mark: Value::DEPLOYMENT,
             content: u,
         },
     );
-    Outcome::Move
-}
-
-// 1 AllocMono: a new deployment of reactor x.
-pub(crate) fn alloc_mono(
-    program: &[u8],
-    memory: &mut [u32],
-    h: u8,
-    o: u32,
-    i: u16,
-    x: u8,
-) -> Outcome
-    requires { ⌜ i < 511 ⌝ }
-    requires { ⌜ length (now memory) ≤ M.mostWords ⌝ }
-    ensures { λ r. ⌜ Acts (now (program .entry)) h (now (memory .entry)) o i (C.allocMono x) r (now (memory .exit)) ⌝ }
-{
-    if MOST_DEPTH <= h {
-        return Outcome::Fail(Refusal::TooDeep(x as usize));
-    }
-    if !room(program, memory, x as u32) {
-        return Outcome::Fail(Refusal::NoRoom(x as usize));
-    }
-    allocate(program, memory, o, i, x)
+    Ended::Whole
 }
 
 // The deployment of reactor q on the chain from `head`; 0 if there is none.
@@ -113,71 +101,84 @@ fn find(program: &[u8], memory: &[u32], q: u32, head: u32) -> u32
     0
 }
 
-// The new deployment at u is the newest of branch point b, and the command's.
-fn branch(program: &[u8], memory: &mut [u32], o: u32, i: u16, q: u32, b: u8) -> Outcome
-    requires { ⌜ i < 511 ⌝ }
+// The new deployment at u is the newest of the branch point at b, and the command's.
+fn branch(memory: &mut [u32], here: usize, q: u32, b: usize, size: u32) -> Outcome
+    requires { ⌜ (here < 8589934592) × (b < 8589934592) ⌝ }
     requires { ⌜ length (now memory) ≤ M.mostWords ⌝ }
-    requires { ⌜ L.sizeOf (now program) q ≤ length (now memory) - M.used (now memory) ⌝ }
-    ensures { λ r. ⌜ ((rd : List ℕ) (h : ℕ) → did r (now (memory .exit)) ≡ acted (now (memory .entry)) (X.branched (now (program .entry)) rd h (now (memory .entry)) o i false true q b)) ⌝ }
+    requires { ⌜ M.used (now memory) + size ≤ length (now memory) ⌝ }
+    ensures { λ r.
+        let m = now (memory .entry) in
+        ⌜ ((p rd : List ℕ) (h o i j k : ℕ) → size ≡ L.sizeOf p q → Stands m o → b ≡ M.slot p m o k → Here p m o i here
+        → did r (now (memory .exit)) ≡ acted m (C.allocPoly j k) (X.branched p rd h m o i false true q k)) ⌝ }
 {
     let u = used(memory);
-    let l = here(program, memory, o, i);
-    let head = content(program, memory, o, b as u16);
-    place_new(program, memory, q, head);
-    store(
-        program,
+    let head = word(memory, b + 1);
+    place_new(memory, q, head, size);
+    put_pair(
         memory,
-        o,
-        b as u16,
+        b,
         Value {
             mark: Value::POINT,
             content: u,
         },
     );
-    store(
-        program,
+    give(
         memory,
-        o,
-        l,
+        here,
         Value {
             mark: Value::DEPLOYMENT,
             content: u,
         },
-    );
-    Outcome::Move
+    )
 }
 
-// A deployment of reactor q on branch point b, where none is.
-fn make(program: &[u8], memory: &mut [u32], h: u8, o: u32, i: u16, q: u32, b: u8) -> Outcome
-    requires { ⌜ i < 511 ⌝ }
+// A deployment of reactor q on the branch point at b, where none is.
+fn make(facts: &[u64; 64], memory: &mut [u32], h: u8, here: usize, q: u32, b: usize) -> Outcome
+    requires { ⌜ (here < 8589934592) × (b < 8589934592) ⌝ }
     requires { ⌜ length (now memory) ≤ M.mostWords ⌝ }
-    ensures { λ r. ⌜ ((rd : List ℕ) → did r (now (memory .exit)) ≡ acted (now (memory .entry)) (X.chosen (now (program .entry)) rd h (now (memory .entry)) o i 0 q b)) ⌝ }
+    ensures { λ r.
+        let m = now (memory .entry) in
+        ⌜ ((p rd : List ℕ) (o i j k : ℕ) → Facts p (now (facts .entry)) → B.reactors p ≤ 64 → q < B.reactors p
+        → Stands m o → b ≡ M.slot p m o k → Here p m o i here
+        → did r (now (memory .exit)) ≡ acted m (C.allocPoly j k) (X.chosen p rd h m o i 0 q k)) ⌝ }
 {
     if MOST_DEPTH <= h {
         return Outcome::Fail(Refusal::TooDeep(q as usize));
     }
-    if !room(program, memory, q) {
+    let size = fact(facts, q).size();
+    if !room(memory, size) {
         return Outcome::Fail(Refusal::NoRoom(q as usize));
     }
-    branch(program, memory, o, i, q, b)
+    branch(memory, here, q, b, size)
 }
 
-// The deployment of reactor q on branch point b, made if missing.
-fn choose(program: &[u8], memory: &mut [u32], h: u8, o: u32, i: u16, q: u32, b: u8) -> Outcome
-    requires { ⌜ i < 511 ⌝ }
+// The deployment of reactor q on the branch point at b, made if missing.
+fn choose(
+    program: &[u8],
+    facts: &[u64; 64],
+    memory: &mut [u32],
+    h: u8,
+    here: usize,
+    q: u32,
+    b: usize,
+) -> Outcome
+    requires { ⌜ (here < 8589934592) × (b < 8589934592) ⌝ }
     requires { ⌜ length (now memory) ≤ M.mostWords ⌝ }
-    ensures { λ r. ⌜ ((rd : List ℕ) → did r (now (memory .exit)) ≡ acted (now (memory .entry)) (X.operated (now (program .entry)) rd h (now (memory .entry)) o i false q b)) ⌝ }
+    ensures { λ r.
+        let p = now (program .entry) in
+        let m = now (memory .entry) in
+        ⌜ ((rd : List ℕ) (o i j k : ℕ) → Facts p (now (facts .entry)) → B.reactors p ≤ 64 → q < B.reactors p
+        → Stands m o → b ≡ M.slot p m o k → Here p m o i here
+        → did r (now (memory .exit)) ≡ acted m (C.allocPoly j k) (X.operated p rd h m o i false q k)) ⌝ }
 {
-    let newest = content(program, memory, o, b as u16);
+    let newest = word(memory, b + 1);
     let d = find(program, memory, q, newest);
     if d < 1 {
-        return make(program, memory, h, o, i, q, b);
+        return make(facts, memory, h, here, q, b);
     }
     give(
-        program,
         memory,
-        o,
-        i,
+        here,
         Value {
             mark: Value::DEPLOYMENT,
             content: d,
@@ -185,24 +186,30 @@ fn choose(program: &[u8], memory: &mut [u32], h: u8, o: u32, i: u16, q: u32, b: 
     )
 }
 
-// 9 AllocPoly: the deployment of the operator's reactor on branch point b; blank for a blank
-// operator.
+// 9 AllocPoly: the deployment of the operator's reactor, at a, on the branch point at b; blank for a
+// blank operator.
 pub(crate) fn alloc_poly(
     program: &[u8],
+    facts: &[u64; 64],
     memory: &mut [u32],
     h: u8,
-    o: u32,
-    i: u16,
-    a: u8,
-    b: u8,
+    here: usize,
+    a: usize,
+    b: usize,
 ) -> Outcome
-    requires { ⌜ i < 511 ⌝ }
+    requires { ⌜ (here < 8589934592) × (a < 8589934592) × (b < 8589934592) ⌝ }
     requires { ⌜ length (now memory) ≤ M.mostWords ⌝ }
-    ensures { λ r. ⌜ Acts (now (program .entry)) h (now (memory .entry)) o i (C.allocPoly a b) r (now (memory .exit)) ⌝ }
+    ensures { λ r.
+        let p = now (program .entry) in
+        let m = now (memory .entry) in
+        ⌜ ((o i j k : ℕ) → Facts p (now (facts .entry)) → B.reactors p ≤ 64 → Stands m o
+        → a ≡ M.slot p m o j → b ≡ M.slot p m o k → Here p m o i here
+        → (W.isBlank (M.valueAt p m o j) ≡ false → M.content p m o j < B.reactors p)
+        → Acts p h m o i (C.allocPoly j k) r (now (memory .exit))) ⌝ }
 {
-    if mark(program, memory, o, a as u16) == Value::BLANK {
-        return give(program, memory, o, i, Value::blank());
+    let q = pair(memory, a);
+    if q.mark == Value::BLANK {
+        return give(memory, here, Value::blank());
     }
-    let q = content(program, memory, o, a as u16);
-    choose(program, memory, h, o, i, q, b)
+    choose(program, facts, memory, h, here, q.content, b)
 }

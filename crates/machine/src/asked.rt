@@ -19,7 +19,9 @@ ghost use Rattle.machine.specs.Answer.{broughtAs};
 // Whether reading k, from 0, is legal.
 fn reading_legal(program: &[u8], readings: &[u32], k: u8) -> bool
     requires { ⌜ k < 255 ⌝ }
-    ensures { λ t. ⌜ t ≡ K.legal (now (program .entry)) (B.globalKind (now (program .entry)) (k + 1)) (T.readingAt (now (readings .entry)) k) ⌝ }
+    ensures { λ t.
+        let p = now (program .entry) in
+        ⌜ t ≡ K.legal p (B.globalKind p (k + 1)) (T.readingAt (now (readings .entry)) k) ⌝ }
 {
     let kind = global_kind(program, k + 1);
     legal(program, kind, reading_at(readings, k))
@@ -42,7 +44,9 @@ fn bad_reading(program: &[u8], readings: &[u32]) -> u8
 
 // The first question that is not answered well.
 pub(crate) fn asked(program: &[u8], memory: &[u32], readings: &[u32], space: &[u32]) -> Brought
-    ensures { λ r. ⌜ broughtAs r ≡ T.askedOf (now (program .entry)) (now (memory .entry)) (now (readings .entry)) (now (space .entry)) ⌝ }
+    ensures { λ r.
+        let p = now (program .entry) in
+        ⌜ broughtAs r ≡ T.askedOf p (now (memory .entry)) (now (readings .entry)) (now (space .entry)) ⌝ }
 {
     let g = globals(program);
     if readings.len() != 2 * (g as usize) {

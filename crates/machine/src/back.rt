@@ -1,28 +1,24 @@
 // One deployment of before a refused turn, brought back: the heads of its branch points, its other
 // slots zero.
-use crate::Position;
 use crate::clear::clear_one;
-use crate::command::here;
-use crate::exec::command_of;
-use image::content;
 use image::next;
+use image::put_pair;
 use image::reactor;
-use image::store;
+use image::word;
 use program::Command;
-use program::commands_at;
-use program::declared;
+use program::byte;
+use program::fact;
 use program::reactors;
 use value::Value;
 ghost use mathlib.Core.Path.{_≡_};
-ghost use Prim.Native.Nat.{_+_, _≤_};
+ghost use Prim.Native.Nat.{ℕ, _+_, _≤_, _<_};
 ghost use lib.ListN.{length};
-ghost use Rattle.value.specs.Value as W;
 ghost use Rattle.program.specs.Bytes as B;
 ghost use Rattle.program.specs.Command as C;
-ghost use Rattle.program.specs.Location as L;
+ghost use Rattle.program.specs.declared.Command.{Command};
 ghost use Rattle.image.specs.Memory as M;
 ghost use Rattle.remus.specs.Undo as U;
-ghost use Rattle.machine.specs.Act.{Located};
+ghost use Rattle.machine.specs.Places.{Loaded};
 
 // The first of the chain from `head` that lies below u.
 fn first_below(program: &[u8], memory: &[u32], u: u32, head: u32) -> u32
@@ -40,17 +36,19 @@ fn first_below(program: &[u8], memory: &[u32], u: u32, head: u32) -> u32
     0
 }
 
-// The branch point at location l of o heads again what it did.
-fn point_back(program: &[u8], memory: &mut [u32], u: u32, o: u32, l: u16)
-    ensures { λ _. ⌜ now (memory .exit) ≡ M.store (now (program .entry)) (now (memory .entry)) o l (W.value W.pointMark (U.below (B.reactors (now (program .entry)) + 1) (now (memory .entry)) u (M.content (now (program .entry)) (now (memory .entry)) o l))) ⌝ }
+// The branch point whose words lie at i heads again what it did.
+fn point_back(program: &[u8], memory: &mut [u32], u: u32, i: usize)
+    requires { ⌜ i < 8589934592 ⌝ }
+    ensures { λ _.
+        let p = now (program .entry) in
+        let m = now (memory .entry) in
+        ⌜ ((o l x : ℕ) → i ≡ M.slot p m o l → now (memory .exit) ≡ U.slotBack p u m o l (C.point x)) ⌝ }
 {
-    let head = content(program, memory, o, l);
+    let head = word(memory, i + 1);
     let c = first_below(program, memory, u, head);
-    store(
-        program,
+    put_pair(
         memory,
-        o,
-        l,
+        i,
         Value {
             mark: Value::POINT,
             content: c,
@@ -58,41 +56,48 @@ fn point_back(program: &[u8], memory: &mut [u32], u: u32, o: u32, l: u16)
     )
 }
 
-// The slot of D command j of o.
-fn slot_back(program: &[u8], memory: &mut [u32], known: Position, u: u32, o: u32, j: u8)
-    requires { ⌜ Located (now program) known ⌝ }
-    ensures { λ _. ⌜ now (memory .exit) ≡ U.slotBack (now (program .entry)) u (now (memory .entry)) o (L.commandLoc (now (program .entry)) (M.reactor (now (memory .entry)) o) j) (C.madeBy (C.cmdOf (now (program .entry)) (M.reactor (now (memory .entry)) o) j)) ⌝ }
+// The slot at i of a D command with this code.
+fn slot_back(program: &[u8], memory: &mut [u32], u: u32, code: u8, i: usize)
+    requires { ⌜ i < 8589934592 ⌝ }
+    ensures { λ _.
+        let p = now (program .entry) in
+        let m = now (memory .entry) in
+        ⌜ ((o l : ℕ) (c : Command) → c .code ≡ code → i ≡ M.slot p m o l
+        → now (memory .exit) ≡ U.slotBack p u m o l (C.madeBy (C.decode c))) ⌝ }
 {
-    let l = here(program, memory, o, j as u16);
-    let c = command_of(program, memory, known, o, j as u16);
-    if c.code == Command::MAKE_POLY {
-        point_back(program, memory, u, o, l);
+    if code == Command::MAKE_POLY {
+        point_back(program, memory, u, i);
     }
 }
 
-// All D slots of o.
-fn slots_back(program: &[u8], memory: &mut [u32], u: u32, o: u32)
-    ensures { λ _. ⌜ now (memory .exit) ≡ U.slotsBack (now (program .entry)) u (B.declared (now (program .entry)) (M.reactor (now (memory .entry)) o)) 0 (now (memory .entry)) o ⌝ }
+// All D slots of o, which stand in a row.
+fn slots_back(program: &[u8], facts: &[u64; 64], memory: &mut [u32], u: u32, o: u32)
+    requires { ⌜ Loaded (now program) (now facts) ⌝ }
+    requires { ⌜ M.reactor (now memory) o < B.reactors (now program) ⌝ }
+    ensures { λ _.
+        let p = now (program .entry) in
+        let m = now (memory .entry) in
+        ⌜ now (memory .exit) ≡ U.slotsBack p u (B.declared p (M.reactor m o)) 0 m o ⌝ }
 {
-    let r = reactor(memory, o);
-    let known = Position {
-        reactor: r,
-        at: commands_at(program, r),
-    };
-    let n = declared(program, r);
+    let counts = fact(facts, reactor(memory, o));
+    let at = counts.at() as usize;
+    let first = o as usize + counts.slots_d() as usize;
+    let n = counts.declared();
     let mut j: u8 = 0;
     while j < n {
-        let k = j;
+        let k = j as usize;
         j += 1;
-        slot_back(program, memory, known, u, o, k);
+        slot_back(program, memory, u, byte(program, at + 8 * k), first + 2 * k);
     }
 }
 
 // A deployment that is older than the turn.
-pub(crate) fn one_back(program: &[u8], memory: &mut [u32], u: u32, o: u32)
+pub(crate) fn one_back(program: &[u8], facts: &[u64; 64], memory: &mut [u32], u: u32, o: u32)
+    requires { ⌜ Loaded (now program) (now facts) ⌝ }
+    requires { ⌜ M.reactor (now memory) o < B.reactors (now program) ⌝ }
     requires { ⌜ o + M.sizeAt (now program) (now memory) o ≤ length (now memory) ⌝ }
     ensures { λ _. ⌜ now (memory .exit) ≡ U.oneBack (now (program .entry)) u (now (memory .entry)) o ⌝ }
 {
-    slots_back(program, memory, u, o);
-    clear_one(program, memory, o)
+    slots_back(program, facts, memory, u, o);
+    clear_one(program, facts, memory, o)
 }

@@ -2,14 +2,15 @@
 // the turn completes: Fetch reads a cell as the turn found it, and a refused turn leaves every cell.
 use crate::Outcome;
 use crate::command::give;
-use crate::command::of_kind;
-use image::value_at;
+use image::pair;
 use value::Value;
 ghost use mathlib.Core.Path.{_≡_};
+ghost use mathlib.Core.List.{List};
 ghost use Prim.Native.Nat.{ℕ, _<_};
 ghost use Rattle.program.specs.Command as C;
+ghost use Rattle.image.specs.Memory as M;
 ghost use Rattle.remus.specs.Cells as S;
-ghost use Rattle.machine.specs.Act.{Acts};
+ghost use Rattle.machine.specs.Act.{Acts, Here};
 
 // A value as the slot of a Keep that has run holds it. A blank slot is that of one that has not.
 fn pending(v: Value) -> Value
@@ -34,39 +35,27 @@ pub(crate) fn kept(v: Value) -> Value
     v
 }
 
-// 11 Cell: its first content, v of kind x.
-pub(crate) fn cell(program: &[u8], memory: &mut [u32], o: u32, i: u16, x: u8, v: u32) -> Outcome
-    requires { ⌜ i < 511 ⌝ }
+// 12 Fetch: the content of the cell at b.
+pub(crate) fn fetch(memory: &mut [u32], here: usize, b: usize) -> Outcome
+    requires { ⌜ (here < 8589934592) × (b < 8589934592) ⌝ }
     ensures { λ r.
-        let p = now (program .entry) in
         let m = now (memory .entry) in
-        ⌜ ((h : ℕ) → Acts p h m o i (C.cell x v) r (now (memory .exit))) ⌝ }
+        ⌜ ((p : List ℕ) (h o i k : ℕ) → b ≡ M.slot p m o k → Here p m o i here
+        → Acts p h m o i (C.fetch k) r (now (memory .exit))) ⌝ }
 {
-    let first = of_kind(x, v);
-    give(program, memory, o, i, first)
+    let v = pair(memory, b);
+    give(memory, here, v)
 }
 
-// 12 Fetch: the content of cell b.
-pub(crate) fn fetch(program: &[u8], memory: &mut [u32], o: u32, i: u16, b: u8) -> Outcome
-    requires { ⌜ i < 511 ⌝ }
+// 13 Keep: the value at a waits to be a cell's content.
+pub(crate) fn keep(memory: &mut [u32], here: usize, a: usize) -> Outcome
+    requires { ⌜ (here < 8589934592) × (a < 8589934592) ⌝ }
     ensures { λ r.
-        let p = now (program .entry) in
         let m = now (memory .entry) in
-        ⌜ ((h : ℕ) → Acts p h m o i (C.fetch b) r (now (memory .exit))) ⌝ }
+        ⌜ ((p : List ℕ) (h o i j k : ℕ) → a ≡ M.slot p m o j → Here p m o i here
+        → Acts p h m o i (C.keep j k) r (now (memory .exit))) ⌝ }
 {
-    let v = value_at(program, memory, o, b as u16);
-    give(program, memory, o, i, v)
-}
-
-// 13 Keep: value a waits to be the content of cell b.
-pub(crate) fn keep(program: &[u8], memory: &mut [u32], o: u32, i: u16, a: u8, b: u8) -> Outcome
-    requires { ⌜ i < 511 ⌝ }
-    ensures { λ r.
-        let p = now (program .entry) in
-        let m = now (memory .entry) in
-        ⌜ ((h : ℕ) → Acts p h m o i (C.keep a b) r (now (memory .exit))) ⌝ }
-{
-    let v = value_at(program, memory, o, a as u16);
+    let v = pair(memory, a);
     let waits = pending(v);
-    give(program, memory, o, i, waits)
+    give(memory, here, waits)
 }

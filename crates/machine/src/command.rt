@@ -1,62 +1,46 @@
 // The commands that neither allocate nor have to do with cells, one function each: 01, the command
-// table.
+// table. They are given the index of each slot's words: `here` is the command's own, a and b those of
+// its operands.
 use crate::Outcome;
-use image::content;
-use image::mark;
+use crate::places::operand;
+use image::pair;
+use image::put_pair;
 use image::reactor;
-use image::store;
 use image::turns;
-use image::value_at;
-use image::word;
-use program::Command;
+use program::fact;
 use program::mark_of;
-use program::sink_loc;
-use program::sources;
 use value::Value;
 ghost use mathlib.Core.Path.{_≡_};
-ghost use Prim.Native.Nat.{ℕ, _<_};
+ghost use mathlib.Core.Bool.{true};
+ghost use mathlib.Core.List.{List};
+ghost use Prim.Native.Nat.{ℕ, _<_, _≤_};
 ghost use Rattle.value.specs.Value as W;
+ghost use Rattle.program.specs.Bytes as B;
 ghost use Rattle.program.specs.Command as C;
+ghost use Rattle.program.specs.Counts.{Facts};
 ghost use Rattle.program.specs.Location as L;
 ghost use Rattle.image.specs.Memory as M;
 ghost use Rattle.remus.specs.Exec as X;
 ghost use Rattle.remus.specs.Turn as T;
-ghost use Rattle.machine.specs.Act.{did, acted, Acts};
+ghost use Rattle.value.specs.Primitive as P;
+ghost use Rattle.value.specs.declared.Value.{Value};
+ghost use Rattle.machine.specs.Act.{did, doing, Acts, Here};
+ghost use Rattle.machine.specs.Places.{Placed};
+ghost use Rattle.machine.specs.declared.Outcome.the-variants.{Given};
 
-// The location of command i of the deployment at o.
-pub(crate) fn here(program: &[u8], memory: &[u32], o: u32, i: u16) -> u16
-    requires { ⌜ i < 511 ⌝ }
-    ensures { λ l. ⌜ l ≡ L.commandLoc (now (program .entry)) (M.reactor (now (memory .entry)) o) i ⌝ }
-{
-    let r = reactor(memory, o);
-    sources(program, r) as u16 + i
-}
+// The primitive that takes a third operand.
+const CHOOSE: u8 = 11;
 
 // The command gives v.
-pub(crate) fn give(program: &[u8], memory: &mut [u32], o: u32, i: u16, v: Value) -> Outcome
-    requires { ⌜ i < 511 ⌝ }
-    ensures { λ r. ⌜ did r (now (memory .exit)) ≡ acted (now (memory .entry)) (X.move (M.store (now (program .entry)) (now (memory .entry)) o (L.commandLoc (now (program .entry)) (M.reactor (now (memory .entry)) o) i) v)) ⌝ }
+pub(crate) fn give(memory: &mut [u32], here: usize, v: Value) -> Outcome
+    requires { ⌜ here < 8589934592 ⌝ }
+    ensures { λ r.
+        let m = now (memory .entry) in
+        ⌜ ((p : List ℕ) (o l : ℕ) → here ≡ M.slot p m o l
+        → did r (now (memory .exit)) ≡ did Given (M.store p m o l v)) ⌝ }
 {
-    let l = here(program, memory, o, i);
-    store(program, memory, o, l, v);
-    Outcome::Move
-}
-
-// 2 MakePoly: an empty branch point.
-pub(crate) fn make_poly(program: &[u8], memory: &mut [u32], o: u32, i: u16, x: u8) -> Outcome
-    requires { ⌜ i < 511 ⌝ }
-    ensures { λ r. ⌜ ((h : ℕ) → Acts (now (program .entry)) h (now (memory .entry)) o i (C.makePoly x) r (now (memory .exit))) ⌝ }
-{
-    give(
-        program,
-        memory,
-        o,
-        i,
-        Value {
-            mark: Value::POINT,
-            content: 0,
-        },
-    )
+    put_pair(memory, here, v);
+    Outcome::Given
 }
 
 // The value v of kind x.
@@ -70,23 +54,21 @@ pub(crate) fn of_kind(x: u8, v: u32) -> Value
 }
 
 // 3 Constant: the value v of kind x.
-pub(crate) fn constant(program: &[u8], memory: &mut [u32], o: u32, i: u16, x: u8, v: u32) -> Outcome
-    requires { ⌜ i < 511 ⌝ }
-    ensures { λ r. ⌜ ((h : ℕ) → Acts (now (program .entry)) h (now (memory .entry)) o i (C.constant x v) r (now (memory .exit))) ⌝ }
+pub(crate) fn constant(memory: &mut [u32], here: usize, x: u8, v: u32) -> Outcome
+    requires { ⌜ here < 8589934592 ⌝ }
+    ensures { λ r.
+        let m = now (memory .entry) in
+        ⌜ ((p : List ℕ) (h o i : ℕ) → Here p m o i here → Acts p h m o i (C.constant x v) r (now (memory .exit))) ⌝ }
 {
     let given = of_kind(x, v);
-    give(program, memory, o, i, given)
+    give(memory, here, given)
 }
 
 // Reading k, from 0.
 pub(crate) fn reading_at(readings: &[u32], k: u8) -> Value
     ensures { λ v. ⌜ v ≡ T.readingAt (now (readings .entry)) k ⌝ }
 {
-    let i = 2 * (k as usize);
-    Value {
-        mark: word(readings, i),
-        content: word(readings, i + 1),
-    }
+    pair(readings, 2 * (k as usize))
 }
 
 // Global x: the time, or a reading.
@@ -105,100 +87,137 @@ fn global_value(readings: &[u32], memory: &[u32], x: u8) -> Value
 }
 
 // 4 Global: global x.
-pub(crate) fn global(
-    program: &[u8],
-    readings: &[u32],
-    memory: &mut [u32],
-    o: u32,
-    i: u16,
-    x: u8,
-) -> Outcome
-    requires { ⌜ i < 511 ⌝ }
+pub(crate) fn global(readings: &[u32], memory: &mut [u32], here: usize, x: u8) -> Outcome
+    requires { ⌜ here < 8589934592 ⌝ }
     requires { ⌜ M.turns (now memory) < 4294967295 ⌝ }
-    ensures { λ r. ⌜ ((h : ℕ) → did r (now (memory .exit)) ≡ acted (now (memory .entry)) (X.exec (now (program .entry)) (now (readings .entry)) h (now (memory .entry)) o i (C.global x))) ⌝ }
+    ensures { λ r.
+        let m = now (memory .entry) in
+        let rd = now (readings .entry) in
+        ⌜ ((p : List ℕ) (h o i : ℕ) → Here p m o i here
+        → did r (now (memory .exit)) ≡ doing p rd h m o i (C.global x)) ⌝ }
 {
     let v = global_value(readings, memory, x);
-    give(program, memory, o, i, v)
+    give(memory, here, v)
 }
 
-// Whether there is a deployment at location b of o. "A blank operator leaves the AllocPoly slot
-// blank".
-fn there(program: &[u8], memory: &[u32], o: u32, b: u8) -> bool
-    ensures { λ r. ⌜ r ≡ X.there (now (program .entry)) (now (memory .entry)) o b ⌝ }
+// 5 Supply: the value at a to source x of the deployment at b, where there is one. Sources come
+// first in a deployment.
+pub(crate) fn supply(memory: &mut [u32], x: u8, a: usize, b: usize) -> Outcome
+    requires { ⌜ (a < 8589934592) × (b < 8589934592) ⌝ }
+    ensures { λ r.
+        let m = now (memory .entry) in
+        ⌜ ((p : List ℕ) (h o i j k : ℕ) → a ≡ M.slot p m o j → b ≡ M.slot p m o k
+        → (X.there p m o k ≡ true → x < L.sources p (M.reactor m (M.content p m o k)))
+        → Acts p h m o i (C.supply x j k) r (now (memory .exit))) ⌝ }
 {
-    mark(program, memory, o, b as u16) == Value::DEPLOYMENT
-}
-
-// Value a of o to source x of its deployment b.
-fn pass(program: &[u8], memory: &mut [u32], o: u32, x: u8, a: u8, b: u8) -> Outcome
-    ensures { λ r. ⌜ did r (now (memory .exit)) ≡ acted (now (memory .entry)) (X.move (M.store (now (program .entry)) (now (memory .entry)) (M.content (now (program .entry)) (now (memory .entry)) o b) x (M.valueAt (now (program .entry)) (now (memory .entry)) o a))) ⌝ }
-{
-    let d = content(program, memory, o, b as u16);
-    let v = value_at(program, memory, o, a as u16);
-    store(program, memory, d, x as u16, v);
+    let d = pair(memory, b);
+    if d.mark != Value::DEPLOYMENT {
+        return Outcome::Move;
+    }
+    let v = pair(memory, a);
+    put_pair(memory, d.content as usize + 3 + 2 * (x as usize), v);
     Outcome::Move
 }
 
-// 5 Supply: value a to source x of deployment b, where there is one.
-pub(crate) fn supply(program: &[u8], memory: &mut [u32], o: u32, x: u8, a: u8, b: u8) -> Outcome
-    ensures { λ r. ⌜ ((h i : ℕ) → Acts (now (program .entry)) h (now (memory .entry)) o i (C.supply x a b) r (now (memory .exit))) ⌝ }
+// 6 React: the deployment at b is to run, where there is one.
+pub(crate) fn react(memory: &[u32], b: usize) -> Outcome
+    requires { ⌜ b < 8589934592 ⌝ }
+    ensures { λ r.
+        let m = now (memory .entry) in
+        ⌜ ((p : List ℕ) (h o i k : ℕ) → b ≡ M.slot p m o k → Acts p h m o i (C.react k) r m) ⌝ }
 {
-    if !there(program, memory, o, b) {
+    let d = pair(memory, b);
+    if d.mark != Value::DEPLOYMENT {
         return Outcome::Move;
     }
-    pass(program, memory, o, x, a, b)
+    Outcome::Call(d.content)
 }
 
-// 6 React: deployment b is to run, where there is one.
-pub(crate) fn react(program: &[u8], memory: &[u32], o: u32, b: u8) -> Outcome
-    ensures { λ r. ⌜ ((h i : ℕ) → Acts (now (program .entry)) h (now (memory .entry)) o i (C.react b) r (now (memory .entry))) ⌝ }
-{
-    if !there(program, memory, o, b) {
-        return Outcome::Move;
-    }
-    Outcome::Call(content(program, memory, o, b as u16))
-}
-
-// Sink x of the deployment at d.
-fn sink_value(program: &[u8], memory: &[u32], d: u32, x: u8) -> Value
-    ensures { λ v. ⌜ v ≡ M.valueAt (now (program .entry)) (now (memory .entry)) d (L.sinkLoc (now (program .entry)) (M.reactor (now (memory .entry)) d) x) ⌝ }
+// The index of sink x's words in the deployment at d.
+pub(crate) fn sink_place(facts: &[u64; 64], memory: &[u32], d: u32, x: u8) -> usize
+    ensures is { λ i.
+        let m = now (memory .entry) in
+        ⌜ ((p : List ℕ) → Facts p (now (facts .entry)) → B.reactors p ≤ 64 → M.reactor m d < B.reactors p
+        → i ≡ M.slot p m d (L.sinkLoc p (M.reactor m d) x)) ⌝ }
+    ensures small { λ i. ⌜ i < 8589934592 ⌝ }
 {
     let r = reactor(memory, d);
-    value_at(program, memory, d, sink_loc(program, r, x))
+    d as usize + fact(facts, r).sink_at(x) as usize
 }
 
-// 7 Consume: sink x of deployment b, blank where there is none.
-pub(crate) fn consume(program: &[u8], memory: &mut [u32], o: u32, i: u16, x: u8, b: u8) -> Outcome
-    requires { ⌜ i < 511 ⌝ }
-    ensures { λ r. ⌜ ((h : ℕ) → Acts (now (program .entry)) h (now (memory .entry)) o i (C.consume x b) r (now (memory .exit))) ⌝ }
+// 7 Consume: sink x of the deployment at b, blank where there is none.
+pub(crate) fn consume(
+    facts: &[u64; 64],
+    memory: &mut [u32],
+    here: usize,
+    x: u8,
+    b: usize,
+) -> Outcome
+    requires { ⌜ (here < 8589934592) × (b < 8589934592) ⌝ }
+    ensures { λ r.
+        let m = now (memory .entry) in
+        ⌜ ((p : List ℕ) (h o i k : ℕ) → Facts p (now (facts .entry)) → B.reactors p ≤ 64
+        → b ≡ M.slot p m o k → Here p m o i here
+        → (X.there p m o k ≡ true → M.reactor m (M.content p m o k) < B.reactors p)
+        → Acts p h m o i (C.consume x k) r (now (memory .exit))) ⌝ }
 {
-    if !there(program, memory, o, b) {
-        return give(program, memory, o, i, Value::blank());
+    let d = pair(memory, b);
+    if d.mark != Value::DEPLOYMENT {
+        return give(memory, here, Value::blank());
     }
-    let d = content(program, memory, o, b as u16);
-    let v = sink_value(program, memory, d, x);
-    give(program, memory, o, i, v)
+    let i = sink_place(facts, memory, d.content, x);
+    let v = pair(memory, i);
+    give(memory, here, v)
 }
 
-// 8 Sink: value a to own sink x.
-pub(crate) fn sink(program: &[u8], memory: &mut [u32], o: u32, x: u8, a: u8) -> Outcome
-    ensures { λ r. ⌜ ((h i : ℕ) → Acts (now (program .entry)) h (now (memory .entry)) o i (C.sink x a) r (now (memory .exit))) ⌝ }
+// 8 Sink: the value at a to own sink x.
+pub(crate) fn sink(facts: &[u64; 64], memory: &mut [u32], o: u32, x: u8, a: usize) -> Outcome
+    requires { ⌜ a < 8589934592 ⌝ }
+    ensures { λ r.
+        let m = now (memory .entry) in
+        ⌜ ((p : List ℕ) (h i j : ℕ) → Facts p (now (facts .entry)) → B.reactors p ≤ 64 → M.reactor m o < B.reactors p
+        → a ≡ M.slot p m o j → Acts p h m o i (C.sink x j) r (now (memory .exit))) ⌝ }
 {
-    let r = reactor(memory, o);
-    let l = sink_loc(program, r, x);
-    let given = value_at(program, memory, o, a as u16);
-    store(program, memory, o, l, given);
+    let v = pair(memory, a);
+    let i = sink_place(facts, memory, o, x);
+    put_pair(memory, i, v);
     Outcome::Move
 }
 
-// 10 Primitive: x of the operands a, b and the first byte of v.
-pub(crate) fn primitive(program: &[u8], memory: &mut [u32], o: u32, i: u16, c: Command) -> Outcome
-    requires { ⌜ i < 511 ⌝ }
-    ensures { λ r. ⌜ ((h : ℕ) → Acts (now (program .entry)) h (now (memory .entry)) o i (C.primitive (c .x) (c .a) (c .b) (c .v0)) r (now (memory .exit))) ⌝ }
+// The third operand of primitive x, which lies at location l; it is looked at where x takes it.
+fn third(memory: &[u32], slots: &[u8; 256], o: u32, x: u8, l: u8) -> Value
+    ensures { λ v.
+        let m = now (memory .entry) in
+        ⌜ ((p : List ℕ) (a b : Value) → Placed p (M.reactor m o) (now (slots .entry)) l
+        → P.primitive x a b v ≡ P.primitive x a b (M.valueAt p m o l)) ⌝ }
 {
-    let first = value_at(program, memory, o, c.a as u16);
-    let second = value_at(program, memory, o, c.b as u16);
-    let third = value_at(program, memory, o, c.v0 as u16);
-    let v = value::primitive(c.x, first, second, third);
-    give(program, memory, o, i, v)
+    if x != CHOOSE {
+        return Value::blank();
+    }
+    operand(memory, slots, o, l)
+}
+
+// 10 Primitive: x of the operands a, b and the one at location l.
+pub(crate) fn primitive(
+    memory: &mut [u32],
+    slots: &[u8; 256],
+    o: u32,
+    here: usize,
+    x: u8,
+    a: usize,
+    b: usize,
+    l: u8,
+) -> Outcome
+    requires { ⌜ (here < 8589934592) × (a < 8589934592) × (b < 8589934592) ⌝ }
+    ensures { λ r.
+        let m = now (memory .entry) in
+        let t = now (slots .entry) in
+        ⌜ ((p : List ℕ) (h i j k : ℕ) → a ≡ M.slot p m o j → b ≡ M.slot p m o k → Placed p (M.reactor m o) t l
+        → Here p m o i here → Acts p h m o i (C.primitive x j k l) r (now (memory .exit))) ⌝ }
+{
+    let first = pair(memory, a);
+    let second = pair(memory, b);
+    let last = third(memory, slots, o, x, l);
+    let v = value::primitive(x, first, second, last);
+    give(memory, here, v)
 }

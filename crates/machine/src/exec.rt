@@ -1,115 +1,132 @@
-// A command, decoded once and carried out.
+// A command, decoded once and carried out: those of D, and those of R.
+use crate::Ended;
 use crate::Outcome;
-use crate::Position;
 use crate::allocate::alloc_mono;
 use crate::allocate::alloc_poly;
-use crate::cells::cell;
 use crate::cells::fetch;
 use crate::cells::keep;
 use crate::command::constant;
 use crate::command::consume;
 use crate::command::global;
-use crate::command::make_poly;
+use crate::command::of_kind;
 use crate::command::primitive;
 use crate::command::react;
 use crate::command::sink;
 use crate::command::supply;
-use image::reactor;
-use image::set_wired;
+use crate::places::place;
+use image::put_pair;
 use program::Command;
-use program::bytes_at;
-use program::commands_at;
-use program::declared;
+use program::bytes_within;
+use value::Value;
 ghost use mathlib.Core.Path.{_≡_};
-ghost use Prim.Native.Nat.{_<_};
+ghost use mathlib.Core.List.{List};
+ghost use Prim.Native.Nat.{ℕ, _+_, _<_, _≤_};
+ghost use lib.ListN.{length};
 ghost use Rattle.program.specs.Bytes as B;
 ghost use Rattle.program.specs.Command as C;
+ghost use Rattle.program.specs.Counts.{Facts};
+ghost use Rattle.program.specs.Location as L;
 ghost use Rattle.image.specs.Memory as M;
-ghost use Rattle.remus.specs.Exec as X;
-ghost use Rattle.machine.specs.Act.{did, acted, Workable, Located};
+ghost use Rattle.remus.specs.Steady.{Fits};
+ghost use Rattle.machine.specs.Act.{did, doing, Declares, Here, Workable};
+ghost use Rattle.machine.specs.Places.{PlacedTo};
 
-// The byte at which the commands of reactor r begin. It is the one known, unless words that are not
-// sound changed the reactor while it ran.
-fn position(program: &[u8], known: Position, r: u32) -> u64
-    requires { ⌜ Located (now program) known ⌝ }
-    ensures is { λ at. ⌜ at ≡ B.commandsAt (now (program .entry)) r ⌝ }
-    ensures small { λ at. ⌜ at < 20000000000000 ⌝ }
+// 2 MakePoly: an empty branch point.
+fn make_poly(memory: &mut [u32], here: usize) -> Ended
+    requires { ⌜ here < 8589934592 ⌝ }
+    ensures { λ r.
+        let m = now (memory .entry) in
+        ⌜ ((p : List ℕ) (h o i x : ℕ) → Here p m o i here
+        → Declares p h m o i (C.makePoly x) r (now (memory .exit))) ⌝ }
 {
-    if known.reactor == r {
-        return known.at;
-    }
-    commands_at(program, r)
+    put_pair(
+        memory,
+        here,
+        Value {
+            mark: Value::POINT,
+            content: 0,
+        },
+    );
+    Ended::Whole
 }
 
-// The bytes of command i of the deployment at o.
-pub(crate) fn command_of(program: &[u8], memory: &[u32], known: Position, o: u32, i: u16) -> Command
-    requires { ⌜ Located (now program) known ⌝ }
-    ensures { λ c. ⌜ c ≡ C.bytesOf (now (program .entry)) (M.reactor (now (memory .entry)) o) i ⌝ }
+// 11 Cell: its first content, v of kind x.
+fn cell(memory: &mut [u32], here: usize, x: u8, v: u32) -> Ended
+    requires { ⌜ here < 8589934592 ⌝ }
+    ensures { λ r.
+        let m = now (memory .entry) in
+        ⌜ ((p : List ℕ) (h o i : ℕ) → Here p m o i here
+        → Declares p h m o i (C.cell x v) r (now (memory .exit))) ⌝ }
 {
-    let r = reactor(memory, o);
-    let at = position(program, known, r);
-    bytes_at(program, at + 8 * (i as u64))
+    let first = of_kind(x, v);
+    put_pair(memory, here, first);
+    Ended::Whole
 }
 
-// At D's end the deployment at o is wired.
-fn make_ready(program: &[u8], memory: &mut [u32], o: u32, i: u16)
-    ensures { λ _. ⌜ now (memory .exit) ≡ X.ready (now (program .entry)) (now (memory .entry)) o i ⌝ }
-{
-    let r = reactor(memory, o);
-    if i == declared(program, r) as u16 {
-        set_wired(memory, o, 1);
-    }
-}
-
-// Carries out the command c, the deployment's i-th.
-fn exec(
-    program: &[u8],
-    readings: &[u32],
+// Carries out the D command c, whose words lie at `here`.
+pub(crate) fn declare(
+    facts: &[u64; 64],
     memory: &mut [u32],
     h: u8,
-    o: u32,
-    i: u16,
+    here: usize,
     c: Command,
-) -> Outcome
-    requires { ⌜ i < 511 ⌝ }
-    requires { ⌜ Workable (now memory) ⌝ }
-    ensures { λ r. ⌜ did r (now (memory .exit)) ≡ acted (now (memory .entry)) (X.exec (now (program .entry)) (now (readings .entry)) h (now (memory .entry)) o i (C.decode c)) ⌝ }
+) -> Ended
+    requires { ⌜ here < 8589934592 ⌝ }
+    requires { ⌜ length (now memory) ≤ M.mostWords ⌝ }
+    ensures { λ q.
+        let m = now (memory .entry) in
+        ⌜ ((p : List ℕ) (r o i : ℕ) → Facts p (now (facts .entry)) → B.reactors p ≤ 64 → c ≡ C.bytesOf p r i
+        → i < B.declared p r → Fits p r m o i → Here p m o i here
+        → Declares p h m o i (C.cmdOf p r i) q (now (memory .exit))) ⌝ }
 {
     let code = c.code;
     match code {
-        Command::ALLOC_MONO => alloc_mono(program, memory, h, o, i, c.x),
-        Command::MAKE_POLY => make_poly(program, memory, o, i, c.x),
-        Command::CONSTANT => constant(program, memory, o, i, c.x, c.v()),
-        Command::GLOBAL => global(program, readings, memory, o, i, c.x),
-        Command::SUPPLY => supply(program, memory, o, c.x, c.a, c.b),
-        Command::REACT => react(program, memory, o, c.b),
-        Command::CONSUME => consume(program, memory, o, i, c.x, c.b),
-        Command::SINK => sink(program, memory, o, c.x, c.a),
-        Command::ALLOC_POLY => alloc_poly(program, memory, h, o, i, c.a, c.b),
-        Command::PRIMITIVE => primitive(program, memory, o, i, c),
-        Command::CELL => cell(program, memory, o, i, c.x, c.v()),
-        Command::FETCH => fetch(program, memory, o, i, c.b),
-        Command::KEEP => keep(program, memory, o, i, c.a, c.b),
-        _ => Outcome::Move,
+        Command::ALLOC_MONO => alloc_mono(facts, memory, h, here, c.x),
+        Command::MAKE_POLY => make_poly(memory, here),
+        Command::CELL => cell(memory, here, c.x, c.v()),
+        _ => Ended::Whole,
     }
 }
 
-// Carries out command i of the deployment at o, which stands at depth h.
-pub(crate) fn act(
+// Carries out the R command at byte `at`, of the deployment at o; its own words lie at `here`.
+pub(crate) fn exec(
     program: &[u8],
+    facts: &[u64; 64],
     readings: &[u32],
     memory: &mut [u32],
-    known: Position,
+    slots: &[u8; 256],
     h: u8,
     o: u32,
-    i: u16,
+    here: usize,
+    at: usize,
 ) -> Outcome
-    requires { ⌜ i < 511 ⌝ }
+    requires { ⌜ at + 8 ≤ length (now program) ⌝ }
+    requires { ⌜ here < 8589934592 ⌝ }
     requires { ⌜ Workable (now memory) ⌝ }
-    requires { ⌜ Located (now program) known ⌝ }
-    ensures { λ r. ⌜ did r (now (memory .exit)) ≡ acted (X.ready (now (program .entry)) (now (memory .entry)) o i) (X.eff (now (program .entry)) (now (readings .entry)) h (now (memory .entry)) o i) ⌝ }
+    ensures { λ q.
+        let p = now (program .entry) in
+        let m = now (memory .entry) in
+        let rd = now (readings .entry) in
+        ⌜ ((r i : ℕ) → Facts p (now (facts .entry)) → B.reactors p ≤ 64 → r < B.reactors p → at ≡ B.commandAt p r i
+        → B.declared p r ≤ i → Fits p r m o i → Here p m o i here
+        → PlacedTo p r (now (slots .entry)) (L.commandLoc p r i + 1)
+        → did q (now (memory .exit)) ≡ doing p rd h m o i (C.cmdOf p r i)) ⌝ }
 {
-    let c = command_of(program, memory, known, o, i);
-    make_ready(program, memory, o, i);
-    exec(program, readings, memory, h, o, i, c)
+    let c = bytes_within(program, at);
+    let code = c.code;
+    let a = place(slots, o, c.a);
+    let b = place(slots, o, c.b);
+    match code {
+        Command::CONSTANT => constant(memory, here, c.x, c.v()),
+        Command::GLOBAL => global(readings, memory, here, c.x),
+        Command::SUPPLY => supply(memory, c.x, a, b),
+        Command::REACT => react(memory, b),
+        Command::CONSUME => consume(facts, memory, here, c.x, b),
+        Command::SINK => sink(facts, memory, o, c.x, a),
+        Command::ALLOC_POLY => alloc_poly(program, facts, memory, h, here, a, b),
+        Command::PRIMITIVE => primitive(memory, slots, o, here, c.x, a, b, c.v0),
+        Command::FETCH => fetch(memory, here, b),
+        Command::KEEP => keep(memory, here, a),
+        _ => Outcome::Given,
+    }
 }

@@ -1,21 +1,20 @@
 // The end of a completed turn: main's sinks go out as pairs, cells take what was kept, all slots but D
 // slots are zeroed, and there is one turn more. 01, "Check, start, turn"; 02 (v).
 use crate::Each;
+use crate::command::sink_place;
 use crate::keeps::has_cells;
 use crate::passes::pass_over;
 use image::MAIN_AT;
-use image::put;
+use image::pair;
+use image::put_pair;
 use image::set_turns;
 use image::turns;
 use image::used;
-use image::value_at;
+use program::fact;
 use program::main_of;
-use program::sink_loc;
-use program::sinks;
-use value::Value;
 ghost use mathlib.Core.Path.{_≡_};
 ghost use Prim.Native.Nat.{_+_, _*_, _<_, _≤_};
-ghost use lib.ListN.{length, set};
+ghost use lib.ListN.{length};
 ghost use Rattle.program.specs.Bytes as B;
 ghost use Rattle.program.specs.Location as L;
 ghost use Rattle.image.specs.Memory as M;
@@ -23,63 +22,61 @@ ghost use Rattle.image.specs.Cut.{Tiling};
 ghost use Rattle.remus.specs.Cells as S;
 ghost use Rattle.remus.specs.Clear as E;
 ghost use Rattle.machine.specs.Answer.{Ending};
+ghost use Rattle.machine.specs.Places.{Loaded};
 
 // What was kept becomes the content of the cells, in a program that has some.
-fn fill_cells(program: &[u8], memory: &mut [u32])
+fn fill_cells(program: &[u8], facts: &[u64; 64], memory: &mut [u32])
+    requires { ⌜ Loaded (now program) (now facts) ⌝ }
     requires { ⌜ Ending (now program) (now memory) ⌝ }
     ensures { λ _.
         let m = now (memory .entry) in
         ⌜ now (memory .exit) ≡ S.keepOf (now (program .entry)) (M.used m) m ⌝ }
 {
     let u = used(memory);
-    if has_cells(program) {
-        pass_over(program, memory, Each::Keep, u);
+    if has_cells(program, facts) {
+        pass_over(program, facts, memory, Each::Keep, u);
     }
 }
 
 // Every slot but D slots is zeroed, and there is one turn more.
-fn close(program: &[u8], memory: &mut [u32])
+fn close(program: &[u8], facts: &[u64; 64], memory: &mut [u32])
+    requires { ⌜ Loaded (now program) (now facts) ⌝ }
     requires { ⌜ Tiling (now program) (now memory) (M.used (now memory)) M.mainAt ⌝ }
     requires { ⌜ M.turns (now memory) < 4294967295 ⌝ }
     ensures { λ _. ⌜ now (memory .exit) ≡ E.closed (now (program .entry)) (now (memory .entry)) ⌝ }
 {
     let u = used(memory);
     let t = turns(memory);
-    pass_over(program, memory, Each::Clear, u);
+    pass_over(program, facts, memory, Each::Clear, u);
     set_turns(memory, t + 1)
 }
 
 // The words after a completed turn.
-pub(crate) fn finish(program: &[u8], memory: &mut [u32])
+pub(crate) fn finish(program: &[u8], facts: &[u64; 64], memory: &mut [u32])
+    requires { ⌜ Loaded (now program) (now facts) ⌝ }
     requires { ⌜ Ending (now program) (now memory) ⌝ }
     requires { ⌜ M.turns (now memory) < 4294967295 ⌝ }
     ensures { λ _. ⌜ now (memory .exit) ≡ E.finished (now (program .entry)) (now (memory .entry)) ⌝ }
 {
-    fill_cells(program, memory);
-    close(program, memory)
-}
-
-// Pair x of the sink space.
-fn put_pair(space: &mut [u32], x: u8, v: Value)
-    ensures { λ _. ⌜ now (space .exit) ≡ set (set (now (space .entry)) (2 * x) (v .mark)) (2 * x + 1) (v .content) ⌝ }
-{
-    let i = 2 * (x as usize);
-    put(space, i, v.mark);
-    put(space, i + 1, v.content)
+    fill_cells(program, facts, memory);
+    close(program, facts, memory)
 }
 
 // Main's sinks as pairs.
-pub(crate) fn write_sinks(program: &[u8], memory: &[u32], space: &mut [u32])
+pub(crate) fn write_sinks(program: &[u8], facts: &[u64; 64], memory: &[u32], space: &mut [u32])
+    requires { ⌜ Loaded (now program) (now facts) ⌝ }
+    requires { ⌜ M.reactor (now memory) M.mainAt ≡ B.mainOf (now program) ⌝ }
+    requires { ⌜ B.mainOf (now program) < B.reactors (now program) ⌝ }
     requires { ⌜ 2 * L.sinks (now program) (B.mainOf (now program)) ≤ length (now space) ⌝ }
     ensures { λ _. ⌜ now (space .exit) ≡ E.sunk (now (program .entry)) (now (memory .entry)) (now (space .entry)) ⌝ }
 {
-    let main = main_of(program) as u32;
-    let n = sinks(program, main);
+    let n = fact(facts, main_of(program) as u32).sinks();
     let mut x: u8 = 0;
     while x < n {
         let k = x;
         x += 1;
-        let v = value_at(program, memory, MAIN_AT, sink_loc(program, main, k));
-        put_pair(space, k, v);
+        let i = sink_place(facts, memory, MAIN_AT, k);
+        let v = pair(memory, i);
+        put_pair(space, 2 * (k as usize), v);
     }
 }

@@ -1,39 +1,41 @@
-// What was kept becomes the content of the cells, deployment by deployment. 02 (v): "A deployment not
-// run keeps its cells". Where a reactor has no cell it has no Keep: its R commands are not looked at.
-use crate::Position;
+// What was kept becomes the content of the cells, deployment by deployment: 02 (v). A deployment that
+// has not run keeps its cells. Where a reactor has no cell it has no Keep: its R commands are not looked
+// at.
 use crate::cells::kept;
-use crate::command::here;
-use crate::exec::command_of;
+use image::pair;
+use image::put_pair;
 use image::reactor;
-use image::store;
-use image::value_at;
 use program::Command;
+use program::Counts;
 use program::byte;
-use program::commands_at;
-use program::commands_in;
-use program::declared;
+use program::bytes_within;
+use program::fact;
 use program::reactors;
-use program::tables_end;
+use program::result_of;
 use value::Value;
 ghost use mathlib.Core.Path.{_≡_};
-ghost use Prim.Native.Nat.{ℕ, _<_};
+ghost use mathlib.Core.List.{List};
+ghost use Prim.Native.Nat.{ℕ, _+_, _*_, _≤_, _<_};
+ghost use lib.ListN.{length};
 ghost use Rattle.program.specs.Bytes as B;
 ghost use Rattle.program.specs.Command as C;
-ghost use Rattle.program.specs.Location as L;
+ghost use Rattle.program.specs.Counts.{Tells};
 ghost use Rattle.image.specs.Memory as M;
 ghost use Rattle.remus.specs.Cells as S;
-ghost use Rattle.machine.specs.Act.{Located};
 ghost use Rattle.machine.specs.Cells.{hasCell, hasCells, Remembering};
+ghost use Rattle.machine.specs.Places.{Loaded};
 
-// Whether one of the reactor's D commands, which begin there, is a Cell.
-fn has_cell(program: &[u8], known: Position) -> bool
-    requires { ⌜ Located (now program) known ⌝ }
-    ensures { λ t. ⌜ t ≡ hasCell (now (program .entry)) (known .reactor) ⌝ }
+// Whether one of a reactor's D commands is a Cell.
+fn has_cell(program: &[u8], counts: Counts) -> bool
+    ensures { λ t.
+        let p = now (program .entry) in
+        ⌜ ((r : ℕ) → Tells p r (counts .word) → t ≡ hasCell p r) ⌝ }
 {
-    let n = declared(program, known.reactor);
+    let n = counts.declared();
+    let at = counts.at() as usize;
     let mut j: u8 = 0;
     while j < n {
-        if byte(program, known.at as usize + 8 * (j as usize)) == Command::CELL {
+        if byte(program, at + 8 * (j as usize)) == Command::CELL {
             return true;
         }
         j = j + 1;
@@ -42,85 +44,70 @@ fn has_cell(program: &[u8], known: Position) -> bool
 }
 
 // Whether some reactor has a cell.
-pub(crate) fn has_cells(program: &[u8]) -> bool
+pub(crate) fn has_cells(program: &[u8], facts: &[u64; 64]) -> bool
+    requires { ⌜ Loaded (now program) (now facts) ⌝ }
     ensures { λ t. ⌜ t ≡ hasCells (now (program .entry)) ⌝ }
 {
     let n = reactors(program);
-    let mut at = tables_end(program) as u64;
     let mut r: u8 = 0;
     while r < n {
-        let known = Position {
-            reactor: r as u32,
-            at: at,
-        };
-        if has_cell(program, known) {
+        if has_cell(program, fact(facts, r as u32)) {
             return true;
         }
-        at = at + 8 * (commands_in(program, r as u32) as u64);
         r = r + 1;
     }
     false
 }
 
-// What command i of o, a Keep of cell b, kept becomes the cell's content, if it has run.
-fn fill(program: &[u8], memory: &mut [u32], o: u32, i: u16, b: u8)
-    requires { ⌜ i < 511 ⌝ }
+// What the Keep whose words lie at i kept becomes the content of its cell, at b, if it has run.
+fn fill(memory: &mut [u32], i: usize, b: usize)
+    requires { ⌜ (i < 8589934592) × (b < 8589934592) ⌝ }
     ensures { λ _.
-        let p = now (program .entry) in
         let m = now (memory .entry) in
-        let l = L.commandLoc p (M.reactor m o) i in
-        ⌜ ((a : ℕ) → now (memory .exit) ≡ S.keepBy p m o l (C.keep a b)) ⌝ }
+        ⌜ ((p : List ℕ) (o l a k : ℕ) → i ≡ M.slot p m o l → b ≡ M.slot p m o k
+        → now (memory .exit) ≡ S.keepBy p m o l (C.keep a k)) ⌝ }
 {
-    let l = here(program, memory, o, i);
-    let v = value_at(program, memory, o, l);
+    let v = pair(memory, i);
     if v.mark != Value::BLANK {
-        store(program, memory, o, b as u16, kept(v));
+        put_pair(memory, b, kept(v));
     }
 }
 
-// What command i of o kept.
-fn keep_by(program: &[u8], memory: &mut [u32], known: Position, o: u32, i: u16)
-    requires { ⌜ i < 511 ⌝ }
-    requires { ⌜ Located (now program) known ⌝ }
-    ensures { λ _.
-        let p = now (program .entry) in
-        let m = now (memory .entry) in
-        let r = M.reactor m o in
-        ⌜ now (memory .exit) ≡ S.keepBy p m o (L.commandLoc p r i) (C.cmdOf p r i) ⌝ }
-{
-    let c = command_of(program, memory, known, o, i);
-    if c.code == Command::KEEP {
-        fill(program, memory, o, i, c.b);
-    }
-}
-
-// What the R commands of o kept.
-fn keep_each(program: &[u8], memory: &mut [u32], known: Position, o: u32)
-    requires { ⌜ Located (now program) known ⌝ }
-    requires { ⌜ known .reactor ≡ M.reactor (now memory) o ⌝ }
+// What the R commands of o kept, by the facts of its reactor. Cells are D commands, whose slots stand in
+// a row.
+fn keep_each(program: &[u8], memory: &mut [u32], counts: Counts, o: u32)
+    requires { ⌜ Remembering (now program) ⌝ }
+    requires { ⌜ M.reactor (now memory) o < B.reactors (now program) ⌝ }
+    requires { let p = now program in
+        let r = M.reactor (now memory) o in
+        ⌜ B.commandsAt p r + 8 * B.commandsIn p r ≤ length p ⌝ }
+    requires { ⌜ Tells (now program) (M.reactor (now memory) o) (counts .word) ⌝ }
     ensures { λ _. ⌜ now (memory .exit) ≡ S.keepOne (now (program .entry)) (now (memory .entry)) o ⌝ }
 {
-    let end = commands_in(program, known.reactor);
-    let mut i = declared(program, known.reactor) as u16;
-    while i < end {
-        let k = i;
-        i += 1;
-        keep_by(program, memory, known, o, k);
+    let at = counts.at() as usize + 8 * (counts.declared() as usize);
+    let n = counts.running();
+    let mut i = o as usize + counts.slots_r() as usize;
+    let mut j: u8 = 0;
+    while j < n {
+        let c = bytes_within(program, at + 8 * (j as usize));
+        let here = i;
+        j += 1;
+        i += 2 * (result_of(c.code) as usize);
+        if c.code == Command::KEEP {
+            fill(memory, here, o as usize + 3 + 2 * (c.b as usize));
+        }
     }
 }
 
 // The cells of the deployment at o.
-pub(crate) fn keep_one(program: &[u8], memory: &mut [u32], o: u32)
+pub(crate) fn keep_one(program: &[u8], facts: &[u64; 64], memory: &mut [u32], o: u32)
+    requires { ⌜ Loaded (now program) (now facts) ⌝ }
     requires { ⌜ Remembering (now program) ⌝ }
     requires { ⌜ M.reactor (now memory) o < B.reactors (now program) ⌝ }
     ensures { λ _. ⌜ now (memory .exit) ≡ S.keepOne (now (program .entry)) (now (memory .entry)) o ⌝ }
 {
-    let r = reactor(memory, o);
-    let known = Position {
-        reactor: r,
-        at: commands_at(program, r),
-    };
-    if has_cell(program, known) {
-        keep_each(program, memory, known, o);
+    let counts = fact(facts, reactor(memory, o));
+    if has_cell(program, counts) {
+        keep_each(program, memory, counts, o);
     }
 }

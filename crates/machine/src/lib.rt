@@ -19,6 +19,7 @@ mod exec;
 mod finish;
 mod keeps;
 mod passes;
+mod places;
 mod run;
 mod undo;
 
@@ -30,9 +31,10 @@ pub use load::Refusal;
 pub use load::check;
 pub use remus::Turned;
 
-// What a command comes to: the next command follows; first the deployment named runs; or the turn
-// ends.
+// What a command comes to: it has given its result, or has none, and the next one follows; first the
+// deployment named runs; or the turn ends.
 pub enum Outcome {
+    Given,
     Move,
     Call(u32),
     Fail(Refusal),
@@ -42,12 +44,6 @@ pub enum Outcome {
 pub enum Ended {
     Whole,
     Stopped(Refusal),
-}
-
-// The byte at which a reactor's commands begin.
-pub struct Position {
-    pub reactor: u32,
-    pub at: u64,
 }
 
 // What a turn brings is as it should be, or why it is refused.

@@ -1,79 +1,61 @@
-// The run of a deployment. 01: "React on a nested deployment runs it to its end before the next
-// command of the outer one; an unwired one runs D first." A run calls itself for the nested one, and
-// 64 less the depth falls.
+// The run of a deployment: 01, "Check, start, turn". One that is not wired carries out D first; React
+// runs a nested one to its end before the next command. The run calls itself for the nested one, and 64
+// less the depth falls.
 use crate::Ended;
 use crate::Outcome;
-use crate::Position;
-use crate::exec::act;
-use image::MOST_DEPTH;
+use crate::exec::declare;
+use crate::exec::exec;
+use crate::places::after;
+use crate::places::lay;
+use crate::places::note;
 use image::reactor;
+use image::set_wired;
 use image::wired;
-use load::Refusal;
-use program::commands_at;
-use program::commands_in;
-use program::declared;
+use program::Counts;
+use program::bytes_within;
+use program::fact;
 ghost use mathlib.Core.Path.{_≡_};
-ghost use Prim.Native.Nat.{_+_, _-_, _<_, _≤_};
-ghost use Rattle.remus.specs.Exec as X;
+ghost use mathlib.Core.List.{List};
+ghost use Prim.Native.Nat.{ℕ, suc, _+_, _-_, _<_};
+ghost use lib.ListN.{length};
+ghost use Rattle.program.specs.Bytes as B;
+ghost use Rattle.program.specs.Counts.{Tells};
+ghost use Rattle.image.specs.Memory as M;
 ghost use Rattle.remus.specs.Run as R;
-ghost use Rattle.machine.specs.Act.{ranAs, Workable, Located};
+ghost use Rattle.remus.specs.Steady.{Steady};
+ghost use Rattle.machine.specs.Act.{ranAs, Workable};
+ghost use Rattle.machine.specs.declared.Ended.the-variants.{Whole};
+ghost use Rattle.machine.specs.Opened.{Declared, Opened};
+ghost use Rattle.machine.specs.Places.{Loaded};
 
-// The command at which the deployment at o opens.
-fn opening(program: &[u8], memory: &[u32], o: u32) -> u8
-    ensures { λ i. ⌜ i ≡ X.opening (now (program .entry)) (now (memory .entry)) o ⌝ }
-{
-    if wired(memory, o) == 0 {
-        return 0;
-    }
-    let r = reactor(memory, o);
-    declared(program, r)
-}
-
-// Carries out command i of the deployment at o and, where it opens another, that one's run.
-fn command(
+// Carries out the D commands of the deployment at o, by the facts of its reactor.
+fn wire(
     program: &[u8],
-    readings: &[u32],
+    facts: &[u64; 64],
     memory: &mut [u32],
-    known: Position,
+    counts: Counts,
     h: u8,
     o: u32,
-    i: u16,
 ) -> Ended
-    requires { ⌜ h ≤ 64 ⌝ }
-    requires { ⌜ i < 511 ⌝ }
+    requires { ⌜ Loaded (now program) (now facts) ⌝ }
+    requires { ⌜ M.reactor (now memory) o < B.reactors (now program) ⌝ }
+    requires { ⌜ Tells (now program) (M.reactor (now memory) o) (counts .word) ⌝ }
     requires { ⌜ Workable (now memory) ⌝ }
-    requires { ⌜ Located (now program) known ⌝ }
-    ensures { λ r. ⌜ ranAs r (now (memory .exit)) ≡ R.stepOf (R.runOf (65 - (h + 1)) (now (program .entry)) (now (readings .entry)) (h + 1)) (now (program .entry)) (now (readings .entry)) h o i (now (memory .entry)) ⌝ }
+    ensures { λ q.
+        let p = now (program .entry) in
+        let m = now (memory .entry) in
+        ⌜ ((rd : List ℕ) (f : ℕ) → Steady p rd (suc f) h m o → M.wired m o ≡ 0
+        → Declared p rd f h o m q (now (memory .exit))) ⌝ }
 {
-    match act(program, readings, memory, known, h, o, i) {
-        Outcome::Move => Ended::Whole,
-        Outcome::Call(d) => run(program, readings, memory, h + 1, d),
-        Outcome::Fail(w) => Ended::Stopped(w),
-    }
-}
-
-// Carries out the commands of the deployment at o from `first` to before `end`.
-fn sequence(
-    program: &[u8],
-    readings: &[u32],
-    memory: &mut [u32],
-    known: Position,
-    h: u8,
-    o: u32,
-    first: u16,
-    end: u16,
-) -> Ended
-    requires { ⌜ h ≤ 64 ⌝ }
-    requires { ⌜ end < 511 ⌝ }
-    requires { ⌜ Workable (now memory) ⌝ }
-    requires { ⌜ Located (now program) known ⌝ }
-    ensures { λ r. ⌜ ranAs r (now (memory .exit)) ≡ R.commands (R.stepOf (R.runOf (65 - (h + 1)) (now (program .entry)) (now (readings .entry)) (h + 1)) (now (program .entry)) (now (readings .entry)) h o) (end - first) first (now (memory .entry)) ⌝ }
-{
-    let mut k = first;
-    while k < end {
-        let i = k;
-        k += 1;
-        match command(program, readings, memory, known, h, o, i) {
+    let n = counts.declared();
+    let at = counts.at() as usize;
+    let first = o as usize + counts.slots_d() as usize;
+    let mut j: u8 = 0;
+    while j < n {
+        let k = j as usize;
+        j += 1;
+        let c = bytes_within(program, at + 8 * k);
+        match declare(facts, memory, h, first + 2 * k, c) {
             Ended::Whole => {}
             Ended::Stopped(w) => return Ended::Stopped(w),
         }
@@ -81,20 +63,88 @@ fn sequence(
     Ended::Whole
 }
 
-// Runs the deployment at o, which stands at depth h, to its end.
-pub(crate) fn run(program: &[u8], readings: &[u32], memory: &mut [u32], h: u8, o: u32) -> Ended
-    requires { ⌜ Workable (now memory) ⌝ }
-    ensures { λ r. ⌜ ranAs r (now (memory .exit)) ≡ R.runOf (65 - h) (now (program .entry)) (now (readings .entry)) h (now (memory .entry)) o ⌝ }
+// D has ended.
+fn make_wired(memory: &mut [u32], o: u32) -> Ended
+    ensures is { λ q. ⌜ q ≡ Whole ⌝ }
+    ensures words { λ _. ⌜ now (memory .exit) ≡ M.withWired (now (memory .entry)) o 1 ⌝ }
 {
-    let r = reactor(memory, o);
-    if MOST_DEPTH < h {
-        return Ended::Stopped(Refusal::TooDeep(r as usize));
+    set_wired(memory, o, 1);
+    Ended::Whole
+}
+
+// The same where it is not wired yet; then it is.
+fn enter(
+    program: &[u8],
+    facts: &[u64; 64],
+    memory: &mut [u32],
+    counts: Counts,
+    h: u8,
+    o: u32,
+) -> Ended
+    requires { ⌜ Loaded (now program) (now facts) ⌝ }
+    requires { ⌜ M.reactor (now memory) o < B.reactors (now program) ⌝ }
+    requires { ⌜ Tells (now program) (M.reactor (now memory) o) (counts .word) ⌝ }
+    requires { ⌜ Workable (now memory) ⌝ }
+    ensures { λ q.
+        let p = now (program .entry) in
+        let m = now (memory .entry) in
+        ⌜ ((rd : List ℕ) (f : ℕ) → Steady p rd (suc f) h m o → Opened p rd f h o m q (now (memory .exit))) ⌝ }
+{
+    if wired(memory, o) != 0 {
+        return make_wired(memory, o);
     }
-    let known = Position {
-        reactor: r,
-        at: commands_at(program, r),
-    };
-    let first = opening(program, memory, o) as u16;
-    let end = commands_in(program, r);
-    sequence(program, readings, memory, known, h, o, first, end)
+    match wire(program, facts, memory, counts, h, o) {
+        Ended::Whole => make_wired(memory, o),
+        Ended::Stopped(w) => Ended::Stopped(w),
+    }
+}
+
+// Runs the deployment at o, which stands at depth h, to its end. The table of places is lent to each
+// nested run, and laid again after it.
+pub(crate) fn run(
+    program: &[u8],
+    facts: &[u64; 64],
+    readings: &[u32],
+    memory: &mut [u32],
+    slots: &mut [u8; 256],
+    h: u8,
+    o: u32,
+) -> Ended
+    requires { ⌜ Loaded (now program) (now facts) ⌝ }
+    requires { ⌜ Workable (now memory) ⌝ }
+    requires { ⌜ Steady (now program) (now readings) (65 - h) h (now memory) o ⌝ }
+    requires { ⌜ length (now slots) ≡ 256 ⌝ }
+    ensures { λ _. ⌜ length (now (slots .exit)) ≡ 256 ⌝ }
+    ensures { λ q.
+        let p = now (program .entry) in
+        let rd = now (readings .entry) in
+        ⌜ ranAs q (now (memory .exit)) ≡ R.runOf (65 - h) p rd h (now (memory .entry)) o ⌝ }
+{
+    let counts = fact(facts, reactor(memory, o));
+    match enter(program, facts, memory, counts, h, o) {
+        Ended::Whole => {}
+        Ended::Stopped(w) => return Ended::Stopped(w),
+    }
+    let first = counts.first() as u8;
+    let at = counts.at() as usize + 8 * (counts.declared() as usize);
+    let end = counts.running();
+    lay(program, slots, at, first, 0);
+    let mut n = first;
+    let mut j: u8 = 0;
+    while j < end {
+        note(slots, first + j, n);
+        let here = after(o, n);
+        let i = at + 8 * (j as usize);
+        j += 1;
+        match exec(program, facts, readings, memory, slots, h, o, here, i) {
+            Outcome::Given => n += 1,
+            Outcome::Move => {}
+            Outcome::Call(d) => match run(program, facts, readings, memory, slots, h + 1, d) {
+                Ended::Whole => lay(program, slots, at, first, j),
+                Ended::Stopped(w) => return Ended::Stopped(w),
+            },
+            Outcome::Fail(w) => return Ended::Stopped(w),
+        }
+    }
+    Ended::Whole
 }

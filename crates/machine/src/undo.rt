@@ -15,12 +15,15 @@ ghost use Rattle.value.specs.Test.{_=?_};
 ghost use Rattle.image.specs.Memory as M;
 ghost use Rattle.image.specs.Cut.{Tiling};
 ghost use Rattle.remus.specs.Undo as U;
+ghost use Rattle.machine.specs.Places.{Loaded};
 
 const MAIN_SLOTS: usize = 5;
 
 // Zeroes all words from i on.
 fn zero_from(memory: &mut [u32], i: usize)
-    ensures { λ _. ⌜ now (memory .exit) ≡ M.patch (now (memory .entry)) i (replicate (length (now (memory .entry)) - i) 0) ⌝ }
+    ensures { λ _.
+        let m = now (memory .entry) in
+        ⌜ now (memory .exit) ≡ M.patch m i (replicate (length m - i) 0) ⌝ }
 {
     let n = memory.len();
     if i < n {
@@ -37,31 +40,36 @@ fn first_back(program: &[u8], memory: &mut [u32], u: u32)
 }
 
 // After a later one the new deployments go, and the old ones are as they were.
-fn later_back(program: &[u8], memory: &mut [u32], u: u32)
+fn later_back(program: &[u8], facts: &[u64; 64], memory: &mut [u32], u: u32)
+    requires { ⌜ Loaded (now program) (now facts) ⌝ }
     requires { ⌜ Tiling (now program) (now memory) u M.mainAt ⌝ }
     ensures { λ _. ⌜ now (memory .exit) ≡ U.back (now (program .entry)) u false (now (memory .entry)) ⌝ }
 {
-    pass_over(program, memory, Each::Back, u);
+    pass_over(program, facts, memory, Each::Back, u);
     zero_from(memory, u as usize)
 }
 
 // All words but u, after a first or a later turn.
-fn back(program: &[u8], memory: &mut [u32], u: u32)
+fn back(program: &[u8], facts: &[u64; 64], memory: &mut [u32], u: u32)
+    requires { ⌜ Loaded (now program) (now facts) ⌝ }
     requires { ⌜ Tiling (now program) (now memory) u M.mainAt ⌝ }
-    ensures { λ _. ⌜ now (memory .exit) ≡ U.back (now (program .entry)) u (M.turns (now (memory .entry)) =? 0) (now (memory .entry)) ⌝ }
+    ensures { λ _.
+        let m = now (memory .entry) in
+        ⌜ now (memory .exit) ≡ U.back (now (program .entry)) u (M.turns m =? 0) m ⌝ }
 {
     if turns(memory) == 0 {
         first_back(program, memory, u)
     } else {
-        later_back(program, memory, u)
+        later_back(program, facts, memory, u)
     }
 }
 
 // The words before the turn.
-pub(crate) fn undo(program: &[u8], memory: &mut [u32], u: u32)
+pub(crate) fn undo(program: &[u8], facts: &[u64; 64], memory: &mut [u32], u: u32)
+    requires { ⌜ Loaded (now program) (now facts) ⌝ }
     requires { ⌜ Tiling (now program) (now memory) u M.mainAt ⌝ }
     ensures { λ _. ⌜ now (memory .exit) ≡ U.undoOf (now (program .entry)) u (now (memory .entry)) ⌝ }
 {
-    back(program, memory, u);
+    back(program, facts, memory, u);
     set_used(memory, u)
 }

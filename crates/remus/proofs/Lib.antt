@@ -11,6 +11,7 @@ pub mod Remembered
 pub mod Lists
 pub mod Inside
 pub mod OneTurn
+pub mod Steady
 pub mod Demand
 pub mod Kept
 pub mod FirstFault

@@ -1,6 +1,7 @@
 pub mod Cells
 pub mod Exec
 pub mod Run
+pub mod Steady
 pub mod Clear
 pub mod Undo
 pub mod Turn

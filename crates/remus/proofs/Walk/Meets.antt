@@ -39,10 +39,14 @@ module _ (p rd : List ℕ) where
   unfolding step stepOn stepAt
   leaving m o i fs ns e = ap (λ (t : Bool). stepAt p rd t m o i fs ns) (eq! e)
 
-  acting : (m : List ℕ) (o i : ℕ) (fs : List Frame) (ns : List Note) → i < commandsIn p (reactor m o) →
-      step p rd (state m (frame o i ∷ fs) ns) ≡ onto p o i fs (notesOf p (ready p m o i) o i (cmdOf p (reactor m o) i) ++ ns) (eff p rd (suc (length fs)) m o i)
+  pub acting : (m : List ℕ) (o i : ℕ) (fs : List Frame) (ns : List Note) → i < commandsIn p (reactor m o)
+      → (x : Eff) → eff p rd (suc (length fs)) m o i ≡ x
+      → step p rd (state m (frame o i ∷ fs) ns) ≡ onto p o i fs
+      (notesOf p (ready p m o i) o i (cmdOf p (reactor m o) i) ++ ns) x
   unfolding step stepOn stepAt
-  acting m o i fs ns h = ap (λ (t : Bool). stepAt p rd t m o i fs ns) (eq× (omega arith))
+  acting m o i fs ns h x q =
+      ap (λ (t : Bool). stepAt p rd t m o i fs ns) (eq× (omega arith))
+      ∙ ap (onto p o i fs (notesOf p (ready p m o i) o i (cmdOf p (reactor m o) i) ++ ns)) q
 
   module _ (u : Facts p) (legal : Legal p rd) {w : List ℕ} where
     pub kept : {s t : State} → Inv p w s → step p rd s ≡ go t → Inv p w t × Onward p (s .words) (t .words)
@@ -56,14 +60,17 @@ module _ (p rd : List ℕ) where
         (g .0, onward-on (f .1) (g .1))
 
     module _ (enter : List ℕ → ℕ → Ran) (o : ℕ) (fs : List Frame)
-        (nested : (m : List ℕ) (d i : ℕ) (ns : List Note) → Inv p w (state m (frame d (opening p m d) ∷ frame o i ∷ fs) ns) →
+        (nested : (m : List ℕ) (d i : ℕ) (ns : List Note) → Inv p w
+        (state m (frame d (opening p m d) ∷ frame o i ∷ fs) ns) →
         Meets (state m (frame d (opening p m d) ∷ frame o i ∷ fs) ns) (frame o i ∷ fs) (enter m d)) where
       abbrev after : ℕ → ℕ → List ℕ → Ran
       after n i m = commands (stepOf enter p rd (suc (length fs)) o) n i m
 
       -- one command, and then the others
-      module _ (n i : ℕ) (m : List ℕ) (ns : List Note) (v : Inv p w (state m (frame o i ∷ fs) ns)) (e : i + suc n ≡ commandsIn p (reactor m o))
-          (again : (m′ : List ℕ) (ns′ : List Note) → Inv p w (state m′ (frame o (i + 1) ∷ fs) ns′) → i + 1 + n ≡ commandsIn p (reactor m′ o) →
+      module _ (n i : ℕ) (m : List ℕ) (ns : List Note) (v : Inv p w (state m (frame o i ∷ fs) ns))
+          (e : i + suc n ≡ commandsIn p (reactor m o))
+          (again : (m′ : List ℕ) (ns′ : List Note) → Inv p w (state m′ (frame o (i + 1) ∷ fs) ns′) → i + 1 + n ≡
+          commandsIn p (reactor m′ o) →
           Meets (state m′ (frame o (i + 1) ∷ fs) ns′) fs (after n (i + 1) m′)) where
         abbrev here : State
         here = state m (frame o i ∷ fs) ns
@@ -75,9 +82,10 @@ module _ (p rd : List ℕ) where
         t₀ = top-frame p v .deployed
 
         stepped : (x : Eff) → eff p rd (suc (length fs)) m o i ≡ x → step p rd here ≡ onto p o i fs notes x
-        stepped x q = acting m o i fs ns (omega arith) ∙ ap (onto p o i fs notes) q
+        stepped = acting m o i fs ns (omega arith)
 
-        by-run : {s : State} → step p rd here ≡ go s → (r : Ran) → Meets s (frame o (i + 1) ∷ fs) r → Meets here fs (andThen (after n (i + 1)) r)
+        by-run : {s : State} → step p rd here ≡ go s → (r : Ran) → Meets s (frame o (i + 1) ∷ fs) r → Meets here fs
+            (andThen (after n (i + 1)) r)
         unfolding andThen
         by-run z (ran m′) f =
             let k = kept v z in
@@ -86,22 +94,28 @@ module _ (p rd : List ℕ) where
             meets-on fs (after n (i + 1) m′) (reach-on (on stay z) (f .1)) (again m′ (f .0) (l .0) (rw r (omega arith)))
         by-run z (stopped y m′) f = (f .0, reach-on (on stay z) (f .1), f .2)
 
-        by-effect : (x : Eff) → eff p rd (suc (length fs)) m o i ≡ x → Meets here fs (andThen (after n (i + 1)) (entered enter (ready p m o i) x))
+        by-effect : (x : Eff) → eff p rd (suc (length fs)) m o i ≡ x → Meets here fs
+            (andThen (after n (i + 1)) (entered enter (ready p m o i) x))
         unfolding andThen entered onto
         by-effect (move m′) q =
             let z = stepped (move m′) q in
             let k = kept v z in
-            meets-on fs (after n (i + 1) m′) (on stay z) (again m′ notes (k .0) (rw (k .1 .reactors o t₀) (omega arith)))
-        by-effect (call m′ d) q = let z = stepped (call m′ d) q in by-run z (enter m′ d) (nested m′ d (i + 1) notes (kept v z .0))
+            meets-on fs (after n (i + 1) m′) (on stay z)
+            (again m′ notes (k .0) (rw (k .1 .reactors o t₀) (omega arith)))
+        by-effect (call m′ d) q = let z = stepped (call m′ d) q in by-run z (enter m′ d)
+            (nested m′ d (i + 1) notes (kept v z .0))
         by-effect (fail y) q = (here, stay, stepped (fail y) q)
 
-      commands-meet : (n i : ℕ) (m : List ℕ) (ns : List Note) → Inv p w (state m (frame o i ∷ fs) ns) → i + n ≡ commandsIn p (reactor m o) →
+      commands-meet : (n i : ℕ) (m : List ℕ) (ns : List Note) → Inv p w (state m (frame o i ∷ fs) ns) → i + n ≡
+          commandsIn p (reactor m o) →
           Meets (state m (frame o i ∷ fs) ns) fs (after n i m)
       unfolding commands stepOf
       commands-meet zero i m ns v e = (run o ∷ ns, on stay (leaving m o i fs ns (omega arith)))
-      commands-meet (suc n) i m ns v e = by-effect n i m ns v e (λ m′ ns′ v′ e′. commands-meet n (i + 1) m′ ns′ v′ e′) (eff p rd (suc (length fs)) m o i) refl
+      commands-meet (suc n) i m ns v e = by-effect n i m ns v e (λ m′ ns′ v′ e′. commands-meet n (i + 1) m′ ns′ v′ e′)
+          (eff p rd (suc (length fs)) m o i) refl
 
-    pub run-meets : (f h : ℕ) (m : List ℕ) (o : ℕ) (fs : List Frame) (ns : List Note) → Inv p w (state m (frame o (opening p m o) ∷ fs) ns) →
+    pub run-meets : (f h : ℕ) (m : List ℕ) (o : ℕ) (fs : List Frame) (ns : List Note) → Inv p w
+        (state m (frame o (opening p m o) ∷ fs) ns) →
         suc (length fs) ≡ h → 65 ≤ f + h →
         Meets (state m (frame o (opening p m o) ∷ fs) ns) fs (runOf f p rd h m o)
     unfolding runOf
@@ -110,4 +124,5 @@ module _ (p rd : List ℕ) where
         rw (← e)
         (commands-meet (runOf f p rd (suc (length fs) + 1)) o fs
         (λ m′ d i ns′ v′. run-meets f (suc (length fs) + 1) m′ d (frame o i ∷ fs) ns′ v′ (omega arith) (omega arith))
-        (commandsIn p (reactor m o) - opening p m o) (opening p m o) m ns v (let b = top-frame p v .bound in omega arith))
+        (commandsIn p (reactor m o) - opening p m o) (opening p m o) m ns v
+        (let b = top-frame p v .bound in omega arith))

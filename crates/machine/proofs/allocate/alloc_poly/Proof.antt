@@ -1,31 +1,38 @@
-use Rattle.image.specs.Memory.{valueAt}
-use Rattle.machine.proofs.Acting.{gives}
+use Rattle.machine.proofs.Acting.{content-of, gives, is-blank, not-blank, read-at}
+use Rattle.machine.specs.Act.{acted}
+use Rattle.program.specs.Command.{takesWords}
 use Rattle.remus.specs.Exec.{exec, operated}
-use Rattle.value.proofs.Tests.{eq!, eq×}
-use Rattle.value.specs.Value.{isBlank}
+use Rattle.value.specs.Test.{pick}
 use borrow.Author.Needs.{needs}
 use Rattle.machine.proofs.allocate.alloc_poly.Statement.{statement}
 use Rattle.machine.proofs.allocate.alloc_poly.Tie as tie
 
 returns : tie.Need-returns
-unfolding exec operated valueAt isBlank
+unfolding exec operated acted takesWords pick
 returns c =
+    let at-give = c .before .before .give in
     let at-blank = c .before .before .before .blank in
     let at-if1 = c .before .before .before .before .before .if1 in
-    let at-mark = c .before .before .before .before .before .before .mark in
-    λ rd. rw (← at-mark .ensures, eq! (at-if1 .taken)) (gives _ _ _ _ _ _ (c .before .before .give .ensures) (at-blank .ensures))
+    let at-pair = c .before .before .before .before .before .before .before .pair in
+    λ o i j k f few s a b at ops rd.
+    rw (is-blank _ _ o j (read-at _ _ o j _ a (at-pair .ensures)) (at-if1 .taken))
+    (gives _ _ _ _ _ _ (at-give .ensures _ o _ at) (at-blank .ensures))
 
 returns-2 : tie.Need-returns-2
-unfolding exec valueAt isBlank
+unfolding exec
 returns-2 c =
-    let at-content = c .before .before .before .before .content in
-    let at-if1 = c .before .before .before .before .before .before .if1 in
-    let at-mark = c .before .before .before .before .before .before .before .mark in
-    λ rd. rw (← at-mark .ensures, eq× (at-if1 .left), ← at-content .ensures) (c .before .before .choose .ensures rd)
+    let at-choose = c .before .before .choose in
+    let at-if1 = c .before .before .before .before .if1 in
+    let at-pair = c .before .before .before .before .before .before .pair in
+    λ o i j k f few s a b at ops rd.
+    let v = read-at _ _ o j _ a (at-pair .ensures) in
+    let t = not-blank _ _ o j v (at-if1 .left) in
+    let q = content-of _ _ o j v in
+    rw (t, ← q) (at-choose .ensures rd o i j k f few (rw (← q) at ops t) s b at)
 
 pub alloc-poly-spec : {M : Type 1} → statement M
 alloc-poly-spec =
     tie.close
     (tie.spec
-    (λ c κs. search needs) (λ c κs. search needs) (λ c κs. search needs) (λ c. search needs) returns (λ c κs. search needs)
+    (λ c κs. search needs) (λ c κs. search needs) (λ c κs. search needs) (λ c. search needs) returns
     (λ c κs. search needs) (λ c. search needs) returns-2)

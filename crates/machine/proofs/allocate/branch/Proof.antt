@@ -1,25 +1,32 @@
-use Rattle.machine.specs.Act.{acted, did}
-use Rattle.machine.specs.declared.Outcome.the-variants.{Move}
+use Rattle.machine.proofs.Acting.{content-at, stored-at}
+use Rattle.machine.proofs.Allocating.{slot-placed, slot-stored}
+use Rattle.machine.specs.Act.{acted}
+use Rattle.program.specs.Command.{takesWords}
 use Rattle.remus.specs.Exec.{branched}
+use Rattle.value.specs.Test.{pick}
 use borrow.Author.Needs.{needs}
-use mathlib.Core.Path.{ap}
 use Rattle.machine.proofs.allocate.branch.Statement.{statement}
 use Rattle.machine.proofs.allocate.branch.Tie as tie
 
 returns : tie.Need-returns
-unfolding acted branched
+unfolding acted branched takesWords pick
 returns c =
-    let at-store = c .before .before .before .before .before .before .store in
+    let at-give = c .before .before .give in
+    let at-put-pair = c .before .before .before .before .before .before .put-pair in
     let at-place-new = c .before .before .before .before .before .before .before .before .before .before .place-new in
-    let at-content = c .before .before .before .before .before .before .before .before .before .before .before .before .content in
-    let at-here = c .before .before .before .before .before .before .before .before .before .before .before .before .before .before .here in
-    let at-used = c .before .before .before .before .before .before .before .before .before .before .before .before .before .before .before .before .used in
-    λ rd h. rw (← at-content .ensures, ← at-used .ensures, ← at-here .ensures, ← at-place-new .ensures, ← at-store .ensures)
-    (ap (did Move) (c .before .before .store2 .ensures))
+    let then = c .before .before .before .before .before .before .before .before .before .before in
+    let at-word = then .before .before .word in
+    let at-used = then .before .before .before .before .used in
+    λ p rd h o i j k size s e at.
+    let head = content-at p _ o k _ e (at-word .ensures) in
+    let new = at-place-new .ensures p size in
+    let point = stored-at p _ o k _ (slot-placed p _ _ _ _ o k _ s new e) _ (at-put-pair .ensures) in
+    let here = slot-stored p _ _ o k _ _ _ point (slot-placed p _ _ _ _ o _ _ s new at) in
+    rw (← head, ← at-used .ensures, ← new, ← point) (at-give .ensures p o _ here)
 
 pub branch-spec : {M : Type 1} → statement M
 branch-spec =
     tie.close
     (tie.spec
-    (λ c κs. search needs) (λ c κs. search needs) (λ c κs. search needs) (λ c κs. search needs) (λ c κs. search needs)
+    (λ c κs. search needs) (λ c. search needs) (λ c κs. search needs) (λ c κs. search needs) (λ c κs. search needs)
     (λ c κs. search needs) (λ c. search needs) returns)

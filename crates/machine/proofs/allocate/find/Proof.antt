@@ -23,7 +23,8 @@ returns-2 : tie.Need-returns-2 Inv-loop μ-loop
 returns-2 c =
     let at-loop-test = c .before .before .before .loop-test in
     let at-loop = c .before .before .before .before .loop in
-    find-hit _ _ _ _ (at-loop-test .taken) (omega arith) (sym (c .before .reactor .ensures) ∙ c .if2 .taken) ∙ at-loop .inv
+    find-hit _ _ _ _ (at-loop-test .taken) (omega arith) (sym (c .before .reactor .ensures) ∙ c .if2 .taken)
+    ∙ at-loop .inv
 
 loop-again : tie.Need-loop-again Inv-loop μ-loop
 loop-again c =

@@ -12,7 +12,7 @@ run-main-requires c κs =
     let at-asked = c .before .before .before .before .asked in
     let pre = c .before .before .before .before .before .before .before .before .before .before .before .pre in
     let e = sym (rw (c .before .before .enum-told .given .1) at (at-asked .ensures)) in
-    (pre, (clock-left _ _ _ _ e, sinks-fit _ _ _ _ e))
+    (pre .0, (pre .1, (pre .1 .steady _ e, (clock-left _ _ _ _ e, sinks-fit _ _ _ _ e))))
 
 returns : tie.Need-returns
 unfolding byAsked broughtAs

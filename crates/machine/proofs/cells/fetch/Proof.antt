@@ -1,14 +1,19 @@
-use Rattle.machine.proofs.Acting.{gives}
+use Rattle.machine.proofs.Acting.{gives, read-at}
+use Rattle.machine.specs.Act.{acted}
+use Rattle.program.specs.Command.{takesWords}
 use Rattle.remus.specs.Exec.{exec}
+use Rattle.value.specs.Test.{pick}
 use borrow.Author.Needs.{needs}
 use Rattle.machine.proofs.cells.fetch.Statement.{statement}
 use Rattle.machine.proofs.cells.fetch.Tie as tie
 
 returns : tie.Need-returns
-unfolding exec
+unfolding exec acted takesWords pick
 returns c =
-    let at-value-at = c .before .before .before .before .value-at in
-    λ h rd. gives _ _ _ _ _ _ (c .before .before .give .ensures) (at-value-at .ensures)
+    let at-give = c .before .before .give in
+    let at-pair = c .before .before .before .before .pair in
+    λ p h o i k e g rd.
+    gives _ _ _ _ _ _ (at-give .ensures p o _ g) (read-at p _ o k _ e (at-pair .ensures))
 
 pub fetch-spec : {M : Type 1} → statement M
 fetch-spec = tie.close (tie.spec (λ c κs. search needs) (λ c κs. search needs) (λ c. search needs) returns)

@@ -1,18 +1,23 @@
-use Rattle.machine.proofs.Acting.{gives}
-use Rattle.remus.specs.Cells.{pending}
+use Rattle.machine.proofs.Acting.{gives, read-at}
+use Rattle.machine.specs.Act.{acted}
+use Rattle.program.specs.Command.{takesWords}
 use Rattle.remus.specs.Exec.{exec}
-use borrow.Author.Needs.{needs}
+use Rattle.value.specs.Test.{pick}
+use Rattle.remus.specs.Cells.{pending}
 use mathlib.Core.Path.{_∙_, ap}
+use borrow.Author.Needs.{needs}
 use Rattle.machine.proofs.cells.keep.Statement.{statement}
 use Rattle.machine.proofs.cells.keep.Tie as tie
 
 returns : tie.Need-returns
-unfolding exec
+unfolding exec acted takesWords pick
 returns c =
     let at-give = c .before .before .give in
     let at-pending = c .before .before .before .before .pending in
-    let at-value-at = c .before .before .before .before .before .value-at in
-    λ h rd. gives _ _ _ _ _ _ (at-give .ensures) (at-pending .ensures ∙ ap pending (at-value-at .ensures))
+    let at-pair = c .before .before .before .before .before .pair in
+    λ p h o i j k e g rd.
+    let v = read-at p _ o j _ e (at-pair .ensures) in
+    gives _ _ _ _ _ _ (at-give .ensures p o _ g) (at-pending .ensures ∙ ap pending v)
 
 pub keep-spec : {M : Type 1} → statement M
 keep-spec =

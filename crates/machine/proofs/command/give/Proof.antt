@@ -1,13 +1,15 @@
-use Rattle.machine.specs.Act.{acted, did}
-use Rattle.machine.specs.declared.Outcome.the-variants.{Move}
+use Rattle.machine.proofs.Acting.{stored-at}
+use Rattle.machine.specs.Act.{did}
+use Rattle.machine.specs.declared.Outcome.the-variants.{Given}
 use borrow.Author.Needs.{needs}
 use mathlib.Core.Path.{ap}
 use Rattle.machine.proofs.command.give.Statement.{statement}
 use Rattle.machine.proofs.command.give.Tie as tie
 
 returns : tie.Need-returns
-unfolding acted
-returns c = rw (← c .before .before .before .before .here .ensures) (ap (did Move) (c .before .before .store .ensures))
+returns c =
+    let at-put-pair = c .before .before .put-pair in
+    λ p o l e. ap (did Given) (stored-at p _ o l _ e _ (at-put-pair .ensures))
 
 pub give-spec : {M : Type 1} → statement M
-give-spec = tie.close (tie.spec (λ c κs. search needs) (λ c κs. search needs) (λ c. search needs) returns)
+give-spec = tie.close (tie.spec (λ c κs. search needs) (λ c. search needs) returns)

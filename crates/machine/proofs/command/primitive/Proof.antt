@@ -1,21 +1,30 @@
+use Rattle.machine.proofs.Acting.{gives, read-at}
+use Rattle.machine.specs.Act.{acted}
+use Rattle.program.specs.Command.{takesWords}
 use Rattle.remus.specs.Exec.{exec}
+use Rattle.value.specs.Test.{pick}
+use mathlib.Core.Path.{_∙_}
 use borrow.Author.Needs.{needs}
 use Rattle.machine.proofs.command.primitive.Statement.{statement}
 use Rattle.machine.proofs.command.primitive.Tie as tie
 
 returns : tie.Need-returns
-unfolding exec
+unfolding exec acted takesWords pick
 returns c =
+    let at-give = c .before .before .give in
     let at-primitive = c .before .before .before .before .primitive in
-    let at-value-at3 = c .before .before .before .before .before .value-at3 in
-    let at-value-at2 = c .before .before .before .before .before .before .before .before .value-at2 in
-    let at-value-at = c .before .before .before .before .before .before .before .before .before .before .before .value-at in
-    λ h rd. rw (← at-value-at .ensures, ← at-value-at2 .ensures, ← at-value-at3 .ensures, ← at-primitive .ensures)
-    (c .before .before .give .ensures)
+    let at-third = c .before .before .before .before .before .third in
+    let at-pair2 = c .before .before .before .before .before .before .before .pair2 in
+    let at-pair = c .before .before .before .before .before .before .before .before .before .pair in
+    λ p h i j k e f t g rd.
+    let first = read-at p _ _ j _ e (at-pair .ensures) in
+    let second = read-at p _ _ k _ f (at-pair2 .ensures) in
+    rw (← first, ← second)
+    (gives _ _ _ _ _ _ (at-give .ensures p _ _ g) (at-primitive .ensures ∙ at-third .ensures p _ _ t))
 
 pub primitive-spec : {M : Type 1} → statement M
 primitive-spec =
     tie.close
     (tie.spec
-    (λ c. search needs) (λ c κs. search needs) (λ c. search needs) (λ c κs. search needs) (λ c. search needs)
-    (λ c κs. search needs) (λ c κs. search needs) (λ c κs. search needs) (λ c. search needs) returns)
+    (λ c κs. search needs) (λ c κs. search needs) (λ c κs. search needs) (λ c κs. search needs)
+    (λ c κs. search needs) (λ c. search needs) returns)

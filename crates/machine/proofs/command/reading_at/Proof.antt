@@ -5,7 +5,7 @@ use Rattle.machine.proofs.command.reading_at.Tie as tie
 
 returns : tie.Need-returns
 unfolding readingAt
-returns c = rw (← c .before .word .ensures, ← c .word2 .ensures)
+returns c = c .pair .ensures
 
 pub reading-at-spec : {M : Type 1} → statement M
-reading-at-spec = tie.close (tie.spec (λ c. search needs) (λ c κs. search needs) (λ c. search needs) (λ c κs. search needs) returns)
+reading-at-spec = tie.close (tie.spec (λ c. search needs) (λ c κs. search needs) returns)

@@ -1,22 +1,24 @@
-use Rattle.machine.specs.Act.{acted, did}
-use Rattle.machine.specs.declared.Outcome.the-variants.{Move}
+use Rattle.machine.proofs.Acting.{leaves, read-at, stored-at}
+use Rattle.machine.specs.Act.{acted}
+use Rattle.program.specs.Command.{takesWords}
 use Rattle.remus.specs.Exec.{exec}
+use Rattle.value.specs.Test.{pick}
 use borrow.Author.Needs.{needs}
-use mathlib.Core.Path.{ap}
 use Rattle.machine.proofs.command.sink.Statement.{statement}
 use Rattle.machine.proofs.command.sink.Tie as tie
 
 returns : tie.Need-returns
-unfolding exec acted
+unfolding exec acted takesWords pick
 returns c =
-    let at-value-at = c .before .before .before .before .value-at in
-    let at-sink-loc = c .before .before .before .before .before .before .sink-loc in
-    let at-reactor = c .before .before .before .before .before .before .before .reactor in
-    λ h i rd. rw (← at-reactor .ensures, ← at-sink-loc .ensures, ← at-value-at .ensures)
-    (ap (did Move) (c .before .before .store .ensures))
+    let at-put-pair = c .before .before .put-pair in
+    let at-sink-place = c .before .before .before .before .sink-place in
+    let at-pair = c .before .before .before .before .before .before .pair in
+    λ p h i j f few g e rd.
+    let at = at-sink-place .ensures .0 p f few g in
+    leaves _ _ _ _ _ _ (stored-at p _ _ _ _ at _ (at-put-pair .ensures)) (read-at p _ _ j _ e (at-pair .ensures))
 
 pub sink-spec : {M : Type 1} → statement M
 sink-spec =
     tie.close
     (tie.spec
-    (λ c κs. search needs) (λ c κs. search needs) (λ c κs. search needs) (λ c κs. search needs) (λ c. search needs) returns)
+    (λ c κs. search needs) (λ c κs. search needs) (λ c κs. search needs) (λ c. search needs) returns)

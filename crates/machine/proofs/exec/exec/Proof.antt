@@ -1,98 +1,181 @@
-use Rattle.machine.specs.Act.{acted, doing}
-use Rattle.program.proofs.Decode.{as-cell, as-constant, as-consume, as-fetch, as-global, as-keep, as-make}
-use Rattle.program.proofs.Decode.{as-mono, as-poly, as-primitive, as-react, as-rest, as-sink, as-supply}
-use Rattle.program.specs.Command.{Cmd}
-use Rattle.remus.specs.Exec.{exec}
+use Rattle.machine.proofs.Placing.{reads-at}
+use Rattle.machine.proofs.Sequences.{command-at, no-R}
+use Rattle.machine.specs.Act.{Stands}
+use Rattle.program.proofs.Decode.{as-constant, as-consume, as-fetch, as-global, as-keep}
+use Rattle.program.proofs.Decode.{as-poly, as-primitive, as-react, as-sink, as-supply}
+use Rattle.program.specs.Command.{Cmd, sequenceOf}
+use Rattle.program.specs.Location.{commandLoc}
+use Rattle.remus.specs.Steady.{ReadsUpTo}
 use borrow.Author.Needs.{needs}
 use denote.Ref.{now}
-use mathlib.Core.Path.{refl}
+use mathlib.Core.Path.{_∙_, ap, refl, subst, sym}
 use native.Mathlib.Omega.{arith}
 use Rattle.machine.proofs.exec.exec.Statement.{statement}
 use Rattle.machine.proofs.exec.exec.Tie as tie
 
 returns : tie.Need-returns
 returns c =
-    let args = c .before .before .before .before .before .before .before .before .args in
-    rw (← as-mono (λ (d : Cmd). d) (args .c) (omega arith) refl) (c .before .before .alloc-mono .ensures _)
+    let at-constant = c .before .before .constant in
+    let at-v = c .before .before .before .v in
+    let at-match = c .before .before .before .before .before .match in
+    let at-bytes-within = c .before .before .before .before .before .before .before .before .bytes-within in
+    λ r i f few lt at in-R fit here placed.
+    let is = command-at _ r i _ (at-bytes-within .ensures) at in
+    let cmd = as-constant (λ (d : Cmd). d) _ (at-match .keys1) refl ∙ is in
+    rw (← cmd, ← at-v .ensures) (at-constant .ensures _ _ _ i here _)
 
 returns-2 : tie.Need-returns-2
 returns-2 c =
-    let args = c .before .before .before .before .before .before .before .before .args in
-    rw (← as-make (λ (d : Cmd). d) (args .c) (omega arith) refl) (c .before .before .make-poly .ensures _ _)
+    let at-global = c .before .before .global in
+    let at-match = c .before .before .before .before .match in
+    let at-bytes-within = c .before .before .before .before .before .before .before .bytes-within in
+    λ r i f few lt at in-R fit here placed.
+    let is = command-at _ r i _ (at-bytes-within .ensures) at in
+    let cmd = as-global (λ (d : Cmd). d) _ (at-match .keys2) refl ∙ is in
+    rw (← cmd) (at-global .ensures _ _ _ i here)
 
 returns-3 : tie.Need-returns-3
 returns-3 c =
-    let at-v = c .before .before .before .v in
-    let args = c .before .before .before .before .before .before .before .before .before .args in
-    rw (← as-constant (λ (d : Cmd). d) (args .c) (omega arith) refl, ← at-v .ensures) (c .before .before .constant .ensures _ _)
+    let at-supply = c .before .before .supply in
+    let at-match = c .before .before .before .before .match in
+    let at-place2 = c .before .before .before .before .before .place2 in
+    let at-place = c .before .before .before .before .before .before .place in
+    let at-bytes-within = c .before .before .before .before .before .before .before .bytes-within in
+    let args = c .before .before .before .before .before .before .before .before .before .before .before .args in
+    λ r i f few lt at in-R fit here placed.
+    let is = command-at _ r i _ (at-bytes-within .ensures) at in
+    let cmd = as-supply (λ (d : Cmd). d) _ (at-match .keys3) refl ∙ is in
+    let t = now (args .slots) in
+    let up = subst (ReadsUpTo (commandLoc _ r i)) (sym cmd) (fit .reads) in
+    let a = at-place .ensures .0 _ _ (reads-at _ _ t _ r _ _ (fit .same) placed (up .0)) in
+    let b = at-place2 .ensures .0 _ _ (reads-at _ _ t _ r _ _ (fit .same) placed (up .1)) in
+    rw (← cmd) (at-supply .ensures _ _ _ i _ _ a b (fit .supplies _ _ _ (sym cmd)) _)
 
 returns-4 : tie.Need-returns-4
 returns-4 c =
-    let args = c .before .before .before .before .before .before .before .before .args in
-    rw (← as-global (λ (d : Cmd). d) (args .c) (omega arith) refl) (c .before .before .global .ensures _)
+    let at-match = c .before .before .match in
+    let at-place2 = c .before .before .before .place2 in
+    let at-bytes-within = c .before .before .before .before .before .bytes-within in
+    let args = c .before .before .before .before .before .before .before .before .before .args in
+    λ r i f few lt at in-R fit here placed.
+    let is = command-at _ r i _ (at-bytes-within .ensures) at in
+    let cmd = as-react (λ (d : Cmd). d) _ (at-match .keys4) refl ∙ is in
+    let t = now (args .slots) in
+    let up = subst (ReadsUpTo (commandLoc _ r i)) (sym cmd) (fit .reads) in
+    let b = at-place2 .ensures .0 _ _ (reads-at _ _ t _ r _ _ (fit .same) placed up) in
+    rw (← cmd) (c .react .ensures _ _ _ i _ b _)
 
 returns-5 : tie.Need-returns-5
 returns-5 c =
-    let args = c .before .before .before .before .before .before .before .before .args in
-    rw (← as-supply (λ (d : Cmd). d) (args .c) (omega arith) refl) (c .before .before .supply .ensures _ _ _)
+    let at-consume = c .before .before .consume in
+    let at-match = c .before .before .before .before .match in
+    let at-place2 = c .before .before .before .before .before .place2 in
+    let at-bytes-within = c .before .before .before .before .before .before .before .bytes-within in
+    let args = c .before .before .before .before .before .before .before .before .before .before .before .args in
+    λ r i f few lt at in-R fit here placed.
+    let is = command-at _ r i _ (at-bytes-within .ensures) at in
+    let cmd = as-consume (λ (d : Cmd). d) _ (at-match .keys5) refl ∙ is in
+    let t = now (args .slots) in
+    let up = subst (ReadsUpTo (commandLoc _ r i)) (sym cmd) (fit .reads) in
+    let b = at-place2 .ensures .0 _ _ (reads-at _ _ t _ r _ _ (fit .same) placed up) in
+    rw (← cmd) (at-consume .ensures _ _ _ i _ f few b here (fit .consumes _ _ (sym cmd)) _)
 
 returns-6 : tie.Need-returns-6
 returns-6 c =
-    let args = c .before .before .before .before .before .before .args in
-    rw (← as-react (λ (d : Cmd). d) (args .c) (omega arith) refl) (c .react .ensures _ _ _)
+    let at-sink = c .before .before .sink in
+    let at-match = c .before .before .before .before .match in
+    let at-place = c .before .before .before .before .before .before .place in
+    let at-bytes-within = c .before .before .before .before .before .before .before .bytes-within in
+    let args = c .before .before .before .before .before .before .before .before .before .before .before .args in
+    λ r i f few lt at in-R fit here placed.
+    let is = command-at _ r i _ (at-bytes-within .ensures) at in
+    let cmd = as-sink (λ (d : Cmd). d) _ (at-match .keys6) refl ∙ is in
+    let t = now (args .slots) in
+    let up = subst (ReadsUpTo (commandLoc _ r i)) (sym cmd) (fit .reads) in
+    let a = at-place .ensures .0 _ _ (reads-at _ _ t _ r _ _ (fit .same) placed up) in
+    rw (← cmd) (at-sink .ensures _ _ i _ f few (omega (arith, fit .same, lt)) a _)
 
 returns-7 : tie.Need-returns-7
 returns-7 c =
-    let args = c .before .before .before .before .before .before .before .before .args in
-    rw (← as-consume (λ (d : Cmd). d) (args .c) (omega arith) refl) (c .before .before .consume .ensures _ _)
+    let at-alloc-poly = c .before .before .alloc-poly in
+    let at-match = c .before .before .before .before .match in
+    let at-place2 = c .before .before .before .before .before .place2 in
+    let at-place = c .before .before .before .before .before .before .place in
+    let at-bytes-within = c .before .before .before .before .before .before .before .bytes-within in
+    let args = c .before .before .before .before .before .before .before .before .before .before .before .args in
+    λ r i f few lt at in-R fit here placed.
+    let is = command-at _ r i _ (at-bytes-within .ensures) at in
+    let cmd = as-poly (λ (d : Cmd). d) _ (at-match .keys7) refl ∙ is in
+    let t = now (args .slots) in
+    let up = subst (ReadsUpTo (commandLoc _ r i)) (sym cmd) (fit .reads) in
+    let a = at-place .ensures .0 _ _ (reads-at _ _ t _ r _ _ (fit .same) placed (up .0)) in
+    let b = at-place2 .ensures .0 _ _ (reads-at _ _ t _ r _ _ (fit .same) placed (up .1)) in
+    let stands : Stands _ _ = record { above = fit .above; below = fit .below } in
+    rw (← cmd) (at-alloc-poly .ensures _ i _ _ f few stands a b here (fit .operators _ _ (sym cmd)) _)
 
 returns-8 : tie.Need-returns-8
 returns-8 c =
-    let args = c .before .before .before .before .before .before .before .before .args in
-    rw (← as-sink (λ (d : Cmd). d) (args .c) (omega arith) refl) (c .before .before .sink .ensures _ _ _)
+    let at-primitive = c .before .before .primitive in
+    let at-match = c .before .before .before .before .match in
+    let at-place2 = c .before .before .before .before .before .place2 in
+    let at-place = c .before .before .before .before .before .before .place in
+    let at-bytes-within = c .before .before .before .before .before .before .before .bytes-within in
+    let args = c .before .before .before .before .before .before .before .before .before .before .before .args in
+    λ r i f few lt at in-R fit here placed.
+    let is = command-at _ r i _ (at-bytes-within .ensures) at in
+    let cmd = as-primitive (λ (d : Cmd). d) _ (at-match .keys8) refl ∙ is in
+    let t = now (args .slots) in
+    let up = subst (ReadsUpTo (commandLoc _ r i)) (sym cmd) (fit .reads) in
+    let a = at-place .ensures .0 _ _ (reads-at _ _ t _ r _ _ (fit .same) placed (up .0)) in
+    let b = at-place2 .ensures .0 _ _ (reads-at _ _ t _ r _ _ (fit .same) placed (up .1)) in
+    let l = reads-at _ _ t _ r _ _ (fit .same) placed (up .2) in
+    rw (← cmd) (at-primitive .ensures _ _ i _ _ a b l here _)
 
 returns-9 : tie.Need-returns-9
 returns-9 c =
-    let args = c .before .before .before .before .before .before .before .before .args in
-    rw (← as-poly (λ (d : Cmd). d) (args .c) (omega arith) refl) (c .before .before .alloc-poly .ensures _)
+    let at-fetch = c .before .before .fetch in
+    let at-match = c .before .before .before .before .match in
+    let at-place2 = c .before .before .before .before .before .place2 in
+    let at-bytes-within = c .before .before .before .before .before .before .before .bytes-within in
+    let args = c .before .before .before .before .before .before .before .before .before .before .before .args in
+    λ r i f few lt at in-R fit here placed.
+    let is = command-at _ r i _ (at-bytes-within .ensures) at in
+    let cmd = as-fetch (λ (d : Cmd). d) _ (at-match .keys9) refl ∙ is in
+    let t = now (args .slots) in
+    let up = subst (ReadsUpTo (commandLoc _ r i)) (sym cmd) (fit .reads) in
+    let b = at-place2 .ensures .0 _ _ (reads-at _ _ t _ r _ _ (fit .same) placed up) in
+    rw (← cmd) (at-fetch .ensures _ _ _ i _ b here _)
 
 returns-10 : tie.Need-returns-10
 returns-10 c =
-    let args = c .before .before .before .before .before .before .before .before .args in
-    rw (← as-primitive (λ (d : Cmd). d) (args .c) (omega arith) refl) (c .before .before .primitive .ensures _ _)
+    let at-keep = c .before .before .keep in
+    let at-match = c .before .before .before .before .match in
+    let at-place = c .before .before .before .before .before .before .place in
+    let at-bytes-within = c .before .before .before .before .before .before .before .bytes-within in
+    let args = c .before .before .before .before .before .before .before .before .before .before .before .args in
+    λ r i f few lt at in-R fit here placed.
+    let is = command-at _ r i _ (at-bytes-within .ensures) at in
+    let cmd = as-keep (λ (d : Cmd). d) _ (at-match .keys10) refl ∙ is in
+    let t = now (args .slots) in
+    let up = subst (ReadsUpTo (commandLoc _ r i)) (sym cmd) (fit .reads) in
+    let a = at-place .ensures .0 _ _ (reads-at _ _ t _ r _ _ (fit .same) placed (up .0)) in
+    rw (← cmd) (at-keep .ensures _ _ _ i _ _ a here _)
 
 returns-11 : tie.Need-returns-11
 returns-11 c =
-    let at-v2 = c .before .before .before .v2 in
-    let args = c .before .before .before .before .before .before .before .before .before .args in
-    rw (← as-cell (λ (d : Cmd). d) (args .c) (omega arith) refl, ← at-v2 .ensures)
-    (c .before .before .cell .ensures _ _)
-
-returns-12 : tie.Need-returns-12
-returns-12 c =
-    let args = c .before .before .before .before .before .before .before .before .args in
-    rw (← as-fetch (λ (d : Cmd). d) (args .c) (omega arith) refl) (c .before .before .fetch .ensures _ _)
-
-returns-13 : tie.Need-returns-13
-returns-13 c =
-    let args = c .before .before .before .before .before .before .before .before .args in
-    rw (← as-keep (λ (d : Cmd). d) (args .c) (omega arith) refl) (c .before .before .keep .ensures _ _)
-
-returns-14 : tie.Need-returns-14
-unfolding exec acted
-returns-14 c =
-    let args = c .before .before .before .before .args in
-    let rd = now (args .readings) in
-    as-rest (doing (now (args .program)) rd (args .h) (now (args .memory)) (args .o) (args .i)) (args .c) (c .match .rest) refl
+    let at-bytes-within = c .before .before .before .bytes-within in
+    λ r i f few lt at in-R fit here placed.
+    let cmd = command-at _ r i _ (at-bytes-within .ensures) at in
+    absurd (no-R _ (c .match .rest) (ap sequenceOf cmd ∙ fit .runs in-R))
 
 pub exec-spec : {M : Type 1} → statement M
 exec-spec =
     tie.close
     (tie.spec
-    (λ c κs. search needs) (λ c κs. search needs) (λ c κs. search needs) (λ c κs. search needs) (λ c κs. search needs)
-    (λ c κs. search needs) (λ c κs. search needs) (λ c κs. search needs) (λ c κs. search needs) (λ c κs. search needs)
-    (λ c κs. search needs) (λ c κs. search needs) (λ c κs. search needs) (λ c κs. search needs) (λ c κs. search needs)
-    (λ c. search needs) returns (λ c. search needs) returns-2 (λ c. search needs) returns-3
-    (λ c. search needs) returns-4 (λ c. search needs) returns-5 (λ c. search needs) returns-6 (λ c. search needs) returns-7
-    (λ c. search needs) returns-8 (λ c. search needs) returns-9 (λ c. search needs) returns-10
-    (λ c. search needs) returns-11 (λ c. search needs) returns-12 (λ c. search needs) returns-13 returns-14)
+    (λ c κs. search needs) (λ c κs. search needs) (λ c κs. search needs) (λ c κs. search needs)
+    (λ c κs. search needs) (λ c κs. search needs) (λ c κs. search needs) (λ c κs. search needs)
+    (λ c κs. search needs) (λ c κs. search needs) (λ c κs. search needs) (λ c κs. search needs)
+    (λ c κs. search needs) (λ c κs. search needs) (λ c. search needs) returns (λ c. search needs) returns-2
+    (λ c. search needs) returns-3 (λ c. search needs) returns-4 (λ c. search needs) returns-5 (λ c. search needs)
+    returns-6 (λ c. search needs) returns-7 (λ c. search needs) returns-8 (λ c. search needs) returns-9
+    (λ c. search needs) returns-10 returns-11)

@@ -9,17 +9,18 @@ use Rattle.machine.proofs.finish.close.Tie as tie
 
 pass-over-requires : tie.Need-pass-over-requires
 pass-over-requires c κs =
-    let at-used = c .before .before .before .used in
     let pre = c .before .before .before .before .before .before .before .pre in
-    (rw (at-used .ensures) (pre .0), λ e. let z : _≡_ {A = ℕ} 0 1 = cc in absurd (omega arith))
+    let at-used = c .before .before .before .used in
+    (pre .0, (rw (at-used .ensures) (pre .1 .0), λ e. let z : _≡_ {A = ℕ} 0 1 = cc in absurd (omega arith)))
 
 returns : tie.Need-returns
 unfolding closed clearOf eachOf
 returns c =
-    let at-pass-over = c .before .before .before .before .before .before .pass-over in
-    let at-turns = c .before .before .before .before .before .before .before .before .turns in
     let at-used = c .before .before .before .before .before .before .before .before .before .before .used in
-    rw (← at-used .ensures, ← at-turns .ensures, ← at-pass-over .ensures) (c .before .before .set-turns .ensures)
+    let at-turns = c .before .before .before .before .before .before .before .before .turns in
+    let at-pass-over = c .before .before .before .before .before .before .pass-over in
+    let at-set-turns = c .before .before .set-turns in
+    rw (← at-used .ensures, ← at-turns .ensures, ← at-pass-over .ensures) (at-set-turns .ensures)
 
 pub close-spec : {M : Type 1} → statement M
 close-spec =

@@ -1,48 +1,60 @@
-use Prim.Native.Nat.{_*_, _-_}
+use Prim.Native.Nat.{_*_, _-_, _<_, ℕ}
 use Rattle.image.specs.Memory.{patch}
 use Rattle.machine.proofs.Passing.{sinks-done, sinks-next}
-use Rattle.program.specs.Bytes.{mainOf}
+use Rattle.machine.proofs.Told.{told}
+use Rattle.program.specs.Bytes.{mainOf, reactors}
 use Rattle.program.specs.Location.{sinks}
 use Rattle.remus.specs.Clear.{pairs, pairsFrom, sunk}
 use borrow.Author.Needs.{needs}
 use lib.ListN.{length, length-set}
-use mathlib.Core.Path.{_∙_, _≡_, ap, refl}
+use mathlib.Core.Path.{_∙_, _≡_, refl, subst, sym}
 use native.Mathlib.Omega.{arith}
 use Rattle.machine.proofs.finish.write_sinks.Statement.{statement}
 use Rattle.machine.proofs.finish.write_sinks.Tie as tie
 
 abbrev Inv-loop : tie.InvT-loop
-Inv-loop program memory space₀ main n x₀ space x =
+Inv-loop program facts memory space₀ n x₀ space x =
     (length space ≡ length space₀)
     × (patch space (2 * x) (pairsFrom program (n - x) x memory) ≡ sunk program memory space₀)
 
 abbrev μ-loop : tie.MeasureT-loop
-μ-loop program memory space₀ main n x₀ space x = n - x
+μ-loop program facts memory space₀ n x₀ space x = n - x
 
 loop-holds : tie.Need-loop-holds Inv-loop μ-loop
 unfolding sunk pairs
 loop-holds c =
-    let args = c .before .before .before .before .before .args in
-    let e : c .sinks .result - 0 ≡ sinks (args .program .now) (mainOf (args .program .now)) = omega
-    (arith, c .sinks .ensures, ap (sinks (args .program .now)) (c .before .main-of .ensures)) in
+    let args = c .before .before .before .before .before .before .args in
+    let at-sinks = c .sinks in
+    let pre = c .before .before .before .before .before .before .pre in
+    let at-main-of = c .before .before .main-of in
+    let at-fact = c .before .fact in
+    let p = args .program .now in
+    let n = at-sinks .ensures _ _ (told (pre .0) (at-main-of .ensures) (pre .1 .1 .0) (at-fact .ensures .1 .1)) in
+    let e : at-sinks .result - 0 ≡ sinks p (mainOf p) = omega (arith, n) in
     (refl, rw e)
 
 loop-again : tie.Need-loop-again Inv-loop μ-loop
 loop-again c =
-    let at-value-at = c .before .before .before .before .value-at in
-    let at-sink-loc = c .before .before .before .before .before .sink-loc in
-    let at-loop-test = c .before .before .before .before .before .before .loop-test in
+    let c′ = c .before .before .before .before .before .before .before .before in
+    let args = c′ .before .before .before .before .before .before .args in
+    let at-sinks = c′ .sinks in
+    let pre = c′ .before .before .before .before .before .before .pre in
+    let at-main-of = c′ .before .before .main-of in
+    let at-fact = c′ .before .fact in
+    let at-sink-place = c .before .before .before .before .before .sink-place in
+    let at-put-pair = c .before .before .put-pair in
     let at-loop = c .before .before .before .before .before .before .before .loop in
-    let at-sinks = c .before .before .before .before .before .before .before .before .sinks in
-    let at-main-of = c .before .before .before .before .before .before .before .before .before .main-of in
-    let pre = c .before .before .before .before .before .before .before .before .before .before .before .before .before .pre in
-    let args = c .before .before .before .before .before .before .before .before .before .before .before .before .before .args in
-    rw (c .before .before .put-pair .ensures) (
+    let at-pair = c .before .before .before .before .pair in
+    let at-loop-test = c .before .before .before .before .before .before .loop-test in
+    let p = args .program .now in
+    let n = at-sinks .ensures _ _ (told (pre .0) (at-main-of .ensures) (pre .1 .1 .0) (at-fact .ensures .1 .1)) in
+    let main = pre .1 .0 in
+    let low = subst (λ (r : ℕ). r < reactors p) (sym main) (pre .1 .1 .0) in
+    let here = at-sink-place .ensures .0 p (pre .0 .facts) (pre .0 .few) low in
+    rw (at-put-pair .ensures) (
       simp length-set (at-loop .inv .0),
-      sinks-next _ _ _ _ _ _ _ _ (at-value-at .ensures) (at-sink-loc .ensures)
-          (at-main-of .ensures) (at-loop-test .taken)
-          (omega (arith, pre, at-loop .inv .0, at-sinks .ensures, ap (sinks (args .program .now)) (at-main-of .ensures)))
-          ∙ at-loop .inv .1,
+      sinks-next _ _ _ _ _ _ _ main here (at-pair .ensures) (at-loop-test .taken)
+          (omega (arith, pre .1 .1 .1, at-loop .inv .0, n)) ∙ at-loop .inv .1,
     )
 
 same-length : tie.Need-same-length Inv-loop μ-loop
@@ -55,5 +67,6 @@ pub write-sinks-spec : {M : Type 1} → statement M
 write-sinks-spec =
     tie.close
     (tie.spec
-    Inv-loop μ-loop (λ c κs. search needs) (λ c. search needs) (λ c κs. search needs) loop-holds (λ c. omega arith)
-    (λ c κs. search needs) (λ c κs. search needs) (λ c κs. search needs) (λ c. omega arith) loop-again same-length returns)
+    Inv-loop μ-loop (λ c κs. search needs) (λ c. search needs) (λ c κs. search needs) (λ c κs. search needs)
+    loop-holds (λ c. omega arith) (λ c κs. search needs) (λ c κs. search needs) (λ c. search needs)
+    (λ c. omega arith) (λ c κs. omega arith) (λ c. omega arith) loop-again same-length returns)

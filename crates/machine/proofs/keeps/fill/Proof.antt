@@ -1,3 +1,5 @@
+use Rattle.image.specs.Memory.{store}
+use Rattle.machine.proofs.Told.{value-there}
 use Rattle.remus.specs.Cells.{keepBy}
 use Rattle.value.proofs.Tests.{eq!, eq×, no, yes}
 use Rattle.value.specs.Value.{isBlank}
@@ -7,26 +9,25 @@ use Rattle.machine.proofs.keeps.fill.Statement.{statement}
 use Rattle.machine.proofs.keeps.fill.Tie as tie
 
 returns : tie.Need-returns
-unfolding keepBy isBlank
+unfolding keepBy isBlank store
 returns c =
-    let at-store = c .before .before .store in
+    let at-pair = c .before .before .before .before .before .before .before .pair in
     let at-kept = c .before .before .before .kept in
     let at-if1 = c .before .before .before .before .before .if1 in
-    let at-value-at = c .before .before .before .before .before .before .before .value-at in
-    let at-here = c .before .before .before .before .before .before .before .before .before .here in
-    λ a. rw (← at-here .ensures, ← at-value-at .ensures, ← at-kept .ensures)
-    (no _ (eq× (at-if1 .taken)) (at-store .ensures))
+    let at-put-pair = c .before .before .put-pair in
+    λ p o l a k e f. rw (← value-there p _ o l _ _ e (at-pair .ensures), ← f, ← at-kept .ensures)
+    (no _ (eq× (at-if1 .taken)) (at-put-pair .ensures))
 
 returns-2 : tie.Need-returns-2
 unfolding keepBy isBlank
 returns-2 c =
-    let at-value-at = c .before .before .value-at in
-    let at-here = c .before .before .before .before .here in
-    λ a. rw (← at-here .ensures, ← at-value-at .ensures) (yes _ (eq! (c .if1 .left)) refl)
+    let at-pair = c .before .before .pair in
+    let at-if1 = c .if1 in
+    λ p o l a k e f. rw (← value-there p _ o l _ _ e (at-pair .ensures)) (yes _ (eq! (at-if1 .left)) refl)
 
 pub fill-spec : {M : Type 1} → statement M
 fill-spec =
     tie.close
     (tie.spec
-    (λ c κs. search needs) (λ c κs. search needs) (λ c κs. search needs) (λ c κs. search needs) (λ c. search needs)
-    returns (λ c. search needs) returns-2)
+    (λ c κs. search needs) (λ c κs. search needs) (λ c κs. search needs) (λ c. search needs) returns
+    (λ c. search needs) returns-2)

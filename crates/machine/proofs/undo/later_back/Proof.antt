@@ -1,6 +1,6 @@
 use Prim.Native.Nat.{ℕ}
-use Rattle.remus.specs.Undo.{back, zeroFrom}
 use Rattle.machine.specs.Act.{eachOf}
+use Rattle.remus.specs.Undo.{back, zeroFrom}
 use borrow.Author.Needs.{needs}
 use mathlib.Core.Path.{_≡_}
 use native.Mathlib.Omega.{arith}
@@ -10,11 +10,14 @@ use Rattle.machine.proofs.undo.later_back.Tie as tie
 pass-over-requires : tie.Need-pass-over-requires
 pass-over-requires c κs =
     let pre = c .before .before .before .pre in
-    (pre, λ e. let z : _≡_ {A = ℕ} 0 1 = cc in absurd (omega arith))
+    (pre .0, (pre .1, λ e. let z : _≡_ {A = ℕ} 0 1 = cc in absurd (omega arith)))
 
 returns : tie.Need-returns
 unfolding back zeroFrom eachOf
-returns c = rw (← c .before .before .before .before .before .before .pass-over .ensures) (c .before .before .zero-from .ensures)
+returns c =
+    let at-pass-over = c .before .before .before .before .before .before .pass-over in
+    let at-zero-from = c .before .before .zero-from in
+    rw (← at-pass-over .ensures) (at-zero-from .ensures)
 
 pub later-back-spec : {M : Type 1} → statement M
 later-back-spec =

@@ -1,0 +1,73 @@
+-- What the table of facts tells of a reactor, and what follows for the places of its commands and slots.
+-- Assumes nothing.
+use Prim.Native.Nat.{ℕ, suc, _+_, _*_, _<_}
+use mathlib.Core.Path.{_≡_, refl, sym, ap, subst, _∙_}
+use mathlib.Core.List.{List}
+use native.Mathlib.Numerals.{add-one}
+use native.Mathlib.Omega.{arith}
+use Rattle.value.specs.Test.{pick}
+use Rattle.value.specs.Value.{value}
+use Rattle.value.specs.declared.Value.{Value}
+use Rattle.program.specs.Bytes.{byte, reactors, declared, running, commandsIn, commandsAt, commandAt}
+use Rattle.program.specs.Command.{Cmd, takesWords, bytesAt, bytesOf, cmdOf}
+use Rattle.program.specs.declared.Command.{Command}
+use Rattle.program.specs.Counts.{Facts, Tells}
+use Rattle.program.specs.Location.{sources, commandLoc, slotAt, results}
+use Rattle.program.proofs.Decode.{as-keep}
+use Rattle.program.proofs.Slots.{slot-low, slot-R}
+use Rattle.image.specs.Memory.{word, reactor, slot, mark, content, valueAt}
+use Rattle.machine.specs.Cells.{Remembering}
+use Rattle.machine.specs.Places.{Loaded}
+
+-- what `fact` answers for a reactor of the program tells of it
+pub told : {p t : List ℕ} {r s w : ℕ} → Loaded p t → r ≡ s → s < reactors p
+    → ((q : List ℕ) → Facts q t → r < reactors q → r < 64 → Tells q r w) → Tells p s w
+told {p} {t} {r} {s} {w} known e low f =
+    subst (λ (x : ℕ). Tells p x w) e (f p (known .facts) (omega arith) (omega (arith, known .few)))
+
+-- the code of command j
+pub code-at : (p : List ℕ) (r j at b : ℕ) → at ≡ commandsAt p r → b ≡ byte p (at + 8 * j) → bytesOf p r j .code ≡ b
+unfolding bytesOf bytesAt commandAt
+code-at p r j at b e f = rw (f, e) refl
+
+-- the bytes of R command j, after d D commands
+pub bytes-here : (p : List ℕ) (r j at d : ℕ) (c : Command) → at ≡ commandsAt p r → d ≡ declared p r
+    → c ≡ bytesAt p (at + 8 * d + 8 * j) → c ≡ bytesOf p r (declared p r + j)
+unfolding bytesOf commandAt
+bytes-here p r j at d c e f g = g ∙ ap (bytesAt p) (omega arith)
+
+-- the value whose words lie at i
+pub value-there : (p m : List ℕ) (o l i : ℕ) (v : Value) → i ≡ slot p m o l → v ≡ value (word m i) (word m (i + 1))
+    → v ≡ valueAt p m o l
+unfolding valueAt mark content
+value-there p m o l i v e f = rw (← e) f
+
+-- the slot of D command j, d where D slots begin
+pub slot-row : (p m : List ℕ) (o r j d : ℕ) → reactor m o ≡ r → j < declared p r → d ≡ slotAt p r (sources p r)
+    → o + d + 2 * j ≡ slot p m o (commandLoc p (reactor m o) j)
+unfolding slot commandLoc
+slot-row p m o r j d e h f =
+    rw e (omega (arith, slot-low p r (sources p r) (omega arith), slot-low p r (sources p r + j) (omega arith)))
+
+module _ (p m : List ℕ) (o r : ℕ) (same : reactor m o ≡ r) where
+  -- the slot of R command j
+  pub slot-run : (i j : ℕ) → i ≡ o + slotAt p r (sources p r + declared p r + j)
+      → i ≡ slot p m o (commandLoc p (reactor m o) (declared p r + j))
+  unfolding slot commandLoc
+  slot-run i j e = rw same (e ∙ ap (λ (l : ℕ). o + slotAt p r l) (omega arith))
+
+  -- that of a Keep's cell: command i is the Keep
+  pub slot-cell : (i : ℕ) (c : Command) → Remembering p → r < reactors p → i < commandsIn p r → c ≡ bytesOf p r i
+      → c .code ≡ 13 → o + 3 + 2 * (c .b) ≡ slot p m o (c .b)
+  unfolding slot cmdOf commandLoc
+  slot-cell i c known low h e f =
+      let cell = known r i (c .a) (c .b) low h (rw (← e) (sym (as-keep (λ (d : Cmd). d) c f refl))) in
+      rw same (omega (arith, slot-low p r (c .b) (omega (arith, cell .located, cell .in-D))))
+
+-- where the slot of the R command after j begins, w the words that j has
+pub slot-after : (p : List ℕ) (r j w : ℕ) → j < running p r → w ≡ pick (takesWords (cmdOf p r (declared p r + j))) 1 0
+    → slotAt p r (sources p r + declared p r + j) + 2 * w ≡ slotAt p r (sources p r + declared p r + (j + 1))
+unfolding results
+slot-after p r j w h e =
+    let s : j + 1 ≡ suc j = add-one j in
+    rw s (omega (arith, e, slot-R p r j (omega arith), slot-R p r (suc j) (omega arith)))

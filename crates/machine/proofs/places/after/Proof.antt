@@ -1,0 +1,12 @@
+use Rattle.image.specs.Memory.{slot}
+use borrow.Author.Needs.{needs}
+use native.Mathlib.Omega.{arith}
+use Rattle.machine.proofs.places.after.Statement.{statement}
+use Rattle.machine.proofs.places.after.Tie as tie
+
+returns : tie.Need-returns
+unfolding slot
+returns c = ((λ p m l e. omega (arith, e)), omega arith)
+
+pub after-spec : {M : Type 1} → statement M
+after-spec = tie.close (tie.spec (λ c. search needs) (λ c. search needs) (λ c. search needs) returns)
