@@ -2,12 +2,12 @@
 // Their answers are Checked, Started and Turned, each with its number and place; Refusal says why a call
 // is refused.
 //
-// A command is decoded once (exec) and carried out by a function of its own (command, allocate, cells);
-// a deployment's commands follow one another (run). A completed run leaves its sinks, cells with what
-// was kept (keeps) and cleared words (finish), a refused one is undone in place (undo); these go over
-// the deployments (passes). Memory is never copied. The work of a turn is linear in the program's bytes
-// and memory's words, but for the slots of R commands and sinks, which are found by counting the
-// commands before them. For cells a program without any pays one look at its D commands.
+// A turn sums up the facts of each reactor once, for the test of the image and for the run. A command is
+// decoded once (exec) and carried out by a function of its own on the indices of its slots (command,
+// allocate, cells), which a table gives (places); a deployment's commands follow one another (run). A
+// completed run leaves its sinks, cells with what was kept (keeps) and cleared words (finish), a refused
+// one is undone in place (undo); these go over the deployments (passes). Memory is never copied, and the
+// work of a turn is linear in the program's bytes and memory's words.
 mod allocate;
 mod asked;
 mod back;

@@ -63,7 +63,7 @@ fn wire(
     Ended::Whole
 }
 
-// D has ended.
+// D has ended: the deployment is wired.
 fn make_wired(memory: &mut [u32], o: u32) -> Ended
     ensures is { λ q. ⌜ q ≡ Whole ⌝ }
     ensures words { λ _. ⌜ now (memory .exit) ≡ M.withWired (now (memory .entry)) o 1 ⌝ }
@@ -72,7 +72,7 @@ fn make_wired(memory: &mut [u32], o: u32) -> Ended
     Ended::Whole
 }
 
-// The same where it is not wired yet; then it is.
+// Carries them out where that is still to be done.
 fn enter(
     program: &[u8],
     facts: &[u64; 64],
