@@ -1,7 +1,6 @@
 // The slots of a deployment, two words for each location, and a new deployment.
 use crate::words::pair;
 use crate::words::put;
-use crate::words::put_pair;
 use crate::words::reactor;
 use crate::words::set_used;
 use crate::words::used;
@@ -47,14 +46,6 @@ pub fn value_at(program: &[u8], memory: &[u32], a: u32, l: u16) -> Value
 {
     let i = slot(program, memory, a, l);
     pair(memory, i)
-}
-
-// Stores a value at location l.
-pub fn store(program: &[u8], memory: &mut [u32], a: u32, l: u16, v: Value)
-    ensures { λ _. ⌜ now (memory .exit) ≡ M.store (now (program .entry)) (now (memory .entry)) a l v ⌝ }
-{
-    let i = slot(program, memory, a, l);
-    put_pair(memory, i, v)
 }
 
 // The words of the deployment at a.

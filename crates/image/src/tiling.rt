@@ -5,7 +5,6 @@ use crate::words::reactor;
 use program::Counts;
 use program::fact;
 use program::reactors;
-use program::size_in;
 ghost use mathlib.Core.Path.{_≡_};
 ghost use mathlib.Core.List.{List};
 ghost use mathlib.Core.Logic.{_≢_};
@@ -60,14 +59,4 @@ pub fn counts_at(facts: &[u64; 64], memory: &[u32], a: u32) -> Counts
 {
     let r = reactor(memory, a);
     fact(facts, r)
-}
-
-// The words of the deployment at a, by a table.
-pub fn size_by(program: &[u8], facts: &[u64; 64], memory: &[u32], a: u32) -> u32
-    requires { ⌜ Facts (now program) (now facts) ⌝ }
-    ensures is { λ n. ⌜ n ≡ M.sizeAt (now (program .entry)) (now (memory .entry)) a ⌝ }
-    ensures small { λ n. ⌜ n < 131074 ⌝ }
-{
-    let r = reactor(memory, a);
-    size_in(program, facts, r)
 }

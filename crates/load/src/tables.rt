@@ -94,7 +94,7 @@ fn shape_legal(program: &[u8], s: u8, k: u8) -> bool
     port_legal(s, sinks_in(program, s), k - 9, x)
 }
 
-// Whether main may have shape s: no sources, and no reactor kind among its sinks. This loop and those
+// Whether main may have shape s: it has no sources, and none of its sinks is of a reactor kind. This loop and those
 // below that answer a truth have no way out: where a program is accepted there is none to take.
 fn main_fits(program: &[u8], s: u8) -> bool
     requires { ⌜ B.shapeAt (now program) s + 16 ≤ length (now program) ⌝ }

@@ -17,11 +17,9 @@
 //     13 Keep        R  a value, b cell
 use crate::Command;
 use crate::bytes::byte;
-use crate::entry::commands_at;
 ghost use mathlib.Core.Path.{_≡_};
 ghost use Prim.Native.Nat.{_+_, _≤_};
 ghost use lib.ListN.{length};
-ghost use Rattle.program.specs.Bytes as B;
 ghost use Rattle.program.specs.Command as C;
 
 impl Command {
@@ -142,19 +140,4 @@ pub fn bytes_at(program: &[u8], at: u64) -> Command
         }
     }
     bytes_near_end(program, at)
-}
-
-// The byte at which command i of reactor r stands.
-fn command_at(program: &[u8], r: u32, i: u8) -> u64
-    ensures { λ at. ⌜ at ≡ B.commandAt (now (program .entry)) r i ⌝ }
-{
-    commands_at(program, r) + 8 * (i as u64)
-}
-
-// Command i of reactor r.
-pub fn bytes_of(program: &[u8], r: u32, i: u8) -> Command
-    ensures { λ c. ⌜ c ≡ C.bytesOf (now (program .entry)) r i ⌝ }
-{
-    let at = command_at(program, r, i);
-    bytes_at(program, at)
 }

@@ -10,7 +10,6 @@ use crate::bytes::reactors;
 use crate::bytes::shapes;
 use crate::entry::tables_end;
 use crate::location::results_from;
-use crate::location::size_of;
 use crate::shape::shape_at;
 ghost use mathlib.Core.Path.{_≡_};
 ghost use mathlib.Core.List.{List};
@@ -154,19 +153,6 @@ pub fn fact(facts: &[u64; 64], r: u32) -> Counts
     } else {
         Counts { word: 0 }
     }
-}
-
-// The words that a deployment of reactor r takes, by a table.
-pub fn size_in(program: &[u8], facts: &[u64; 64], r: u32) -> u32
-    requires { ⌜ K.Facts (now program) (now facts) ⌝ }
-    ensures is { λ n. ⌜ n ≡ L.sizeOf (now (program .entry)) r ⌝ }
-    ensures small { λ n. ⌜ n < 131074 ⌝ }
-{
-    let k = fact(facts, r);
-    if k.none() {
-        return size_of(program, r);
-    }
-    k.size()
 }
 
 // Number r becomes w.

@@ -33,13 +33,6 @@ pub fn sinks(program: &[u8], r: u32) -> u8
     sinks_in(program, s)
 }
 
-// The location of command i, D and R commands counted together.
-pub fn command_loc(program: &[u8], r: u32, i: u8) -> u16
-    ensures { λ l. ⌜ l ≡ L.commandLoc (now (program .entry)) r i ⌝ }
-{
-    sources(program, r) as u16 + i as u16
-}
-
 // The location of own sink x.
 pub fn sink_loc(program: &[u8], r: u32, x: u8) -> u16
     ensures { λ l. ⌜ l ≡ L.sinkLoc (now (program .entry)) r x ⌝ }

@@ -15,7 +15,6 @@ pub use integer::word;
 pub use primitives::primitive;
 pub use table::is_primitive;
 pub use table::is_withdrawn;
-pub use table::kind_given;
 pub use table::kinds_fit;
 pub use table::operands;
 ghost use mathlib.Core.Path.{_≡_};

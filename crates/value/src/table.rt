@@ -1,5 +1,4 @@
 // The columns of the table of primitives that the load check reads.
-use crate::Gives;
 use crate::Takes;
 ghost use mathlib.Core.Path.{_≡_};
 ghost use Rattle.value.specs.Primitive as P;
@@ -32,18 +31,6 @@ pub(crate) fn takes_of(op: u8) -> Takes
     }
 }
 
-pub(crate) fn gives_of(op: u8) -> Gives
-    ensures { λ r. ⌜ r ≡ P.rowOf op .gives ⌝ }
-{
-    match op {
-        0..=4 => Gives::ANumber,
-        5..=10 => Gives::ATruth,
-        11..=12 => Gives::TheirKind,
-        13 => Gives::ANumber,
-        _ => Gives::ANumber,
-    }
-}
-
 // How many operands primitive `op` takes.
 pub fn operands(op: u8) -> u8
     ensures { λ r. ⌜ r ≡ P.operands op ⌝ }
@@ -71,17 +58,5 @@ pub fn kinds_fit(op: u8, j: u8, k: u8, l: u8) -> bool
         Takes::OneOfAny => true,
         Takes::TruthThenTwo => (j == 1) & (k == l),
         Takes::TwoAlike => j == k,
-    }
-}
-
-// The kind of the result, k being that of the second operand.
-pub fn kind_given(op: u8, k: u8) -> u8
-    ensures { λ r. ⌜ r ≡ P.kindGiven (P.rowOf op .gives) k ⌝ }
-{
-    let g = gives_of(op);
-    match g {
-        Gives::ANumber => 0,
-        Gives::ATruth => 1,
-        Gives::TheirKind => k,
     }
 }
