@@ -12,6 +12,7 @@ use Rattle.load.specs.Tables.{headerLegal, tableLegal}
 use Rattle.load.specs.declared.Refusal.the-variants.{ProgramLength, TableByte, Missing}
 use Rattle.load.specs.declared.Checked.{Checked}
 use Rattle.load.specs.declared.Checked.the-variants.{Accepted, Refused}
+use Rattle.load.specs.declared.Ruling as R
 
 -- this paper's number and place of an answer
 abbrev pub numberOf : Checked → ℕ
@@ -34,6 +35,10 @@ reactorsOf accepted (suc n) p r =
     let t = scanOf (commandsIn p r) p r (beginOf p r) in
     ended (λ _. reactorsOf accepted n p (r + 1)) (entryAt p r) t (t .code)
 
+-- accepted, with the size of main
+abbrev pub accepted : List ℕ → Checked
+accepted p = Accepted (sizeOf p (mainOf p))
+
 unfoldable pub checkOf : List ℕ → Checked
 checkOf p =
     guard ((headerEnd ≤? length p) and (length p ≤? mostBytes)) (Refused (ProgramLength (length p))) (λ _.
@@ -43,7 +48,12 @@ checkOf p =
     let t = sweep (tableLegal p) headerEnd (tablesEnd p - headerEnd) in
     guard (t =? tablesEnd p) (Refused (TableByte t)) (λ _.
     guard (length p =? wholeLength p) (Refused (ProgramLength (length p))) (λ _.
-    reactorsOf (Accepted (sizeOf p (mainOf p))) (reactors p) p 0)))))
+    reactorsOf (accepted p) (reactors p) p 0)))))
+
+-- the answer of a ruling
+unfoldable pub checked : List ℕ → R.Ruling → Checked
+checked p R.the-variants.Fine = accepted p
+checked p (R.the-variants.Refused w) = Refused w
 
 -- the program is accepted
 abbrev pub IsAccepted : List ℕ → Type 0

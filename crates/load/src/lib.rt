@@ -17,6 +17,7 @@ mod take;
 mod verdict;
 
 pub use verdict::check;
+pub use verdict::judge;
 
 // A standing and a kind for each of up to 174 locations, and the index of the next command, as one
 // value: for the number of a refusal. The definitions of specs/ speak of it.
@@ -74,6 +75,12 @@ pub enum Refusal {
     TooLate(usize),
     NotLower(usize),
     Withdrawn(usize),
+}
+
+// Whether all is well, or why it is refused.
+pub enum Ruling {
+    Fine,
+    Refused(Refusal),
 }
 
 // Accepted, with the size of main; or refused.

@@ -2,6 +2,7 @@
 // bytes, whole length, then commands, 7 after each reactor."
 use crate::Checked;
 use crate::Refusal;
+use crate::Ruling;
 use crate::Scan;
 use crate::known::facts_of;
 use crate::reactor::complete;
@@ -15,7 +16,7 @@ use program::bytes_at;
 use program::entry_at;
 use program::main_of;
 use program::reactors;
-use program::results_from;
+use program::size_of;
 use program::tables_end;
 use program::whole_length;
 ghost use mathlib.Core.Path.{_≡_};
@@ -24,12 +25,10 @@ ghost use Prim.Native.Nat.{_≤_, _<_};
 ghost use Rattle.value.specs.Test.{_and_, _≤?_};
 ghost use Rattle.program.specs.Bytes as B;
 ghost use Rattle.program.specs.Command as C;
-ghost use Rattle.program.specs.Location as L;
-ghost use Rattle.load.specs.Check.{checkOf, numberOf, placeOf, reactorsOf};
+ghost use Rattle.load.specs.Check.{accepted, checkOf, checked, numberOf, placeOf, reactorsOf};
 ghost use Rattle.load.specs.Legal.{LegalTables};
 ghost use Rattle.load.specs.Refusal.{atCommand};
 ghost use Rattle.load.specs.Scan as S;
-ghost use Rattle.load.specs.declared.Checked.the-variants.{Accepted};
 
 // The refusal of the command at byte `at`, by its number.
 fn at_command(number: u8, at: usize) -> Refusal
@@ -56,32 +55,13 @@ fn refusal(program: &[u8], r: u8, at: u32, s: Scan) -> Refusal
     at_command(number, at as usize)
 }
 
-// How many of main's R commands have a result; they are the program's last.
-fn main_results(program: &[u8], n: u8) -> u8
-    requires here { ⌜ (n ≡ B.running (now program) (B.mainOf (now program))) × (0 < B.reactors (now program)) ⌝ }
-    requires whole { ⌜ (length (now program) ≡ B.wholeLength (now program)) × (length (now program) ≤ 65535) ⌝ }
-    ensures { λ m. ⌜ m ≡ L.results (now (program .entry)) (B.mainOf (now (program .entry))) n ⌝ }
-{
-    let at = program.len() - 8 * (n as usize);
-    results_from(program, at as u64, n)
-}
-
-// The words that main takes.
-fn main_size(program: &[u8]) -> usize
-    requires tables { ⌜ LegalTables (now program) ⌝ }
-    requires whole { ⌜ (0 < B.reactors (now program)) × (length (now program) ≡ B.wholeLength (now program)) × (length (now program) ≤ 65535) ⌝ }
-    ensures { λ n. ⌜ n ≡ L.sizeOf (now (program .entry)) (B.mainOf (now (program .entry))) ⌝ }
-{
-    let f = facts_of(program, main_of(program));
-    let results = main_results(program, f.running);
-    3 + 2 * (f.sources as usize + f.declared as usize + results as usize + f.sinks as usize)
-}
-
 // The reactors, one after the other.
-fn check_reactors(program: &[u8]) -> Checked
+fn judge_reactors(program: &[u8]) -> Ruling
     requires tables { ⌜ LegalTables (now program) ⌝ }
     requires whole { ⌜ (0 < B.reactors (now program)) × (length (now program) ≡ B.wholeLength (now program)) × (length (now program) ≤ 65535) ⌝ }
-    ensures { λ c. ⌜ c ≡ reactorsOf (Accepted (L.sizeOf (now (program .entry)) (B.mainOf (now (program .entry))))) (B.reactors (now (program .entry))) (now (program .entry)) 0 ⌝ }
+    ensures { λ v.
+        let p = now (program .entry) in
+        ⌜ checked p v ≡ reactorsOf (accepted p) (B.reactors p) p 0 ⌝ }
 {
     let count = reactors(program);
     let mut first = tables_end(program) as u32;
@@ -97,15 +77,15 @@ fn check_reactors(program: &[u8]) -> Checked
                 kind,
                 next: t.next,
             };
-            return Checked::Refused(refusal(program, r, first + 8 * (t.next as u32), s));
+            return Ruling::Refused(refusal(program, r, first + 8 * (t.next as u32), s));
         }
         if !complete(&standing, f.first_sink() + f.sinks as usize) {
-            return Checked::Refused(Refusal::Missing(entry_at(program, r as u32)));
+            return Ruling::Refused(Refusal::Missing(entry_at(program, r as u32)));
         }
         first = first + 8 * (f.declared as u32 + f.running as u32);
         r = r + 1;
     }
-    Checked::Accepted(main_size(program))
+    Ruling::Fine
 }
 
 // Whether a program may have n bytes: the header's at least, and "at most 65,535".
@@ -115,28 +95,38 @@ fn length_legal(n: usize) -> bool
     (8 <= n) & (n <= Header::MOST_BYTES)
 }
 
+// Whether a program is accepted, or why not. A turn asks no more than that.
+pub fn judge(program: &[u8]) -> Ruling
+    ensures { λ v. ⌜ checked (now (program .entry)) v ≡ checkOf (now (program .entry)) ⌝ }
+{
+    let n = program.len();
+    if !length_legal(n) {
+        return Ruling::Refused(Refusal::ProgramLength(n));
+    }
+    if !header_passes(program) {
+        return Ruling::Refused(Refusal::TableByte(header_fault(program) as usize));
+    }
+    let end = tables_end(program);
+    if n < end as usize {
+        return Ruling::Refused(Refusal::ProgramLength(n));
+    }
+    if !tables_pass(program) {
+        return Ruling::Refused(Refusal::TableByte(table_fault(program) as usize));
+    }
+    if n != whole_length(program) as usize {
+        return Ruling::Refused(Refusal::ProgramLength(n));
+    }
+    judge_reactors(program)
+}
+
 // Accepted with the size of main, or refused with the number and the place that the papers give.
 pub fn check(program: &[u8]) -> Checked
     ensures { λ c. ⌜ c ≡ checkOf (now (program .entry)) ⌝ }
     ensures { λ c. ⌜ numberOf c ≡ numberOf (checkOf (now (program .entry))) ⌝ }
     ensures { λ c. ⌜ placeOf c ≡ placeOf (checkOf (now (program .entry))) ⌝ }
 {
-    let n = program.len();
-    if !length_legal(n) {
-        return Checked::Refused(Refusal::ProgramLength(n));
+    match judge(program) {
+        Ruling::Fine => Checked::Accepted(size_of(program, main_of(program) as u32) as usize),
+        Ruling::Refused(w) => Checked::Refused(w),
     }
-    if !header_passes(program) {
-        return Checked::Refused(Refusal::TableByte(header_fault(program) as usize));
-    }
-    let end = tables_end(program);
-    if n < end as usize {
-        return Checked::Refused(Refusal::ProgramLength(n));
-    }
-    if !tables_pass(program) {
-        return Checked::Refused(Refusal::TableByte(table_fault(program) as usize));
-    }
-    if n != whole_length(program) as usize {
-        return Checked::Refused(Refusal::ProgramLength(n));
-    }
-    check_reactors(program)
 }

@@ -5,6 +5,8 @@ use mathlib.Core.Path.{_≡_}
 use mathlib.Core.List.{List}
 use lib.ListN.{length}
 use Rattle.load.specs.declared.Refusal.{Refusal}
+use Rattle.load.specs.declared.Ruling.{Ruling}
+use Rattle.load.specs.declared.Ruling.the-variants.{Fine, Refused}
 use Rattle.program.specs.Bytes.{mainOf}
 use Rattle.program.specs.Counts.{Facts}
 use Rattle.image.specs.Memory.{mostDepth, mostWords, mainAt, used, turns, reactor}
@@ -18,10 +20,8 @@ use Rattle.remus.specs.Turn.{Turn, Asked, fine, asked, askedOf}
 use Rattle.remus.specs.declared.Turned.{Turned}
 use Rattle.machine.specs.Cells.{Remembering}
 use Rattle.machine.specs.Places.{Loaded}
-use Rattle.machine.specs.declared.Brought as Br
-use Rattle.machine.specs.declared.Brought.the-variants.{Fine, Refused}
 
-unfoldable pub broughtAs : Br.Brought → Asked
+unfoldable pub broughtAs : Ruling → Asked
 broughtAs Fine = fine
 broughtAs (Refused w) = asked w
 

@@ -1,9 +1,9 @@
 // 10 to 13: what one turn brings, and the clock.
-use crate::Brought;
 use crate::command::reading_at;
 use image::MOST_TURNS;
 use image::turns;
 use load::Refusal;
+use load::Ruling;
 use program::global_kind;
 use program::globals;
 use program::legal;
@@ -43,25 +43,25 @@ fn bad_reading(program: &[u8], readings: &[u32]) -> u8
 }
 
 // The first question that is not answered well.
-pub(crate) fn asked(program: &[u8], memory: &[u32], readings: &[u32], space: &[u32]) -> Brought
+pub(crate) fn asked(program: &[u8], memory: &[u32], readings: &[u32], space: &[u32]) -> Ruling
     ensures { λ r.
         let p = now (program .entry) in
         ⌜ broughtAs r ≡ T.askedOf p (now (memory .entry)) (now (readings .entry)) (now (space .entry)) ⌝ }
 {
     let g = globals(program);
     if readings.len() != 2 * (g as usize) {
-        return Brought::Refused(Refusal::ReadingsLength(readings.len()));
+        return Ruling::Refused(Refusal::ReadingsLength(readings.len()));
     }
     let k = bad_reading(program, readings);
     if k != g {
-        return Brought::Refused(Refusal::Reading(k as usize));
+        return Ruling::Refused(Refusal::Reading(k as usize));
     }
     let need = 2 * (sinks(program, main_of(program) as u32) as usize);
     if space.len() < need {
-        return Brought::Refused(Refusal::SinkSpace(need));
+        return Ruling::Refused(Refusal::SinkSpace(need));
     }
     if MOST_TURNS <= turns(memory) {
-        return Brought::Refused(Refusal::Clock);
+        return Ruling::Refused(Refusal::Clock);
     }
-    Brought::Fine
+    Ruling::Fine
 }

@@ -1,6 +1,5 @@
 // A turn. 01: "A turn reads 2G words of readings (mark, content pairs for globals 1 to G)." It runs
 // in place; where it is refused, the words before it are brought back.
-use crate::Brought;
 use crate::Ended;
 use crate::asked::asked;
 use crate::finish::finish;
@@ -12,9 +11,9 @@ use image::MAIN_AT;
 use image::sound_by;
 use image::used;
 use image::words_legal;
-use load::Checked;
 use load::Refusal;
-use load::check;
+use load::Ruling;
+use load::judge;
 use program::fill_facts;
 use remus::Turned;
 ghost use mathlib.Core.Path.{_≡_};
@@ -22,7 +21,7 @@ ghost use Prim.Native.Nat.{_*_, _<_, _≤_};
 ghost use lib.ListN.{length};
 ghost use Rattle.program.specs.Bytes as B;
 ghost use Rattle.program.specs.Location as L;
-ghost use Rattle.load.specs.declared.Checked.the-variants.{Accepted};
+ghost use Rattle.load.specs.Check.{accepted};
 ghost use Rattle.image.specs.Memory as M;
 ghost use Rattle.image.specs.Cut.{Tiling};
 ghost use Rattle.remus.specs.Clear as E;
@@ -95,21 +94,20 @@ fn turn_on_sound(
     ensures { λ r. ⌜ turned r (now (memory .exit)) (now (space .exit)) ≡ T.byAsked (now (program .entry)) (now (memory .entry)) (now (readings .entry)) (now (space .entry)) (T.askedOf (now (program .entry)) (now (memory .entry)) (now (readings .entry)) (now (space .entry))) ⌝ }
 {
     match asked(program, memory, readings, space) {
-        Brought::Fine => run_main(program, facts, memory, readings, space),
-        Brought::Refused(w) => Turned::Refused(w),
+        Ruling::Fine => run_main(program, facts, memory, readings, space),
+        Ruling::Refused(w) => Turned::Refused(w),
     }
 }
 
-// A turn of an accepted program, with main of this size: 8, 9 and what follows.
-fn turn_accepted(
-    size: usize,
-    program: &[u8],
-    memory: &mut [u32],
-    readings: &[u32],
-    space: &mut [u32],
-) -> Turned
+// A turn of an accepted program: 8, 9 and what follows.
+fn turn_accepted(program: &[u8], memory: &mut [u32], readings: &[u32], space: &mut [u32]) -> Turned
     requires { ⌜ Sure (now program) ⌝ }
-    ensures { λ r. ⌜ turned r (now (memory .exit)) (now (space .exit)) ≡ T.byCheck (now (program .entry)) (now (memory .entry)) (now (readings .entry)) (now (space .entry)) (Accepted size) ⌝ }
+    ensures { λ r.
+        let p = now (program .entry) in
+        let m = now (memory .entry) in
+        let rd = now (readings .entry) in
+        let sk = now (space .entry) in
+        ⌜ turned r (now (memory .exit)) (now (space .exit)) ≡ T.byCheck p m rd sk (accepted p) ⌝ }
 {
     let n = memory.len();
     if !words_legal(n) {
@@ -132,8 +130,8 @@ pub fn turn(program: &[u8], memory: &mut [u32], readings: &[u32], sinks: &mut [u
     ensures { λ r. ⌜ T.placeOf r ≡ T.placeOf (T.turnOf (now (program .entry)) (now (memory .entry))
         (now (readings .entry)) (now (sinks .entry)) .answer) ⌝ }
 {
-    match check(program) {
-        Checked::Accepted(size) => turn_accepted(size, program, memory, readings, sinks),
-        Checked::Refused(w) => Turned::Refused(w),
+    match judge(program) {
+        Ruling::Fine => turn_accepted(program, memory, readings, sinks),
+        Ruling::Refused(w) => Turned::Refused(w),
     }
 }

@@ -46,12 +46,6 @@ pub enum Ended {
     Stopped(Refusal),
 }
 
-// What a turn brings is as it should be, or why it is refused.
-pub enum Brought {
-    Fine,
-    Refused(Refusal),
-}
-
 // What a pass does to each deployment: fills its cells with what was kept, clears it, or brings it back
 // as it was before the turn.
 pub enum Each {

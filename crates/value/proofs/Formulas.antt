@@ -1,12 +1,13 @@
--- The formulas of specs/Formula.antt are what primitives 7 and 11 mean, and stay in 32 bits. Assumes nothing.
+-- The formulas of specs/Formula.antt are what primitives 7 and 11 mean, and stay in 32 bits; primitive 12 by the same formula. Assumes
+-- nothing.
 use Prim.Native.Nat.{ℕ, _*_}
 use native.Mathlib.Omega.{arith}
 use mathlib.Core.Path.{_≡_, refl}
 use mathlib.Core.Bool.{Bool, true, false, not}
 use mir.Val.{boolByte}
 use Rattle.value.specs.Test.{pick}
-use Rattle.value.specs.Value.{value, blank, truth, truthMark, isTruth, isTrue}
-use Rattle.value.specs.Primitive.{onTruth, choose, table, rowOf, primitive}
+use Rattle.value.specs.Value.{value, blank, truth, truthMark, isBlank, isTruth, isTrue}
+use Rattle.value.specs.Primitive.{onTruth, choose, instead, table, rowOf, primitive}
 use Rattle.value.specs.Formula.{oneMinus, mixed, NotFormula, ChooseFormula, FormulaFits}
 use Rattle.value.specs.declared.Value.{Value}
 
@@ -44,6 +45,15 @@ unfolding primitive rowOf table choose
 choose-formula t a b =
     let mix = word (isTruth t) (isTrue t) in
     rw (mix (a .mark) (b .mark), mix (a .content) (b .content)) (by-words (isTruth t) (isTrue t) a b)
+
+pub instead-formula :
+    (a b : Value) →
+    let mix = mixed true (isBlank a) in
+    instead a b ≡ value (mix (b .mark) (a .mark)) (mix (b .content) (a .content))
+unfolding instead pick
+instead-formula a b =
+    let mix = word true (isBlank a) in
+    rw (mix (b .mark) (a .mark), mix (b .content) (a .content)) (by-words true (isBlank a) b a)
 
 pub formula-fits : FormulaFits
 formula-fits true true a b f g = record { minus = omega arith; weights = omega arith; sum = omega arith }

@@ -71,10 +71,15 @@ pub(crate) fn choose(t: Value, a: Value, b: Value) -> Value
     }
 }
 
+// Without a test, as `choose`: a value that is picked whole would stay in the frame.
 pub(crate) fn instead(a: Value, b: Value) -> Value
     ensures { λ r. ⌜ r ≡ P.instead a b ⌝ }
 {
-    if a.mark == Value::BLANK { b } else { a }
+    let blank = a.mark == Value::BLANK;
+    Value {
+        mark: mix(true, blank, b.mark, a.mark),
+        content: mix(true, blank, b.content, a.content),
+    }
 }
 
 // Primitive `op` of its operands; one that it does not take is not read. A number that is no

@@ -1,14 +1,10 @@
-use Prim.Native.Nat.{ℕ}
-use Rattle.load.proofs.TableBytes.{legal-tables, some-reactor}
-use Rattle.load.specs.Check.{checkOf, numberOf, placeOf}
+use Rattle.load.specs.Check.{checked, numberOf, placeOf}
 use Rattle.load.specs.declared.Checked.{Checked}
-use Rattle.load.specs.declared.Checked.the-variants.{Refused}
-use Rattle.load.specs.declared.Refusal.the-variants.{TableByte}
-use Rattle.value.proofs.Tests.{both?, eq!, eq?, eq×, goes, le!, le?, le×, passed, refused, stops}
+use Rattle.load.specs.declared.Checked.the-variants.{Accepted}
+use Rattle.program.specs.Location.{sizeOf}
 use borrow.Author.Needs.{needs}
 use denote.Ref.{now}
-use mathlib.Core.Path.{_∙_, _≡_, ap, refl, sym}
-use native.Mathlib.Omega.{arith}
+use mathlib.Core.Path.{_∙_, _≡_, ap}
 use Rattle.load.proofs.verdict.check.Statement.{statement}
 use Rattle.load.proofs.verdict.check.Tie as tie
 
@@ -17,109 +13,21 @@ answered : {c d : Checked} → c ≡ d → (c ≡ d) × ((numberOf c ≡ numberO
 answered e = (e, (ap numberOf e, ap placeOf e))
 
 returns : tie.Need-returns
-unfolding checkOf
+unfolding checked
 returns c =
+    let at-judge = c .before .before .before .before .judge in
+    let p = now (c .before .before .before .before .before .before .args .program) in
     answered
-    (stops _ (refused (c .before .length-legal .ensures) (c .if1 .taken)) refl)
+    (ap Accepted (c .size-of .ensures .0 ∙ ap (sizeOf p) (c .before .main-of .ensures))
+    ∙ rw (c .before .before .enum-told .given .1) at (at-judge .ensures))
 
 returns-2 : tie.Need-returns-2
-unfolding checkOf
-returns-2 c =
-    let at-header-passes = c .before .before .header-passes in
-    let at-if1 = c .before .before .before .if1 in
-    let at-length-legal = c .before .before .before .before .length-legal in
-    answered
-    (goes _ _ (passed (at-length-legal .ensures) (at-if1 .left))
-    (stops _ (refused (at-header-passes .ensures) (c .before .if2 .taken))
-    (ap (λ (h : ℕ). Refused (TableByte h)) (c .header-fault .ensures))))
-
-returns-3 : tie.Need-returns-3
-unfolding checkOf
-returns-3 c =
-    let at-if2 = c .before .before .if2 in
-    let at-header-passes = c .before .before .before .header-passes in
-    let at-if1 = c .before .before .before .before .if1 in
-    let at-length-legal = c .before .before .before .before .before .length-legal in
-    answered
-    (goes _ _ (passed (at-length-legal .ensures) (at-if1 .left))
-    (goes _ _ (passed (at-header-passes .ensures) (at-if2 .left))
-    (stops _ (le× (omega arith)) refl)))
-
-returns-4 : tie.Need-returns-4
-unfolding checkOf
-returns-4 c =
-    let at-tables-pass = c .before .before .tables-pass in
-    let at-if2 = c .before .before .before .before .before .if2 in
-    let at-header-passes = c .before .before .before .before .before .before .header-passes in
-    let at-if1 = c .before .before .before .before .before .before .before .if1 in
-    let at-length-legal = c .before .before .before .before .before .before .before .before .length-legal in
-    answered
-    (goes _ _ (passed (at-length-legal .ensures) (at-if1 .left))
-    (goes _ _ (passed (at-header-passes .ensures) (at-if2 .left))
-    (goes _ _ (le! (omega arith))
-    (stops _ (refused (at-tables-pass .ensures) (c .before .if4 .taken))
-    (ap (λ (t : ℕ). Refused (TableByte t)) (c .table-fault .ensures))))))
-
-returns-5 : tie.Need-returns-5
-unfolding checkOf
-returns-5 c =
-    let at-if4 = c .before .before .if4 in
-    let at-tables-pass = c .before .before .before .tables-pass in
-    let at-if2 = c .before .before .before .before .before .before .if2 in
-    let at-header-passes = c .before .before .before .before .before .before .before .header-passes in
-    let at-if1 = c .before .before .before .before .before .before .before .before .if1 in
-    let at-length-legal = c .before .before .before .before .before .before .before .before .before .length-legal in
-    answered
-    (goes _ _ (passed (at-length-legal .ensures) (at-if1 .left))
-    (goes _ _ (passed (at-header-passes .ensures) (at-if2 .left))
-    (goes _ _ (le! (omega arith))
-    (goes _ _ (passed (at-tables-pass .ensures) (at-if4 .left))
-    (stops _ (eq× (λ e. c .if5 .taken (e ∙ sym (c .before .whole-length .ensures)))) refl)))))
-
-check-reactors-requires : tie.Need-check-reactors-requires
-check-reactors-requires c κs =
-    let at-if4 = c .before .before .if4 in
-    let at-tables-pass = c .before .before .before .tables-pass in
-    let at-if2 = c .before .before .before .before .before .before .if2 in
-    let at-header-passes = c .before .before .before .before .before .before .before .header-passes in
-    let at-if1 = c .before .before .before .before .before .before .before .before .if1 in
-    let at-length-legal = c .before .before .before .before .before .before .before .before .before .length-legal in
-    let args = c .before .before .before .before .before .before .before .before .before .before .before .args in
-    let p = now (args .program) in
-    let header = eq? (passed (at-header-passes .ensures) (at-if2 .left)) in (
-      legal-tables p header (eq? (passed (at-tables-pass .ensures) (at-if4 .left))),
-      (
-        some-reactor p header,
-        c .if5 .left ∙ c .before .whole-length .ensures,
-        le?
-            (both? (passed (at-length-legal .ensures) (at-if1 .left)) .1),
-      ),
-    )
-
-returns-6 : tie.Need-returns-6
-unfolding checkOf
-returns-6 c =
-    let at-whole-length = c .before .before .whole-length in
-    let at-if4 = c .before .before .before .if4 in
-    let at-tables-pass = c .before .before .before .before .tables-pass in
-    let at-if2 = c .before .before .before .before .before .before .before .if2 in
-    let at-header-passes = c .before .before .before .before .before .before .before .before .header-passes in
-    let at-if1 = c .before .before .before .before .before .before .before .before .before .if1 in
-    let at-length-legal = c .before .before .before .before .before .before .before .before .before .before
-    .length-legal in
-    answered
-    (goes _ _ (passed (at-length-legal .ensures) (at-if1 .left))
-    (goes _ _ (passed (at-header-passes .ensures) (at-if2 .left))
-    (goes _ _ (le! (omega arith))
-    (goes _ _ (passed (at-tables-pass .ensures) (at-if4 .left))
-    (goes _ _ (eq! (c .before .if5 .left ∙ at-whole-length .ensures))
-    (c .check-reactors .ensures))))))
+unfolding checked
+returns-2 c = answered (rw (c .before .w .given .1) at (c .before .before .before .judge .ensures))
 
 pub check-spec : {M : Type 1} → statement M
 check-spec =
     tie.close
     (tie.spec
-    (λ c κs. search needs) returns (λ c κs. search needs) (λ c κs. search needs) (λ c. search needs)
-    returns-2 (λ c κs. search needs) (λ c. search needs) returns-3 (λ c κs. omega arith)
-    (λ c κs. omega arith) (λ c. search needs) returns-4 (λ c κs. search needs) returns-5
-    check-reactors-requires returns-6)
+    (λ c κs. search needs) (λ c. search needs) (λ c κs. search needs) (λ c. search needs) (λ c κs. search needs)
+    (λ c. search needs) (λ c. search needs) returns returns-2)

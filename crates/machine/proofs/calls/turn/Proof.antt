@@ -1,11 +1,12 @@
 use Prim.Native.Nat.{ℕ}
+use Rattle.load.specs.Check.{checked}
 use Rattle.machine.proofs.Safety.{sure}
 use Rattle.machine.specs.Answer.{turned}
 use Rattle.remus.specs.Turn.{Turn, numberOf, placeOf, byCheck, refused, turnOf}
 use Rattle.remus.specs.declared.Turned.{Turned}
 use borrow.Author.Needs.{needs}
 use mathlib.Core.List.{List}
-use mathlib.Core.Path.{_≡_, _∙_, ap, sym}
+use mathlib.Core.Path.{_≡_, ap, sym}
 use Rattle.machine.proofs.calls.turn.Statement.{statement}
 use Rattle.machine.proofs.calls.turn.Tie as tie
 
@@ -16,25 +17,25 @@ unfolding turned
 answered r m sk e = (e, (ap (λ (x : Turn). numberOf (x .answer)) e, ap (λ (x : Turn). placeOf (x .answer)) e))
 
 turn-accepted-requires : tie.Need-turn-accepted-requires
+unfolding checked
 turn-accepted-requires c κs =
-    let at-size = c .before .before .before .size in
-    let at-check = c .before .before .before .before .before .check in
-    let e = sym (at-check .ensures .0) ∙ at-size .given .1 in
+    let at-judge = c .before .before .before .before .judge in
+    let e = sym (rw (c .before .before .enum-told .given .1) at (at-judge .ensures)) in
     sure _ _ e
 
 returns : tie.Need-returns
-unfolding turnOf
+unfolding turnOf checked
 returns c =
     let at-turn-accepted = c .before .before .before .before .turn-accepted in
-    let at-size = c .before .before .before .before .before .before .before .before .size in
-    let at-check = c .before .before .before .before .before .before .before .before .before .before .check in
-    let e = sym (at-check .ensures .0) ∙ at-size .given .1 in
+    let at-enum-told = c .before .before .before .before .before .before .before .enum-told in
+    let at-judge = c .before .before .before .before .before .before .before .before .before .judge in
+    let e = sym (rw (at-enum-told .given .1) at (at-judge .ensures)) in
     answered _ _ _ (rw e (at-turn-accepted .ensures))
 
 returns-2 : tie.Need-returns-2
-unfolding turnOf byCheck refused turned
+unfolding turnOf byCheck refused turned checked
 returns-2 c =
-    let e = sym (c .before .before .before .check .ensures .0) ∙ c .before .w .given .1 in
+    let e = sym (rw (c .before .w .given .1) at (c .before .before .before .judge .ensures)) in
     answered _ _ _ (rw e)
 
 pub turn-spec : {M : Type 1} → statement M

@@ -1,24 +1,24 @@
 use Prim.Native.Nat.{_+_, _-_, _≤_, ℕ}
 use Rattle.load.proofs.Turns.{reactor-missing, reactor-refused, reactor-taken, reactors-done}
-use Rattle.load.specs.Check.{reactorsOf}
+use Rattle.load.specs.Check.{accepted, checked, reactorsOf}
 use Rattle.load.specs.Scan.{standingAt}
-use Rattle.load.specs.declared.Checked.the-variants.{Accepted, Refused}
+use Rattle.load.specs.declared.Checked.the-variants.{Refused}
 use Rattle.load.specs.declared.Refusal.the-variants.{Missing}
 use Rattle.program.proofs.Places.{commands-first, commands-next, commands-within, tables-within}
-use Rattle.program.specs.Bytes.{commandAt, commandsAt, commandsIn, declared, mainOf, reactors, running}
-use Rattle.program.specs.Location.{locations, sinkLoc, sizeOf}
+use Rattle.program.specs.Bytes.{commandAt, commandsAt, commandsIn, declared, reactors, running}
+use Rattle.program.specs.Location.{locations, sinkLoc}
 use Rattle.value.proofs.Tests.{passed, refused}
 use borrow.Author.Needs.{needs}
 use denote.Ref.{now}
 use mathlib.Core.Path.{_∙_, _≡_, ap, refl, sym}
 use native.Mathlib.Omega.{arith}
-use Rattle.load.proofs.verdict.check_reactors.Statement.{statement}
-use Rattle.load.proofs.verdict.check_reactors.Tie as tie
+use Rattle.load.proofs.verdict.judge_reactors.Statement.{statement}
+use Rattle.load.proofs.verdict.judge_reactors.Tie as tie
 
 abbrev Inv-loop : tie.InvT-loop
 Inv-loop program count first₀ r₀ first r =
-    (reactorsOf (Accepted (sizeOf program (mainOf program))) (reactors program) program 0 ≡ reactorsOf
-    (Accepted (sizeOf program (mainOf program))) (reactors program - r) program r)
+    (reactorsOf (accepted program) (reactors program) program 0 ≡ reactorsOf
+    (accepted program) (reactors program - r) program r)
     × (r ≤ reactors program) × (first ≡ commandsAt program r)
 
 abbrev μ-loop : tie.MeasureT-loop
@@ -28,7 +28,7 @@ loop-holds : tie.Need-loop-holds Inv-loop μ-loop
 loop-holds c =
     let args = c .before .before .before .args in
     let p = now (args .program) in (
-      ap (λ (n : ℕ). reactorsOf (Accepted (sizeOf p (mainOf p))) n p 0) (omega arith),
+      ap (λ (n : ℕ). reactorsOf (accepted p) n p 0) (omega arith),
       omega arith,
       c .tables-end
           .ensures ∙ sym (commands-first p),
@@ -96,7 +96,7 @@ add-refusal c =
     )
 
 returns : tie.Need-returns Inv-loop μ-loop
-unfolding commandAt
+unfolding commandAt checked
 returns c =
     let at-if1 = c .before .before .if1 in
     let at-scan = c .before .before .before .scan in
@@ -137,6 +137,7 @@ complete-requires c κs =
     )
 
 returns-2 : tie.Need-returns-2 Inv-loop μ-loop
+unfolding checked
 returns-2 c =
     let at-complete = c .before .before .complete in
     let at-if1 = c .before .before .before .before .before .before .if1 in
@@ -219,7 +220,7 @@ loop-again c =
       at-loop .inv .0
           ∙ reactor-taken _ p r _ (omega (arith, at-loop-test .taken, at-reactors .ensures)) number (at-scan .ensures)
           (at-if1 .left) (passed (at-complete .ensures _ _) (at-if2 .left))
-          ∙ ap (λ (m : ℕ). reactorsOf (Accepted (sizeOf p (mainOf p))) m p (r + 1))
+          ∙ ap (λ (m : ℕ). reactorsOf (accepted p) m p (r + 1))
           (omega (arith, at-loop-test .taken, at-reactors .ensures)),
       omega (arith, at-loop-test .taken, at-reactors .ensures),
       omega (
@@ -232,16 +233,12 @@ loop-again c =
       ),
     )
 
-main-size-requires : tie.Need-main-size-requires Inv-loop μ-loop
-main-size-requires c κs = c .before .before .before .before .before .pre
-
 returns-3 : tie.Need-returns-3 Inv-loop μ-loop
-returns-3 c =
-    let at-loop = c .before .before .loop in
-    ap Accepted (c .main-size .ensures) ∙ reactors-done _ _ _ _ (omega arith) ∙ sym (at-loop .inv .0)
+unfolding checked
+returns-3 c = reactors-done _ _ _ _ (omega arith) ∙ sym (c .before .loop .inv .0)
 
-pub check-reactors-spec : {M : Type 1} → statement M
-check-reactors-spec =
+pub judge-reactors-spec : {M : Type 1} → statement M
+judge-reactors-spec =
     tie.close
     (tie.spec
     Inv-loop μ-loop (λ c κs. search needs) (λ c κs. search needs) (λ c. omega arith) loop-holds
@@ -249,4 +246,4 @@ check-reactors-spec =
     (λ c κs. search needs) returns (λ c κs. search needs) (λ c. omega arith) add-complete
     complete-requires (λ c. omega arith) (λ c κs. search needs) returns-2 (λ c. omega arith)
     (λ c. omega arith) (λ c. omega arith) (λ c. omega arith) add-first-2 add-r loop-less loop-again
-    main-size-requires returns-3)
+    returns-3)
