@@ -2,7 +2,7 @@
 use value::Value;
 ghost use mathlib.Core.Path.{_≡_};
 ghost use Prim.Native.Nat.{_+_, _<_};
-ghost use lib.ListN.{set};
+ghost use lib.ListN.{length, set};
 ghost use Rattle.value.specs.Value.{value};
 ghost use Rattle.image.specs.Memory as M;
 
@@ -32,16 +32,33 @@ pub fn put(memory: &mut [u32], i: usize, v: u32)
     }
 }
 
+// The two words from `i` on, which are there, as a value.
+pub fn pair_within(memory: &[u32], i: usize) -> Value
+    requires { ⌜ i + 1 < length (now memory) ⌝ }
+    ensures { λ v. ⌜ v ≡ value (M.word (now (memory .entry)) i) (M.word (now (memory .entry)) (i + 1)) ⌝ }
+{
+    Value {
+        mark: memory[i],
+        content: memory[i + 1],
+    }
+}
+
+// Stores both.
+pub fn put_pair_within(memory: &mut [u32], i: usize, v: Value)
+    requires { ⌜ i + 1 < length (now memory) ⌝ }
+    ensures { λ _. ⌜ now (memory .exit) ≡ set (set (now (memory .entry)) i (v .mark)) (i + 1) (v .content) ⌝ }
+{
+    memory[i] = v.mark;
+    memory[i + 1] = v.content;
+}
+
 // The two words from `i` on, as a value: 0 past the end.
 pub fn pair(memory: &[u32], i: usize) -> Value
     requires { ⌜ i < 18446744073709551615 ⌝ }
     ensures { λ v. ⌜ v ≡ value (M.word (now (memory .entry)) i) (M.word (now (memory .entry)) (i + 1)) ⌝ }
 {
     if i + 1 < memory.len() {
-        return Value {
-            mark: memory[i],
-            content: memory[i + 1],
-        };
+        return pair_within(memory, i);
     }
     Value {
         mark: word(memory, i),
@@ -55,8 +72,7 @@ pub fn put_pair(memory: &mut [u32], i: usize, v: Value)
     ensures { λ _. ⌜ now (memory .exit) ≡ set (set (now (memory .entry)) i (v .mark)) (i + 1) (v .content) ⌝ }
 {
     if i + 1 < memory.len() {
-        memory[i] = v.mark;
-        memory[i + 1] = v.content;
+        put_pair_within(memory, i, v);
         return;
     }
     put(memory, i, v.mark)

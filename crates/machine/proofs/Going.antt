@@ -10,7 +10,8 @@ use lib.ListN.{length, set, length-set}
 use Rattle.value.specs.Test.{pick}
 use Rattle.value.proofs.Tests.{below}
 use Rattle.program.specs.Bytes.{reactors, declared, running, commandsAt, commandsIn, commandAt}
-use Rattle.program.specs.Command.{cmdOf, takesWords}
+use Rattle.program.specs.Command.{cmdOf, bytesAt, bytesOf, decode, takesWords}
+use Rattle.program.proofs.Slots.{slot-command, slot-fits}
 use Rattle.program.specs.Location.{sources, commandLoc, slotAt, results}
 use Rattle.load.specs.declared.Refusal.{Refusal}
 use Rattle.image.specs.Memory.{reactor, withWired, slot}
@@ -22,8 +23,9 @@ use Rattle.machine.specs.declared.Outcome.{Outcome}
 use Rattle.machine.specs.declared.Outcome.the-variants.{Given, Move, Call, Fail}
 use Rattle.machine.specs.Act.{did, doing, ranAs, Here, Workable}
 use Rattle.machine.specs.Opened.{stepping, Left, Opened}
-use Rattle.machine.specs.Places.{Loaded, PlacedTo}
+use Rattle.machine.specs.Places.{Loaded, PlacedTo, Reaches}
 use Rattle.machine.proofs.Opening.{left-at, starts, legal as entered-legal}
+use Rattle.machine.proofs.Placing.{reaches}
 use Rattle.machine.proofs.Running.{ends}
 use Rattle.machine.proofs.Stepping.{place-own, placed-next, same-here, fits-here, on-given, on-move, on-fail, on-call, after-call, stops-call}
 
@@ -219,6 +221,21 @@ module _ (p t rd : List ℕ) (h o : ℕ) (m₀ : List ℕ) (first at end : ℕ) 
       unfolding commandLoc
       noted-loc = let a = g .is-first in let e : first + j + 1 ≡ sources p r + (declared p r + j) + 1 = omega arith in
           subst (PlacedTo p r (set s (first + j) n)) e noted
+
+      -- the command finds its words
+      pub found : (here : ℕ) → here ≡ o + 3 + 2 * n
+          → Reaches (set s (first + j) n) o here (length m) (decode (bytesAt p (at + 8 * j)))
+      unfolding commandsIn bytesOf cmdOf
+      found here e =
+          let i = declared p r + j in
+          let l = commandLoc p r i in
+          let k = place-own p r j n under its in
+          let is : decode (bytesAt p (at + 8 * j)) ≡ cmdOf p r i = ap (λ (a : ℕ). decode (bytesAt p a)) here-at in
+          let own : takesWords (cmdOf p r i) ≡ true → here + 1 < length m = λ w.
+          let a = slot-fits p r l (slot-command p r i (let b = under in omega arith) w) in
+          let b = fits .within in
+          omega arith in
+          rw is (reaches p (set s (first + j) n) r o l here (length m) noted-loc (omega arith) (cmdOf p r i) (fits .reads) own)
 
       -- before the next one
       next : (m₁ s₁ : List ℕ) (n₁ : ℕ) → Left p rd f h o x r (running p r - (j + 1)) (declared p r + (j + 1)) m₁ →

@@ -1,7 +1,8 @@
 -- The table of places, one location further.
 -- Assumes nothing.
 use Prim.Native.Nat.{ℕ, suc, _+_, _*_, _≤_, _<_}
-use mathlib.Core.Path.{_≡_, sym, ap, _∙_, subst}
+use mathlib.Core.Path.{_≡_, refl, sym, ap, _∙_, subst}
+use mathlib.Core.Bool.{true}
 use mathlib.Core.List.{List}
 use mathlib.Core.Logic.{⊎-elim}
 use native.Mathlib.Omega.{arith}
@@ -10,12 +11,14 @@ use lib.Seq.{getD-set-same, getD-set-other}
 use Rattle.value.specs.Test.{pick}
 use Rattle.value.proofs.Tests.{below}
 use Rattle.program.specs.Bytes.{byte, declared, running, commandAt}
-use Rattle.program.specs.Command.{takesWords, decode, bytesAt, bytesOf, cmdOf}
+use Rattle.program.specs.Command.{Cmd, takesWords, decode, bytesAt, bytesOf, cmdOf, allocMono, makePoly, constant, global, supply}
+use Rattle.program.specs.Command.{react, consume, sink, allocPoly, primitive, cell, fetch, keep, none}
 use Rattle.program.specs.Location.{slotAt, results}
 use Rattle.program.specs.declared.Command.{Command}
-use Rattle.program.proofs.Slots.{firstR, slot-R}
+use Rattle.program.proofs.Slots.{firstR, slot-R, slot-up}
 use Rattle.image.specs.Memory.{reactor}
-use Rattle.machine.specs.Places.{Placed, PlacedTo}
+use Rattle.remus.specs.Steady.{ReadsUpTo}
+use Rattle.machine.specs.Places.{Placed, PlacedTo, UpTo, Reaches}
 
 -- the table t₁ is t with entry l
 pub long-next : (t t₁ : List ℕ) (l n k : ℕ) → length t ≡ k → t₁ ≡ set t l n → length t₁ ≡ k
@@ -49,3 +52,28 @@ results-next p r at j m b n e f g h =
 pub reads-at : (p m t : List ℕ) (o r l k : ℕ) → reactor m o ≡ r → PlacedTo p r t (l + 1) → k ≤ l
     → Placed p (reactor m o) t k
 reads-at p m t o r l k e f h = subst (λ (x : ℕ). Placed p x t k) (sym e) (f k (omega arith))
+
+-- and none lies past the words at `here`, which are the command's own
+pub reaches : (p t : List ℕ) (r o l here n : ℕ) → PlacedTo p r t (l + 1) → here ≡ o + slotAt p r l → (c : Cmd) → ReadsUpTo l c
+    → (takesWords c ≡ true → here + 1 < n) → Reaches t o here n c
+unfolding takesWords
+reaches p t r o l here n placed e = by
+  where
+    up : (k : ℕ) → k ≤ l → UpTo t o here k
+    up k h = let a = placed k (omega arith) in let b = slot-up p r k l h in omega arith
+
+    by : (c : Cmd) → ReadsUpTo l c → (takesWords c ≡ true → here + 1 < n) → Reaches t o here n c
+    by (allocMono x) h own = tt
+    by (makePoly x) h own = tt
+    by (constant x v) h own = own refl
+    by (global x) h own = own refl
+    by (supply x a b) h own = tt
+    by (react b) h own = tt
+    by (consume x b) h own = (own refl, up b h)
+    by (sink x a) h own = tt
+    by (allocPoly a b) h own = (own refl, up a (h .0), up b (h .1))
+    by (primitive x a b c) h own = (own refl, up a (h .0), up b (h .1))
+    by (cell x v) h own = tt
+    by (fetch b) h own = (own refl, up b h)
+    by (keep a b) h own = (own refl, up a (h .0))
+    by none h own = tt

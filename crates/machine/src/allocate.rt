@@ -6,7 +6,7 @@ use crate::Outcome;
 use crate::command::give;
 use image::MOST_DEPTH;
 use image::next;
-use image::pair;
+use image::pair_within;
 use image::put;
 use image::put_pair;
 use image::reactor;
@@ -103,7 +103,8 @@ fn find(program: &[u8], memory: &[u32], q: u32, head: u32) -> u32
 
 // The new deployment at u is the newest of the branch point at b, and the command's.
 fn branch(memory: &mut [u32], here: usize, q: u32, b: usize, size: u32) -> Outcome
-    requires { ⌜ (here < 8589934592) × (b < 8589934592) ⌝ }
+    requires { ⌜ here + 1 < length (now memory) ⌝ }
+    requires { ⌜ b ≤ here ⌝ }
     requires { ⌜ length (now memory) ≤ M.mostWords ⌝ }
     requires { ⌜ M.used (now memory) + size ≤ length (now memory) ⌝ }
     ensures { λ r.
@@ -134,7 +135,8 @@ fn branch(memory: &mut [u32], here: usize, q: u32, b: usize, size: u32) -> Outco
 
 // A deployment of reactor q on the branch point at b, where none is.
 fn make(facts: &[u64; 64], memory: &mut [u32], h: u8, here: usize, q: u32, b: usize) -> Outcome
-    requires { ⌜ (here < 8589934592) × (b < 8589934592) ⌝ }
+    requires { ⌜ here + 1 < length (now memory) ⌝ }
+    requires { ⌜ b ≤ here ⌝ }
     requires { ⌜ length (now memory) ≤ M.mostWords ⌝ }
     ensures { λ r.
         let m = now (memory .entry) in
@@ -162,7 +164,8 @@ fn choose(
     q: u32,
     b: usize,
 ) -> Outcome
-    requires { ⌜ (here < 8589934592) × (b < 8589934592) ⌝ }
+    requires { ⌜ here + 1 < length (now memory) ⌝ }
+    requires { ⌜ b ≤ here ⌝ }
     requires { ⌜ length (now memory) ≤ M.mostWords ⌝ }
     ensures { λ r.
         let p = now (program .entry) in
@@ -197,7 +200,8 @@ pub(crate) fn alloc_poly(
     a: usize,
     b: usize,
 ) -> Outcome
-    requires { ⌜ (here < 8589934592) × (a < 8589934592) × (b < 8589934592) ⌝ }
+    requires { ⌜ here + 1 < length (now memory) ⌝ }
+    requires { ⌜ (a ≤ here) × (b ≤ here) ⌝ }
     requires { ⌜ length (now memory) ≤ M.mostWords ⌝ }
     ensures { λ r.
         let p = now (program .entry) in
@@ -207,7 +211,7 @@ pub(crate) fn alloc_poly(
         → (W.isBlank (M.valueAt p m o j) ≡ false → M.content p m o j < B.reactors p)
         → Acts p h m o i (C.allocPoly j k) r (now (memory .exit))) ⌝ }
 {
-    let q = pair(memory, a);
+    let q = pair_within(memory, a);
     if q.mark == Value::BLANK {
         return give(memory, here, Value::blank());
     }

@@ -2,11 +2,12 @@
 // the turn completes: Fetch reads a cell as the turn found it, and a refused turn leaves every cell.
 use crate::Outcome;
 use crate::command::give;
-use image::pair;
+use image::pair_within;
 use value::Value;
 ghost use mathlib.Core.Path.{_≡_};
 ghost use mathlib.Core.List.{List};
-ghost use Prim.Native.Nat.{ℕ, _<_};
+ghost use Prim.Native.Nat.{ℕ, _+_, _<_, _≤_};
+ghost use lib.ListN.{length};
 ghost use Rattle.program.specs.Command as C;
 ghost use Rattle.image.specs.Memory as M;
 ghost use Rattle.remus.specs.Cells as S;
@@ -37,25 +38,27 @@ pub(crate) fn kept(v: Value) -> Value
 
 // 12 Fetch: the content of the cell at b.
 pub(crate) fn fetch(memory: &mut [u32], here: usize, b: usize) -> Outcome
-    requires { ⌜ (here < 8589934592) × (b < 8589934592) ⌝ }
+    requires { ⌜ here + 1 < length (now memory) ⌝ }
+    requires { ⌜ b ≤ here ⌝ }
     ensures { λ r.
         let m = now (memory .entry) in
         ⌜ ((p : List ℕ) (h o i k : ℕ) → b ≡ M.slot p m o k → Here p m o i here
         → Acts p h m o i (C.fetch k) r (now (memory .exit))) ⌝ }
 {
-    let v = pair(memory, b);
+    let v = pair_within(memory, b);
     give(memory, here, v)
 }
 
 // 13 Keep: the value at a waits to be a cell's content.
 pub(crate) fn keep(memory: &mut [u32], here: usize, a: usize) -> Outcome
-    requires { ⌜ (here < 8589934592) × (a < 8589934592) ⌝ }
+    requires { ⌜ here + 1 < length (now memory) ⌝ }
+    requires { ⌜ a ≤ here ⌝ }
     ensures { λ r.
         let m = now (memory .entry) in
         ⌜ ((p : List ℕ) (h o i j k : ℕ) → a ≡ M.slot p m o j → Here p m o i here
         → Acts p h m o i (C.keep j k) r (now (memory .exit))) ⌝ }
 {
-    let v = pair(memory, a);
+    let v = pair_within(memory, a);
     let waits = pending(v);
     give(memory, here, waits)
 }

@@ -1,10 +1,12 @@
 // The commands that neither allocate nor have to do with cells, one function each: 01, the command
 // table. They are given the index of each slot's words: `here` is the command's own, a and b those of
-// its operands.
+// its operands. Where a command has a result, its own words are in memory, and no operand's lie past them.
 use crate::Outcome;
 use crate::places::operand;
 use image::pair;
+use image::pair_within;
 use image::put_pair;
+use image::put_pair_within;
 use image::reactor;
 use image::turns;
 use program::fact;
@@ -13,7 +15,8 @@ use value::Value;
 ghost use mathlib.Core.Path.{_≡_};
 ghost use mathlib.Core.Bool.{true};
 ghost use mathlib.Core.List.{List};
-ghost use Prim.Native.Nat.{ℕ, _<_, _≤_};
+ghost use Prim.Native.Nat.{ℕ, _+_, _<_, _≤_};
+ghost use lib.ListN.{length};
 ghost use Rattle.value.specs.Value as W;
 ghost use Rattle.program.specs.Bytes as B;
 ghost use Rattle.program.specs.Command as C;
@@ -33,13 +36,13 @@ const CHOOSE: u8 = 11;
 
 // The command gives v.
 pub(crate) fn give(memory: &mut [u32], here: usize, v: Value) -> Outcome
-    requires { ⌜ here < 8589934592 ⌝ }
+    requires { ⌜ here + 1 < length (now memory) ⌝ }
     ensures { λ r.
         let m = now (memory .entry) in
         ⌜ ((p : List ℕ) (o l : ℕ) → here ≡ M.slot p m o l
         → did r (now (memory .exit)) ≡ did Given (M.store p m o l v)) ⌝ }
 {
-    put_pair(memory, here, v);
+    put_pair_within(memory, here, v);
     Outcome::Given
 }
 
@@ -55,7 +58,7 @@ pub(crate) fn of_kind(x: u8, v: u32) -> Value
 
 // 3 Constant: the value v of kind x.
 pub(crate) fn constant(memory: &mut [u32], here: usize, x: u8, v: u32) -> Outcome
-    requires { ⌜ here < 8589934592 ⌝ }
+    requires { ⌜ here + 1 < length (now memory) ⌝ }
     ensures { λ r.
         let m = now (memory .entry) in
         ⌜ ((p : List ℕ) (h o i : ℕ) → Here p m o i here → Acts p h m o i (C.constant x v) r (now (memory .exit))) ⌝ }
@@ -88,7 +91,7 @@ fn global_value(readings: &[u32], memory: &[u32], x: u8) -> Value
 
 // 4 Global: global x.
 pub(crate) fn global(readings: &[u32], memory: &mut [u32], here: usize, x: u8) -> Outcome
-    requires { ⌜ here < 8589934592 ⌝ }
+    requires { ⌜ here + 1 < length (now memory) ⌝ }
     requires { ⌜ M.turns (now memory) < 4294967295 ⌝ }
     ensures { λ r.
         let m = now (memory .entry) in
@@ -153,7 +156,8 @@ pub(crate) fn consume(
     x: u8,
     b: usize,
 ) -> Outcome
-    requires { ⌜ (here < 8589934592) × (b < 8589934592) ⌝ }
+    requires { ⌜ here + 1 < length (now memory) ⌝ }
+    requires { ⌜ b ≤ here ⌝ }
     ensures { λ r.
         let m = now (memory .entry) in
         ⌜ ((p : List ℕ) (h o i k : ℕ) → Facts p (now (facts .entry)) → B.reactors p ≤ 64
@@ -161,7 +165,7 @@ pub(crate) fn consume(
         → (X.there p m o k ≡ true → M.reactor m (M.content p m o k) < B.reactors p)
         → Acts p h m o i (C.consume x k) r (now (memory .exit))) ⌝ }
 {
-    let d = pair(memory, b);
+    let d = pair_within(memory, b);
     if d.mark != Value::DEPLOYMENT {
         return give(memory, here, Value::blank());
     }
@@ -208,15 +212,16 @@ pub(crate) fn primitive(
     b: usize,
     l: u8,
 ) -> Outcome
-    requires { ⌜ (here < 8589934592) × (a < 8589934592) × (b < 8589934592) ⌝ }
+    requires { ⌜ here + 1 < length (now memory) ⌝ }
+    requires { ⌜ (a ≤ here) × (b ≤ here) ⌝ }
     ensures { λ r.
         let m = now (memory .entry) in
         let t = now (slots .entry) in
         ⌜ ((p : List ℕ) (h i j k : ℕ) → a ≡ M.slot p m o j → b ≡ M.slot p m o k → Placed p (M.reactor m o) t l
         → Here p m o i here → Acts p h m o i (C.primitive x j k l) r (now (memory .exit))) ⌝ }
 {
-    let first = pair(memory, a);
-    let second = pair(memory, b);
+    let first = pair_within(memory, a);
+    let second = pair_within(memory, b);
     let last = third(memory, slots, o, x, l);
     let v = value::primitive(x, first, second, last);
     give(memory, here, v)

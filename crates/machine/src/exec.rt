@@ -29,7 +29,7 @@ ghost use Rattle.program.specs.Location as L;
 ghost use Rattle.image.specs.Memory as M;
 ghost use Rattle.remus.specs.Steady.{Fits};
 ghost use Rattle.machine.specs.Act.{did, doing, Declares, Here, Workable};
-ghost use Rattle.machine.specs.Places.{PlacedTo};
+ghost use Rattle.machine.specs.Places.{PlacedTo, Reaches};
 
 // 2 MakePoly: an empty branch point.
 fn make_poly(memory: &mut [u32], here: usize) -> Ended
@@ -101,7 +101,7 @@ pub(crate) fn exec(
     at: usize,
 ) -> Outcome
     requires { ⌜ at + 8 ≤ length (now program) ⌝ }
-    requires { ⌜ here < 8589934592 ⌝ }
+    requires { ⌜ Reaches (now slots) o here (length (now memory)) (C.decode (C.bytesAt (now program) at)) ⌝ }
     requires { ⌜ Workable (now memory) ⌝ }
     ensures { λ q.
         let p = now (program .entry) in

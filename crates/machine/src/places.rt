@@ -6,7 +6,7 @@ use value::Value;
 ghost use mathlib.Core.Path.{_≡_};
 ghost use mathlib.Core.List.{List};
 ghost use Prim.Native.Nat.{ℕ, _+_, _*_, _<_, _≤_};
-ghost use lib.ListN.{length, set};
+ghost use lib.ListN.{length, getD, set};
 ghost use Rattle.program.specs.Bytes as B;
 ghost use Rattle.program.specs.Location as L;
 ghost use Rattle.image.specs.Memory as M;
@@ -15,6 +15,7 @@ ghost use Rattle.machine.specs.Places.{Placed, PlacedTo};
 // The index of the words of a location in the deployment at o, where n before it have words.
 pub(crate) fn after(o: u32, n: u8) -> usize
     ensures is { λ i. ⌜ ((p m : List ℕ) (l : ℕ) → 3 + 2 * n ≡ L.slotAt p (M.reactor m o) l → i ≡ M.slot p m o l) ⌝ }
+    ensures at { λ i. ⌜ i ≡ o + 3 + 2 * n ⌝ }
     ensures small { λ i. ⌜ i < 8589934592 ⌝ }
 {
     o as usize + 3 + 2 * (n as usize)
@@ -25,6 +26,7 @@ pub(crate) fn place(slots: &[u8; 256], o: u32, l: u8) -> usize
     ensures is { λ i.
         let t = now (slots .entry) in
         ⌜ ((p m : List ℕ) → Placed p (M.reactor m o) t l → i ≡ M.slot p m o l) ⌝ }
+    ensures at { λ i. ⌜ i ≡ o + 3 + 2 * getD (now (slots .entry)) l 0 ⌝ }
     ensures small { λ i. ⌜ i < 8589934592 ⌝ }
 {
     after(o, slots[l as usize])

@@ -8,13 +8,14 @@ use native.Mathlib.Omega.{arith}
 use lib.ListN.{length}
 use Rattle.program.specs.Bytes.{reactors, commandsIn}
 use Rattle.program.specs.Command.{Cmd, cmdOf, bytesOf, supply, consume}
-use Rattle.program.specs.Location.{commandLoc}
+use Rattle.program.specs.Location.{commandLoc, sizeOf}
 use Rattle.program.proofs.Decode.{by-code}
 use Rattle.load.specs.Rules.{ZeroBytes, Rules}
 use Rattle.load.proofs.Exact.Static.{ValueBefore, source, made, DeploymentBefore, mono, poly, CellBefore, Static}
-use Rattle.image.specs.Memory.{mostDepth, mainAt, reactor}
-use Rattle.image.specs.Sound.{Sound}
-use Rattle.image.proofs.Memory.Tiles.{in-ge, in-to, in-reactor}
+use Rattle.image.specs.Memory.{mostDepth, mainAt, reactor, sizeAt}
+use Rattle.image.specs.Sound.{Deployed, Sound}
+use Rattle.image.proofs.Memory.Changes.{Good}
+use Rattle.image.proofs.Memory.Tiles.{in-ge, in-to, in-fits, in-reactor}
 use Rattle.remus.specs.Exec.{Eff, move, call, fail, eff, opening, ready}
 use Rattle.remus.specs.Run.{ran, entered, stepOf, runOf}
 use Rattle.remus.specs.Turn.{fine, askedOf}
@@ -84,6 +85,11 @@ module _ (p : List ℕ) (rules : Rules p) where
       → reactor m o < reactors p
   low v = in-reactor p (v .story .good .tiles) (top-frame p v .deployed)
 
+  -- a deployment of r has its words
+  has-words : {m : List ℕ} {o r : ℕ} → Good p m → Deployed p m o → reactor m o ≡ r → o + sizeOf p r ≤ length m
+  unfolding sizeAt
+  has-words g d e = rw (← e) (let a = in-fits p (g .tiles) d in let b = g .fits in omega arith)
+
   -- the topmost's next command
   module _ {w m : List ℕ} {o i : ℕ} {fs : List Frame} {ns : List Note}
       (v : Inv p w (state m (frame o i ∷ fs) ns)) (h : i < commandsIn p (reactor m o)) where
@@ -97,6 +103,7 @@ module _ (p : List ℕ) (rules : Rules p) where
           same = k .same;
           above = in-ge p t;
           below = in-to p t;
+          within = has-words (k .inv .story .good) t (k .same);
           declares = s .in-D i;
           runs = λ d. s .in-R i d h;
           reads = reads-up-to p (reactor m o) s i h (rules .every-reactor (reactor m o) (low v) .zero-bytes i h);

@@ -1,18 +1,19 @@
 -- What code that carries out a turn may go by while a deployment runs, so that it tests none of this and has no way for
--- what cannot come: the deployment begins within words 2 to u−1 and keeps its reactor, one of the program's, from its
--- first command to its last; its D commands come first, then its R commands; no command reads past its own location; an
--- allocation is of one of the program's reactors; a Supply comes to a source that its deployment has, and a Consume's
--- deployment has one of the program's reactors; no run is deeper than 64. It holds in each turn of an accepted program
--- on a sound image: `steady` in proofs/Steady.antt.
+-- what cannot come: the deployment begins within words 2 to u−1, its words are all there, and it keeps its reactor, one
+-- of the program's, from its first command to its last; its D commands come first, then its R commands; no command reads
+-- past its own location; an allocation is of one of the program's reactors; a Supply comes to a source that its
+-- deployment has, and a Consume's deployment has one of the program's reactors; no run is deeper than 64. It holds in
+-- each turn of an accepted program on a sound image: `steady` in proofs/Steady.antt.
 use Prim.Native.Nat.{ℕ, zero, suc, _+_, _-_, _≤_, _<_}
 use mathlib.Core.Path.{_≡_}
 use mathlib.Core.Bool.{true, false}
 use mathlib.Core.List.{List}
+use lib.ListN.{length}
 use Rattle.value.specs.Value.{isBlank}
 use Rattle.program.specs.Bytes.{reactors, declared, commandsIn}
 use Rattle.program.specs.Command.{Cmd, cmdOf, sequenceOf, D, R, allocMono, makePoly, constant, global, supply, react}
 use Rattle.program.specs.Command.{consume, sink, allocPoly, primitive, cell, fetch, keep, none}
-use Rattle.program.specs.Location.{sources, commandLoc}
+use Rattle.program.specs.Location.{sources, commandLoc, sizeOf}
 use Rattle.image.specs.Memory.{mainAt, used, reactor, content, valueAt}
 use Rattle.remus.specs.Exec.{call, there, eff, opening, ready}
 use Rattle.remus.specs.Run.{Ran, ran, stepOf, runOf}
@@ -39,6 +40,7 @@ pub record Fits (p : List ℕ) (r : ℕ) (m : List ℕ) (o i : ℕ) : Type 0 whe
   pub same : reactor m o ≡ r
   pub above : mainAt ≤ o
   pub below : o < used m
+  pub within : o + sizeOf p r ≤ length m
   pub declares : i < declared p r → sequenceOf (cmdOf p r i) ≡ D
   pub runs : declared p r ≤ i → sequenceOf (cmdOf p r i) ≡ R
   pub reads : ReadsUpTo (commandLoc p r i) (cmdOf p r i)

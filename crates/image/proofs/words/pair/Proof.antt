@@ -3,13 +3,12 @@ use Rattle.value.specs.Value.{value}
 use borrow.Author.Needs.{needs}
 use denote.Ref.{now}
 use lib.ListN.{List·getD-eq-default}
-use mathlib.Core.Path.{_∙_, ap, refl, sym}
+use mathlib.Core.Path.{_∙_, ap, sym}
 use Rattle.image.proofs.words.pair.Statement.{statement}
 use Rattle.image.proofs.words.pair.Tie as tie
 
 returns : tie.Need-returns
-unfolding word
-returns c = refl
+returns c = c .pair-within .ensures
 
 returns-2 : tie.Need-returns-2
 unfolding word
@@ -21,5 +20,4 @@ pub pair-spec : {M : Type 1} → statement M
 pair-spec =
     tie.close
     (tie.spec
-    (λ c. search needs) (λ c. search needs) (λ c. search needs) (λ c. search needs) (λ c. search needs)
-    (λ c. search needs) returns (λ c κs. search needs) returns-2)
+    (λ c. search needs) (λ c κs. search needs) returns (λ c κs. search needs) returns-2)

@@ -5,6 +5,9 @@ use mathlib.Core.Path.{_∙_, sym}
 use Rattle.image.proofs.words.put_pair.Statement.{statement}
 use Rattle.image.proofs.words.put_pair.Tie as tie
 
+returns : tie.Need-returns
+returns c = c .before .before .put-pair-within .ensures
+
 returns-2 : tie.Need-returns-2
 returns-2 c =
     let out = c .before .before .before .before .if1 .left in
@@ -14,6 +17,5 @@ pub put-pair-spec : {M : Type 1} → statement M
 put-pair-spec =
     tie.close
     (tie.spec
-    (λ c. search needs) (λ c. search needs) (λ c. search needs) (λ c. search needs) (λ c. search needs)
-    (λ c. search needs) (λ c. search needs) (λ c. search needs) (λ c κs. search needs) (λ c. search needs)
+    (λ c. search needs) (λ c κs. search needs) (λ c. search needs) returns (λ c κs. search needs) (λ c. search needs)
     returns-2)

@@ -13,7 +13,7 @@ returns c =
     let at-give = c .before .before .give in
     let at-blank = c .before .before .before .blank in
     let at-if1 = c .before .before .before .before .before .if1 in
-    let at-pair = c .before .before .before .before .before .before .before .pair in
+    let at-pair = c .before .before .before .before .before .before .before .pair-within in
     λ o i j k f few s a b at ops rd.
     rw (is-blank _ _ o j (read-at _ _ o j _ a (at-pair .ensures)) (at-if1 .taken))
     (gives _ _ _ _ _ _ (at-give .ensures _ o _ at) (at-blank .ensures))
@@ -23,7 +23,7 @@ unfolding exec
 returns-2 c =
     let at-choose = c .before .before .choose in
     let at-if1 = c .before .before .before .before .if1 in
-    let at-pair = c .before .before .before .before .before .before .pair in
+    let at-pair = c .before .before .before .before .before .before .pair-within in
     λ o i j k f few s a b at ops rd.
     let v = read-at _ _ o j _ a (at-pair .ensures) in
     let t = not-blank _ _ o j v (at-if1 .left) in

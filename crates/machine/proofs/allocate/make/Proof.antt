@@ -31,7 +31,7 @@ returns-2 c =
 branch-requires : tie.Need-branch-requires
 branch-requires c κs =
     let at-room = c .before .before .room in
-    (search needs, (search needs, le? (passed (at-room .ensures) (c .before .if2 .left))))
+    (search needs, (search needs, (search needs, le? (passed (at-room .ensures) (c .before .if2 .left)))))
 
 returns-3 : tie.Need-returns-3
 unfolding chosen

@@ -11,7 +11,7 @@ returns : tie.Need-returns
 unfolding exec acted takesWords pick
 returns c =
     let at-give = c .before .before .give in
-    let at-pair = c .before .before .before .before .pair in
+    let at-pair = c .before .before .before .before .pair-within in
     λ p h o i k e g rd.
     gives _ _ _ _ _ _ (at-give .ensures p o _ g) (read-at p _ o k _ e (at-pair .ensures))
 

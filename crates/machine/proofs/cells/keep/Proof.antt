@@ -14,7 +14,7 @@ unfolding exec acted takesWords pick
 returns c =
     let at-give = c .before .before .give in
     let at-pending = c .before .before .before .before .pending in
-    let at-pair = c .before .before .before .before .before .pair in
+    let at-pair = c .before .before .before .before .before .pair-within in
     λ p h o i j k e g rd.
     let v = read-at p _ o j _ e (at-pair .ensures) in
     gives _ _ _ _ _ _ (at-give .ensures p o _ g) (at-pending .ensures ∙ ap pending v)

@@ -14,11 +14,11 @@ returns c =
     let at-give = c .before .before .give in
     let at-primitive = c .before .before .before .before .primitive in
     let at-third = c .before .before .before .before .before .third in
-    let at-pair2 = c .before .before .before .before .before .before .before .pair2 in
-    let at-pair = c .before .before .before .before .before .before .before .before .before .pair in
+    let at-second = c .before .before .before .before .before .before .before .pair-within2 in
+    let at-first = c .before .before .before .before .before .before .before .before .before .pair-within in
     λ p h i j k e f t g rd.
-    let first = read-at p _ _ j _ e (at-pair .ensures) in
-    let second = read-at p _ _ k _ f (at-pair2 .ensures) in
+    let first = read-at p _ _ j _ e (at-first .ensures) in
+    let second = read-at p _ _ k _ f (at-second .ensures) in
     rw (← first, ← second)
     (gives _ _ _ _ _ _ (at-give .ensures p _ _ g) (at-primitive .ensures ∙ at-third .ensures p _ _ t))
 

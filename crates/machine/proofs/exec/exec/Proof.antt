@@ -1,17 +1,75 @@
+use Prim.Native.Nat.{ℕ}
 use Rattle.machine.proofs.Placing.{reads-at}
 use Rattle.machine.proofs.Sequences.{command-at, no-R}
 use Rattle.machine.specs.Act.{Stands}
+use Rattle.machine.specs.Places.{Reaches}
 use Rattle.program.proofs.Decode.{as-constant, as-consume, as-fetch, as-global, as-keep}
 use Rattle.program.proofs.Decode.{as-poly, as-primitive, as-react, as-sink, as-supply}
-use Rattle.program.specs.Command.{Cmd, sequenceOf}
+use Rattle.program.specs.Command.{Cmd, decode, sequenceOf}
+use Rattle.program.specs.declared.Command.{Command}
 use Rattle.program.specs.Location.{commandLoc}
 use Rattle.remus.specs.Steady.{ReadsUpTo}
 use borrow.Author.Needs.{needs}
 use denote.Ref.{now}
-use mathlib.Core.Path.{_∙_, ap, refl, subst, sym}
+use mathlib.Core.List.{List}
+use mathlib.Core.Path.{_≡_, _∙_, ap, refl, subst, sym}
 use native.Mathlib.Omega.{arith}
 use Rattle.machine.proofs.exec.exec.Statement.{statement}
 use Rattle.machine.proofs.exec.exec.Tie as tie
+
+-- what the bytes of a command reach, once it is known which it is
+reach : (t : List ℕ) (o here n : ℕ) {c b : Command} {d : Cmd} → d ≡ decode c → c ≡ b → Reaches t o here n (decode b)
+    → Reaches t o here n d
+reach t o here n e f = subst (Reaches t o here n) (sym (e ∙ ap decode f))
+
+constant-requires : tie.Need-constant-requires
+constant-requires c κs =
+    let at-match = c .before .before .match in
+    let at-bytes-within = c .before .before .before .before .before .bytes-within in
+    let pre = c .before .before .before .before .before .before .before .before .before .pre in
+    reach _ _ _ _ (as-constant (λ (d : Cmd). d) _ (at-match .keys1) refl) (at-bytes-within .ensures) (pre .1 .0)
+
+global-requires : tie.Need-global-requires
+global-requires c κs =
+    let at-bytes-within = c .before .before .before .before .bytes-within in
+    let pre = c .before .before .before .before .before .before .before .before .pre in
+    let r = reach _ _ _ _ (as-global (λ (d : Cmd). d) _ (c .before .match .keys2) refl) (at-bytes-within .ensures) (pre .1 .0) in
+    (r, pre .1 .1 .clock)
+
+consume-requires : tie.Need-consume-requires
+consume-requires c κs =
+    let at-bytes-within = c .before .before .before .before .bytes-within in
+    let pre = c .before .before .before .before .before .before .before .before .pre in
+    let r = reach _ _ _ _ (as-consume (λ (d : Cmd). d) _ (c .before .match .keys5) refl) (at-bytes-within .ensures) (pre .1 .0) in
+    (r .0, omega (arith, r .1, c .before .before .place2 .ensures .1 .0))
+
+alloc-poly-requires : tie.Need-alloc-poly-requires
+alloc-poly-requires c κs =
+    let at-bytes-within = c .before .before .before .before .bytes-within in
+    let pre = c .before .before .before .before .before .before .before .before .pre in
+    let r = reach _ _ _ _ (as-poly (λ (d : Cmd). d) _ (c .before .match .keys7) refl) (at-bytes-within .ensures) (pre .1 .0) in
+    (r .0, ((omega (arith, r .1, c .before .before .before .place .ensures .1 .0), omega (arith, r .2, c .before .before .place2 .ensures .1 .0)), pre .1 .1 .few))
+
+primitive-requires : tie.Need-primitive-requires
+primitive-requires c κs =
+    let at-bytes-within = c .before .before .before .before .bytes-within in
+    let pre = c .before .before .before .before .before .before .before .before .pre in
+    let r = reach _ _ _ _ (as-primitive (λ (d : Cmd). d) _ (c .before .match .keys8) refl) (at-bytes-within .ensures) (pre .1 .0) in
+    (r .0, (omega (arith, r .1, c .before .before .before .place .ensures .1 .0), omega (arith, r .2, c .before .before .place2 .ensures .1 .0)))
+
+fetch-requires : tie.Need-fetch-requires
+fetch-requires c κs =
+    let at-bytes-within = c .before .before .before .before .bytes-within in
+    let pre = c .before .before .before .before .before .before .before .before .pre in
+    let r = reach _ _ _ _ (as-fetch (λ (d : Cmd). d) _ (c .before .match .keys9) refl) (at-bytes-within .ensures) (pre .1 .0) in
+    (r .0, omega (arith, r .1, c .before .before .place2 .ensures .1 .0))
+
+keep-requires : tie.Need-keep-requires
+keep-requires c κs =
+    let at-bytes-within = c .before .before .before .before .bytes-within in
+    let pre = c .before .before .before .before .before .before .before .before .pre in
+    let r = reach _ _ _ _ (as-keep (λ (d : Cmd). d) _ (c .before .match .keys10) refl) (at-bytes-within .ensures) (pre .1 .0) in
+    (r .0, omega (arith, r .1, c .before .before .before .place .ensures .1 .0))
 
 returns : tie.Need-returns
 returns c =
@@ -172,10 +230,9 @@ pub exec-spec : {M : Type 1} → statement M
 exec-spec =
     tie.close
     (tie.spec
-    (λ c κs. search needs) (λ c κs. search needs) (λ c κs. search needs) (λ c κs. search needs)
-    (λ c κs. search needs) (λ c κs. search needs) (λ c κs. search needs) (λ c κs. search needs)
-    (λ c κs. search needs) (λ c κs. search needs) (λ c κs. search needs) (λ c κs. search needs)
-    (λ c κs. search needs) (λ c κs. search needs) (λ c. search needs) returns (λ c. search needs) returns-2
-    (λ c. search needs) returns-3 (λ c. search needs) returns-4 (λ c. search needs) returns-5 (λ c. search needs)
-    returns-6 (λ c. search needs) returns-7 (λ c. search needs) returns-8 (λ c. search needs) returns-9
-    (λ c. search needs) returns-10 returns-11)
+    (λ c κs. search needs) (λ c κs. search needs) (λ c κs. search needs) (λ c κs. search needs) constant-requires
+    global-requires (λ c κs. search needs) (λ c κs. search needs) consume-requires (λ c κs. search needs)
+    alloc-poly-requires primitive-requires fetch-requires keep-requires (λ c. search needs) returns (λ c. search needs)
+    returns-2 (λ c. search needs) returns-3 (λ c. search needs) returns-4 (λ c. search needs) returns-5
+    (λ c. search needs) returns-6 (λ c. search needs) returns-7 (λ c. search needs) returns-8 (λ c. search needs)
+    returns-9 (λ c. search needs) returns-10 returns-11)

@@ -1,6 +1,6 @@
 use Prim.Native.Nat.{_+_, _-_, _≤_, _<_, ℕ}
 use Rattle.image.specs.Memory.{reactor}
-use Rattle.machine.proofs.Going.{Going, begun, stopped-there, all-inside, counted, fits, goes, going-call, going-fail, going-given, going-move}
+use Rattle.machine.proofs.Going.{Going, begun, stopped-there, all-inside, counted, fits, found, goes, going-call, going-fail, going-given, going-move}
 use Rattle.machine.proofs.Going.{begins-at, here-at, lay-at, nested, not-deep, noted-loc, own, same, short, steady-below, stops, whole}
 use Rattle.machine.proofs.Opening.{legal}
 use Rattle.machine.proofs.Told.{told}
@@ -168,6 +168,7 @@ run-add-note t c =
 run-exec-requires : (t : ℕ) → run-lts.Need-exec-requires (run-cs t) (run-at t) run.Post run-Inv-loop run-μ-loop
 run-exec-requires t c κs =
     let at-after = c .before .before .after in
+    let at-note = c .before .before .before .note in
     let at-loop-test = c .before .before .before .before .before .loop-test in
     let at-loop = c .before .before .before .before .before .before .loop in
     let pre = c .before .before .before .before .before .before .before .before .before .before .before .before .before
@@ -175,7 +176,8 @@ run-exec-requires t c κs =
     let g = at-loop .inv .2 in
     let inside = all-inside _ _ _ _ _ _ _ _ _ (pre .1 .0) _ _ _ _ g in
     let in-loop = at-loop-test .taken in
-    (omega arith, (at-after .ensures .1, g .left .workable))
+    let reach = found _ _ _ _ _ _ _ _ _ (pre .1 .0) _ _ _ _ g in-loop _ (at-after .ensures .1 .0) in
+    (omega arith, (rw (at-note .ensures) reach, g .left .workable))
 
 run-add-n : (t : ℕ) → run-lts.Need-add-n (run-cs t) (run-at t) run.Post run-Inv-loop run-μ-loop
 run-add-n t c =
