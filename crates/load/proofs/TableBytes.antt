@@ -39,6 +39,9 @@ legal-tables p h t =
 pub some-reactor : (p : List ℕ) → sweep (headerLegal p) 0 8 ≡ 8 → 0 < reactors p
 some-reactor p h = header p .0 (sweeps (headerLegal p) 0 8 8 refl .0 h) .some-reactor
 
+pub few-reactors : (p : List ℕ) → sweep (headerLegal p) 0 8 ≡ 8 → reactors p ≤ 64
+few-reactors p h = header p .0 (sweeps (headerLegal p) 0 8 8 refl .0 h) .few-reactors
+
 -- ---- the bytes by rows
 
 module _ (ok : ℕ → Bool) where

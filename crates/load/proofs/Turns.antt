@@ -5,9 +5,11 @@ use mathlib.Core.Path.{_≡_, refl, sym, _∙_, ap, subst}
 use mathlib.Core.Bool.{Bool, true, false, true≢false}
 use mathlib.Core.List.{List}
 use native.Mathlib.Omega.{arith}
+use Rattle.value.specs.Test.{pick}
 use Rattle.value.proofs.Tests.{goes, stops}
-use Rattle.program.specs.Bytes.{commandsIn, commandsAt, commandAt, entryAt}
-use Rattle.program.specs.Command.{Cmd, decode, bytesAt, bytesOf}
+use Rattle.program.specs.Bytes.{declared, commandsIn, commandsAt, commandAt, entryAt}
+use Rattle.program.specs.Command.{Cmd, takesWords, decode, bytesAt, bytesOf, cmdOf}
+use Rattle.program.specs.Location.{results}
 use Rattle.program.specs.declared.Command.{Command}
 use Rattle.load.specs.Scan.{Scanned, refusalOf, afterOf, scanned, onward, scanOf, beginOf, complete}
 use Rattle.load.specs.Refusal.{atCommand}
@@ -17,9 +19,15 @@ use Rattle.load.specs.Lent.{Stepped, Stopped, Passed, Ran, refusalNext}
 use Rattle.load.specs.declared.Scan.{Scan}
 use Rattle.load.specs.declared.Checked.{Checked}
 use Rattle.load.specs.declared.Checked.the-variants.{Refused}
+use Rattle.load.specs.declared.Refusal.{Refusal}
 use Rattle.load.specs.declared.Refusal.the-variants.{Missing}
+use Rattle.load.specs.declared.Ruling.the-variants as R
 use Rattle.load.proofs.Shapes.{after-shaped, after-within}
 use Rattle.load.proofs.Stands.{after-next}
+
+-- a ruling of why is no acceptance
+pub not-fine : {A : Type 0} {w : Refusal} → R.Refused w ≡ R.Fine → A
+not-fine e = let z : _≡_ {A = ℕ} 0 1 = cc in absurd (omega arith)
 
 -- ---- a command
 
@@ -45,6 +53,11 @@ pub record Running (p : List ℕ) (r n : ℕ) (s₀ s : Scan) (left : ℕ) : Typ
 module _ (p : List ℕ) (r : ℕ) where
   pub run-start : (n : ℕ) (s : Scan) → Shaped p s → Within p r s → Running p r n s s n
   run-start n s sh w = record { scans = λ m. refl; count = refl; few = omega arith; shaped = sh; within = w }
+
+  -- of none of the n R commands
+  pub none-yet : (n : ℕ) → 0 ≡ results p r (n - n)
+  unfolding results
+  none-yet n = let e : n - n ≡ 0 = omega arith in rw e
 
   pub run-done : (n : ℕ) (s₀ s : Scan) (left : ℕ) → Running p r n s₀ s left → left ≤ 0 → Passed p r n s₀ s
   run-done n s₀ s left run h =
@@ -79,6 +92,17 @@ module _ (p : List ℕ) (r : ℕ) where
 
     pub run-refused : t ≡ true → Stopped p r n s₀ u
     run-refused e = let q = step .stays e in subst (λ (v : Scan). Stopped p r n s₀ v) (sym (q .1)) (stopped-here (q .0))
+
+    -- R commands with a result, one command more
+    pub one-more : s₀ .next ≡ declared p r → (m k : ℕ) → m ≡ results p r (n - left) → k ≡ m + pick (takesWords (decode c)) 1 0
+        → k ≡ results p r (n - (left - 1))
+    unfolding results cmdOf
+    one-more from m k so then =
+        let i : s .next ≡ declared p r + (n - left) = omega (arith, run .count, run .few) in
+        let one : Command → ℕ = λ c. pick (takesWords (decode c)) 1 0 in
+        let is : one c ≡ one (bytesOf p r (declared p r + (n - left))) = ap one (next-bytes ∙ ap (bytesOf p r) i) in
+        let q : n - (left - 1) ≡ suc (n - left) = omega (arith, run .few) in
+        rw q (omega (arith, then, so, is))
 
     module _ (legal : LegalTables p) (l : s .next < commandsIn p r) where
       taken-here : refusalOf p r s c (decode c) ≡ 0 → Running p r n s₀ (afterOf p r s (decode c)) (left - 1)

@@ -28,9 +28,10 @@ pub struct Scan {
 }
 
 // What goes from command to command beside the tables of standings and kinds: the index of the next
-// command, and whether that one is refused.
+// command, how many R commands before it have a result, and whether it is refused.
 pub struct Progress {
     pub next: u8,
+    pub results: u8,
     pub refused: bool,
 }
 

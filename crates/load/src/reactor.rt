@@ -7,7 +7,7 @@ use crate::standing::stand;
 use program::bytes_within;
 use program::source_kind;
 ghost use mathlib.Core.Path.{_≡_};
-ghost use mathlib.Core.Bool.{true};
+ghost use mathlib.Core.Bool.{true, false};
 ghost use mathlib.Core.List.{List};
 ghost use lib.ListN.{length, getD, replicate};
 ghost use Prim.Native.Nat.{ℕ, _+_, _*_, _≤_, _<_};
@@ -73,6 +73,7 @@ impl Progress {
         }
         Progress {
             next: s.next,
+            results: s.results,
             refused: false,
         }
     }
@@ -88,9 +89,10 @@ impl Progress {
     ) -> Progress
         requires tables { ⌜ LegalTables (now program) ⌝ }
         requires facts { ⌜ FactsOf (now program) facts ⌝ }
-        requires start { ⌜ (self .next ≡ facts .declared) × Shaped (now program) (state (now standing) (now kind) (self .next)) × Within (now program) (facts .reactor) (state (now standing) (now kind) (self .next)) ⌝ }
+        requires start { ⌜ (self .next ≡ facts .declared) × (self .results ≡ 0) × Shaped (now program) (state (now standing) (now kind) (self .next)) × Within (now program) (facts .reactor) (state (now standing) (now kind) (self .next)) ⌝ }
         requires here { ⌜ (first ≡ B.commandsAt (now program) (facts .reactor)) × (first + 8 * (facts .declared + facts .running) ≤ length (now program)) × (length (now program) ≤ 65535) ⌝ }
-        ensures { λ t. ⌜ Ran (now (program .entry)) (facts .reactor) (facts .running) (state (now (standing .entry)) (now (kind .entry)) (self .next)) (state (now (standing .exit)) (now (kind .exit)) (t .next)) (t .refused) ⌝ }
+        ensures ran { λ t. ⌜ Ran (now (program .entry)) (facts .reactor) (facts .running) (state (now (standing .entry)) (now (kind .entry)) (self .next)) (state (now (standing .exit)) (now (kind .exit)) (t .next)) (t .refused) ⌝ }
+        ensures counted { λ t. ⌜ (t .refused ≡ false → t .results ≡ L.results (now (program .entry)) (facts .reactor) (facts .running)) ⌝ }
     {
         let mut s = self;
         let mut left = facts.running;
@@ -105,6 +107,7 @@ impl Progress {
         }
         Progress {
             next: s.next,
+            results: s.results,
             refused: false,
         }
     }
@@ -123,19 +126,26 @@ pub(crate) fn scan(
     requires facts { ⌜ FactsOf (now program) facts ⌝ }
     requires zeros { ⌜ (now standing ≡ replicate 174 0) × (now kind ≡ replicate 174 0) ⌝ }
     requires here { ⌜ (first ≡ B.commandsAt (now program) (facts .reactor)) × (first + 8 * (facts .declared + facts .running) ≤ length (now program)) × (length (now program) ≤ 65535) ⌝ }
-    ensures { λ t. ⌜ Ran (now (program .entry)) (facts .reactor) (B.commandsIn (now (program .entry)) (facts .reactor)) (S.beginOf (now (program .entry)) (facts .reactor)) (state (now (standing .exit)) (now (kind .exit)) (t .next)) (t .refused) ⌝ }
+    ensures ran { λ t. ⌜ Ran (now (program .entry)) (facts .reactor) (B.commandsIn (now (program .entry)) (facts .reactor)) (S.beginOf (now (program .entry)) (facts .reactor)) (state (now (standing .exit)) (now (kind .exit)) (t .next)) (t .refused) ⌝ }
+    ensures counted { λ t. ⌜ (t .refused ≡ false → t .results ≡ L.results (now (program .entry)) (facts .reactor) (facts .running)) ⌝ }
 {
     with_sources(program, facts, standing, kind);
     with_sinks(program, facts, standing, kind);
     let s = Progress {
         next: 0,
+        results: 0,
         refused: false,
     };
     let d = s.run_declared(program, facts, standing, kind, first);
     if d.refused {
         return d;
     }
-    d.run_running(program, facts, standing, kind, first)
+    let r = Progress {
+        next: d.next,
+        results: 0,
+        refused: false,
+    };
+    r.run_running(program, facts, standing, kind, first)
 }
 
 // Whether the 16 locations from `at` on are settled. The loop has no way out, so that it can go many

@@ -19,11 +19,12 @@ use crate::standing::seen;
 use crate::standing::stand;
 use program::Command;
 use program::byte;
+use program::result_of;
 use program::shape_of;
 ghost use mathlib.Core.Path.{_≡_};
 ghost use mathlib.Core.Bool.{true, false};
 ghost use mathlib.Core.List.{List};
-ghost use Prim.Native.Nat.{ℕ, _≤_, _<_};
+ghost use Prim.Native.Nat.{ℕ, _+_, _≤_, _<_};
 ghost use Rattle.value.specs.Test.{_<?_, pick};
 ghost use Rattle.program.specs.Command as C;
 ghost use Rattle.load.specs.Legal.{LegalTables, Shaped};
@@ -235,6 +236,7 @@ impl Progress {
         if m.standing == 0 {
             return Progress {
                 next: self.next,
+                results: self.results,
                 refused: true,
             };
         }
@@ -242,6 +244,7 @@ impl Progress {
         stand(standing, kind, here, m.standing, m.kind);
         Progress {
             next: self.next + 1,
+            results: self.results,
             refused: false,
         }
     }
@@ -258,18 +261,21 @@ impl Progress {
         requires facts { ⌜ FactsOf (now program) facts ⌝ }
         requires tables { ⌜ LegalTables (now program) ⌝ }
         requires shaped { ⌜ Shaped (now program) (state (now standing) (now kind) 0) ⌝ }
-        requires here { ⌜ (facts .declared ≤ self .next) × (self .next < 255) ⌝ }
-        ensures { λ t. ⌜ Stepped (now (program .entry)) (facts .reactor) (state (now (standing .entry)) (now (kind .entry)) (self .next)) (state (now (standing .exit)) (now (kind .exit)) (t .next)) c (t .refused) ⌝ }
+        requires here { ⌜ (facts .declared ≤ self .next) × (self .next < 255) × (self .results ≤ self .next) ⌝ }
+        ensures step { λ t. ⌜ Stepped (now (program .entry)) (facts .reactor) (state (now (standing .entry)) (now (kind .entry)) (self .next)) (state (now (standing .exit)) (now (kind .exit)) (t .next)) c (t .refused) ⌝ }
+        ensures counted { λ t. ⌜ (t .refused ≡ false → t .results ≡ self .results + pick (C.takesWords (C.decode c)) 1 0) ⌝ }
     {
         let here = facts.sources as usize + self.next as usize;
         if !running(program, facts, standing, kind, here, c) {
             return Progress {
                 next: self.next,
+                results: self.results,
                 refused: true,
             };
         }
         Progress {
             next: self.next + 1,
+            results: self.results + result_of(c.code),
             refused: false,
         }
     }

@@ -11,24 +11,27 @@ use crate::tables::header_fault;
 use crate::tables::header_passes;
 use crate::tables::table_fault;
 use crate::tables::tables_pass;
+use program::Counts;
 use program::Header;
 use program::bytes_at;
 use program::entry_at;
+use program::fact;
 use program::main_of;
 use program::reactors;
-use program::size_of;
 use program::tables_end;
 use program::whole_length;
 ghost use mathlib.Core.Path.{_≡_};
-ghost use lib.ListN.{length};
+ghost use lib.ListN.{length, replicate};
 ghost use Prim.Native.Nat.{_≤_, _<_};
 ghost use Rattle.value.specs.Test.{_and_, _≤?_};
 ghost use Rattle.program.specs.Bytes as B;
 ghost use Rattle.program.specs.Command as C;
+ghost use Rattle.program.specs.Counts as K;
 ghost use Rattle.load.specs.Check.{accepted, checkOf, checked, numberOf, placeOf, reactorsOf};
 ghost use Rattle.load.specs.Legal.{LegalTables};
 ghost use Rattle.load.specs.Refusal.{atCommand};
 ghost use Rattle.load.specs.Scan as S;
+ghost use Rattle.load.specs.declared.Ruling.the-variants.{Fine};
 
 // The refusal of the command at byte `at`, by its number.
 fn at_command(number: u8, at: usize) -> Refusal
@@ -56,12 +59,15 @@ fn refusal(program: &[u8], r: u8, at: u32, s: Scan) -> Refusal
 }
 
 // The reactors, one after the other.
-fn judge_reactors(program: &[u8]) -> Ruling
+fn judge_reactors(program: &[u8], facts: &mut [u64; 64]) -> Ruling
     requires tables { ⌜ LegalTables (now program) ⌝ }
-    requires whole { ⌜ (0 < B.reactors (now program)) × (length (now program) ≡ B.wholeLength (now program)) × (length (now program) ≤ 65535) ⌝ }
-    ensures { λ v.
+    requires few { ⌜ (0 < B.reactors (now program)) × (B.reactors (now program) ≤ 64) ⌝ }
+    requires zeros { ⌜ now facts ≡ replicate 64 0 ⌝ }
+    requires whole { ⌜ (length (now program) ≡ B.wholeLength (now program)) × (length (now program) ≤ 65535) ⌝ }
+    ensures verdict { λ v.
         let p = now (program .entry) in
         ⌜ checked p v ≡ reactorsOf (accepted p) (B.reactors p) p 0 ⌝ }
+    ensures facts { λ v. ⌜ (v ≡ Fine → K.Facts (now (program .entry)) (now (facts .exit))) ⌝ }
 {
     let count = reactors(program);
     let mut first = tables_end(program) as u32;
@@ -82,6 +88,8 @@ fn judge_reactors(program: &[u8]) -> Ruling
         if !complete(&standing, f.first_sink() + f.sinks as usize) {
             return Ruling::Refused(Refusal::Missing(entry_at(program, r as u32)));
         }
+        let k = Counts::new(first, f.sources, f.declared, f.running, t.results, f.sinks);
+        facts[r as usize] = k.word;
         first = first + 8 * (f.declared as u32 + f.running as u32);
         r = r + 1;
     }
@@ -95,9 +103,11 @@ fn length_legal(n: usize) -> bool
     (8 <= n) & (n <= Header::MOST_BYTES)
 }
 
-// Whether a program is accepted, or why not. A turn asks no more than that.
-pub fn judge(program: &[u8]) -> Ruling
-    ensures { λ v. ⌜ checked (now (program .entry)) v ≡ checkOf (now (program .entry)) ⌝ }
+// Whether a program is accepted, or why not. Of an accepted one the facts are noted in a table of zeros.
+pub fn judge(program: &[u8], facts: &mut [u64; 64]) -> Ruling
+    requires { ⌜ now facts ≡ replicate 64 0 ⌝ }
+    ensures verdict { λ v. ⌜ checked (now (program .entry)) v ≡ checkOf (now (program .entry)) ⌝ }
+    ensures facts { λ v. ⌜ (v ≡ Fine → K.Facts (now (program .entry)) (now (facts .exit))) ⌝ }
 {
     let n = program.len();
     if !length_legal(n) {
@@ -116,7 +126,7 @@ pub fn judge(program: &[u8]) -> Ruling
     if n != whole_length(program) as usize {
         return Ruling::Refused(Refusal::ProgramLength(n));
     }
-    judge_reactors(program)
+    judge_reactors(program, facts)
 }
 
 // Accepted with the size of main, or refused with the number and the place that the papers give.
@@ -125,8 +135,9 @@ pub fn check(program: &[u8]) -> Checked
     ensures { λ c. ⌜ numberOf c ≡ numberOf (checkOf (now (program .entry))) ⌝ }
     ensures { λ c. ⌜ placeOf c ≡ placeOf (checkOf (now (program .entry))) ⌝ }
 {
-    match judge(program) {
-        Ruling::Fine => Checked::Accepted(size_of(program, main_of(program) as u32) as usize),
+    let mut facts = [0u64; 64];
+    match judge(program, &mut facts) {
+        Ruling::Fine => Checked::Accepted(fact(&facts, main_of(program) as u32).size() as usize),
         Ruling::Refused(w) => Checked::Refused(w),
     }
 }

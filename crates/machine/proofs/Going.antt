@@ -11,7 +11,7 @@ use Rattle.value.specs.Test.{pick}
 use Rattle.value.proofs.Tests.{below}
 use Rattle.program.specs.Bytes.{reactors, declared, running, commandsAt, commandsIn, commandAt}
 use Rattle.program.specs.Command.{cmdOf, bytesAt, bytesOf, decode, takesWords}
-use Rattle.program.proofs.Slots.{slot-command, slot-fits}
+use Rattle.program.proofs.Slots.{results-few, slot-command, slot-fits}
 use Rattle.program.specs.Location.{sources, commandLoc, slotAt, results}
 use Rattle.load.specs.declared.Refusal.{Refusal}
 use Rattle.image.specs.Memory.{reactor, withWired, slot}
@@ -28,16 +28,6 @@ use Rattle.machine.proofs.Opening.{left-at, starts, legal as entered-le
 use Rattle.machine.proofs.Placing.{reaches}
 use Rattle.machine.proofs.Running.{ends}
 use Rattle.machine.proofs.Stepping.{place-own, placed-next, same-here, fits-here, on-given, on-move, on-fail, on-call, after-call, stops-call}
-
--- each of the first j R commands has a result or none
-results-few : (p : List ℕ) (r j : ℕ) → results p r j ≤ j
-unfolding results pick
-results-few p r zero = omega arith
-results-few p r (suc j) = let f = results-few p r j in by (takesWords (cmdOf p r (declared p r + j))) f
-  where
-    by : (t : Bool) → results p r j ≤ j → results p r j + pick t 1 0 ≤ suc j
-    by true f = omega arith
-    by false f = omega arith
 
 -- where R begins
 pub lay-at : (p : List ℕ) (r at d : ℕ) → at ≡ commandsAt p r → d ≡ declared p r → at + 8 * d ≡ commandAt p r

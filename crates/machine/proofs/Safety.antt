@@ -1,7 +1,7 @@
 -- A sound image of an accepted program is safe for the turn's code, whatever the readings.
 -- Assumes nothing.
 use Prim.Native.Nat.{ℕ, _≤_}
-use mathlib.Core.Path.{_≡_, _∙_, subst, ap}
+use mathlib.Core.Path.{_≡_, _∙_, subst, sym, ap}
 use mathlib.Core.List.{List}
 use native.Mathlib.Omega.{arith}
 use lib.ListN.{length}
@@ -10,9 +10,8 @@ use Rattle.program.specs.Counts.{Facts}
 use Rattle.program.specs.Location.{sources}
 use Rattle.program.specs.Kind.{kindOf}
 use Rattle.program.proofs.Places.{commands-within}
-use Rattle.load.specs.Check.{numberOf, checkOf}
+use Rattle.load.specs.Check.{accepted, numberOf, checkOf}
 use Rattle.load.specs.Rules.{Rules}
-use Rattle.load.specs.declared.Checked.the-variants.{Accepted}
 use Rattle.load.specs.declared.Refusal.{Refusal}
 use Rattle.load.proofs.Exact.{exact}
 use Rattle.load.proofs.Exact.Deduced.{all-static}
@@ -97,10 +96,10 @@ loads p rules t f =
       main = omega (arith, rules .tables .header .some-reactor);
     }
 
-pub sure : (p : List ℕ) (size : ℕ) → checkOf p ≡ Accepted size → Sure p
-sure p size e =
-    let rules = exact p .0 (ap numberOf e) in
+pub sure : (p t : List ℕ) → accepted p ≡ checkOf p → Facts p t → Sure p t
+sure p t e f =
+    let rules = exact p .0 (ap numberOf (sym e)) in
     record {
-      loaded = loads p rules;
+      loaded = loads p rules t f;
       safe = λ m rd few h. safe p rules m rd few (exact-soundness p (rules .tables .header .few-reactors) m few .0 h);
     }

@@ -8,7 +8,6 @@ use Rattle.load.specs.declared.Refusal.{Refusal}
 use Rattle.load.specs.declared.Ruling.{Ruling}
 use Rattle.load.specs.declared.Ruling.the-variants.{Fine, Refused}
 use Rattle.program.specs.Bytes.{mainOf}
-use Rattle.program.specs.Counts.{Facts}
 use Rattle.image.specs.Memory.{mostDepth, mostWords, mainAt, used, turns, reactor}
 use Rattle.image.specs.Passes.{sound, soundOf}
 use Rattle.image.specs.Cut.{Tiling}
@@ -48,7 +47,7 @@ pub record Safe (p rd m : List ℕ) : Type 0 where
   pub stops : (w : Refusal) (m′ : List ℕ) → mainRun p rd m ≡ stopped w m′ → Tiling p m′ (used m) mainAt
   pub undoes : (w : Refusal) (m′ : List ℕ) → mainRun p rd m ≡ stopped w m′ → undoOf p (used m) m′ ≡ m
 
--- of an accepted program: its facts are all that the run goes by, and each sound image is safe, whatever the readings
-pub record Sure (p : List ℕ) : Type 0 where
-  pub loaded : (t : List ℕ) → Facts p t → Loaded p t
+-- of an accepted program and its facts t: they are all that the run goes by, and each sound image is safe, whatever the readings
+pub record Sure (p t : List ℕ) : Type 0 where
+  pub loaded : Loaded p t
   pub safe : (m rd : List ℕ) → length m ≤ mostWords → soundOf p m ≡ sound → Safe p rd m

@@ -14,7 +14,6 @@ use image::words_legal;
 use load::Refusal;
 use load::Ruling;
 use load::judge;
-use program::fill_facts;
 use remus::Turned;
 ghost use mathlib.Core.Path.{_≡_};
 ghost use Prim.Native.Nat.{_*_, _<_, _≤_};
@@ -100,8 +99,14 @@ fn turn_on_sound(
 }
 
 // A turn of an accepted program: 8, 9 and what follows.
-fn turn_accepted(program: &[u8], memory: &mut [u32], readings: &[u32], space: &mut [u32]) -> Turned
-    requires { ⌜ Sure (now program) ⌝ }
+fn turn_accepted(
+    program: &[u8],
+    facts: &[u64; 64],
+    memory: &mut [u32],
+    readings: &[u32],
+    space: &mut [u32],
+) -> Turned
+    requires { ⌜ Sure (now program) (now facts) ⌝ }
     ensures { λ r.
         let p = now (program .entry) in
         let m = now (memory .entry) in
@@ -113,10 +118,8 @@ fn turn_accepted(program: &[u8], memory: &mut [u32], readings: &[u32], space: &m
     if !words_legal(n) {
         return Turned::Refused(Refusal::MemoryLength(n));
     }
-    let mut facts = [0u64; 64];
-    fill_facts(program, &mut facts);
-    match sound_by(program, &facts, memory) {
-        Judged::Sound => turn_on_sound(program, &facts, memory, readings, space),
+    match sound_by(program, facts, memory) {
+        Judged::Sound => turn_on_sound(program, facts, memory, readings, space),
         Judged::Unsound(q) => Turned::Refused(Refusal::UnsoundImage(q)),
     }
 }
@@ -130,8 +133,9 @@ pub fn turn(program: &[u8], memory: &mut [u32], readings: &[u32], sinks: &mut [u
     ensures { λ r. ⌜ T.placeOf r ≡ T.placeOf (T.turnOf (now (program .entry)) (now (memory .entry))
         (now (readings .entry)) (now (sinks .entry)) .answer) ⌝ }
 {
-    match judge(program) {
-        Ruling::Fine => turn_accepted(program, memory, readings, sinks),
+    let mut facts = [0u64; 64];
+    match judge(program, &mut facts) {
+        Ruling::Fine => turn_accepted(program, &facts, memory, readings, sinks),
         Ruling::Refused(w) => Turned::Refused(w),
     }
 }

@@ -47,10 +47,9 @@ upto-next p t n w l holds f t₁ e = record {
         let q : getD t₁ n 0 ≡ w = ap (λ (s : List ℕ). getD s n 0) e ∙ getD-set-same t n w 0 (omega (arith, f .long)) in
         rw s (subst (Tells p n) (sym q) holds)
 
-pub upto-all : (p t : List ℕ) (n k : ℕ) → Upto p t n → ((r : ℕ) → r < reactors p → r < 64 → r < k) → k ≤ reactors p
-    → k ≡ n → Facts p t
-upto-all p t n k f all only e = record {
+pub upto-all : (p t : List ℕ) (n : ℕ) → Upto p t n → n ≡ reactors p → Facts p t
+upto-all p t n f e = record {
   right = f .right;
   legal = λ r d. (let l = f .legal r d in omega arith);
-  known = λ r a b. f .known r (omega (arith, all r a b));
+  known = λ r a b. f .known r (omega arith);
 }

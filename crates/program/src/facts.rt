@@ -1,27 +1,36 @@
 // What is asked of a reactor most often, as one number: where its commands begin, and how many
 // sources, D commands, R commands, R commands with a result and sinks it has.
 //
-// It is asked for again and again while an image is tested and while deployments run. So a call sums
-// it up once for each reactor, into a table that it lends on; a reactor that the table does not have
-// is read from its entry.
+// It is asked for again and again while an image is tested and while deployments run. So the check
+// notes it once for each reactor, in a table that is lent on.
 use crate::Counts;
-use crate::bytes::byte;
-use crate::bytes::reactors;
-use crate::bytes::shapes;
-use crate::entry::tables_end;
-use crate::location::results_from;
-use crate::shape::shape_at;
 ghost use mathlib.Core.Path.{_≡_};
 ghost use mathlib.Core.List.{List};
-ghost use Prim.Native.Nat.{ℕ, _+_, _<_, _≤_};
+ghost use Prim.Native.Nat.{ℕ, _+_, _<_};
 ghost use mathlib.Core.Logic.{_≢_};
-ghost use lib.ListN.{replicate, set};
 ghost use Rattle.value.specs.Test.{_=?_};
 ghost use Rattle.program.specs.Bytes as B;
 ghost use Rattle.program.specs.Location as L;
 ghost use Rattle.program.specs.Counts as K;
 
 impl Counts {
+    // The number that tells this of a reactor, whose commands begin at byte `at`.
+    pub fn new(at: u32, sources: u8, declared: u8, running: u8, results: u8, sinks: u8) -> Counts
+        ensures { λ k.
+            ⌜ ((p : List ℕ) (r : ℕ) → at < 16777216 → at ≡ B.commandsAt p r → sources ≡ L.sources p r
+            → declared ≡ B.declared p r → running ≡ B.running p r → results ≡ L.results p r (B.running p r)
+            → sinks ≡ L.sinks p r → K.Tells p r (k .word)) ⌝ }
+    {
+        Counts {
+            word: (at % 16777216) as u64
+                + 16777216 * (sources as u64)
+                + 4294967296 * (declared as u64)
+                + 1099511627776 * (running as u64)
+                + 281474976710656 * (results as u64)
+                + 72057594037927936 * (sinks as u64),
+        }
+    }
+
     // Whether there is none.
     pub fn none(self) -> bool
         ensures { λ t. ⌜ t ≡ (self .word =? 0) ⌝ }
@@ -116,29 +125,6 @@ impl Counts {
     }
 }
 
-// The number of a reactor whose entry stands at e and whose commands begin at `at`, with the first
-// shape at `first`.
-fn word_of(program: &[u8], first: usize, e: usize, at: u64) -> u64
-    requires { ⌜ first ≡ B.shapeAt (now program) 0 ⌝ }
-    requires { ⌜ first < 5000 ⌝ }
-    requires { ⌜ e < 10000 ⌝ }
-    requires { ⌜ at < 16777216 ⌝ }
-    ensures { λ w.
-        let p = now (program .entry) in
-        ⌜ ((r : ℕ) → e ≡ B.entryAt p r → at ≡ B.commandsAt p r → K.Tells p r w) ⌝ }
-{
-    let s = first + 16 * (byte(program, e) as usize);
-    let declared = byte(program, e + 1);
-    let running = byte(program, e + 2);
-    let results = results_from(program, at + 8 * (declared as u64), running);
-    at
-        + 16777216 * (byte(program, s) as u64)
-        + 4294967296 * (declared as u64)
-        + 1099511627776 * (running as u64)
-        + 281474976710656 * (results as u64)
-        + 72057594037927936 * (byte(program, s + 1) as u64)
-}
-
 // What a table has of reactor r: 0 past the end.
 pub fn fact(facts: &[u64; 64], r: u32) -> Counts
     ensures right { λ k. ⌜ ((p : List ℕ) → K.Facts p (now (facts .entry)) → k .word ≢ 0 → K.Tells p r (k .word)) ⌝ }
@@ -152,44 +138,5 @@ pub fn fact(facts: &[u64; 64], r: u32) -> Counts
         Counts { word: facts[i] }
     } else {
         Counts { word: 0 }
-    }
-}
-
-// Number r becomes w.
-fn put_fact(facts: &mut [u64; 64], r: u8, w: u64)
-    requires { ⌜ r < 64 ⌝ }
-    ensures { λ _. ⌜ now (facts .exit) ≡ set (now (facts .entry)) r w ⌝ }
-{
-    facts[r as usize] = w;
-}
-
-// How many reactors a table takes in.
-fn counted(program: &[u8]) -> u8
-    ensures all { λ n. ⌜ ((r : ℕ) → r < B.reactors (now (program .entry)) → r < 64 → r < n) ⌝ }
-    ensures only { λ n. ⌜ n ≤ B.reactors (now (program .entry)) ⌝ }
-    ensures few { λ n. ⌜ n < 65 ⌝ }
-{
-    let n = reactors(program);
-    if n < 64 { n } else { 64 }
-}
-
-// Fills in a table of zeros.
-pub fn fill_facts(program: &[u8], facts: &mut [u64; 64])
-    requires { ⌜ now facts ≡ replicate 64 0 ⌝ }
-    ensures { λ _. ⌜ K.Facts (now (program .entry)) (now (facts .exit)) ⌝ }
-{
-    let n = counted(program);
-    let first = shape_at(program, 0) as usize;
-    let mut e = shape_at(program, shapes(program)) as usize;
-    let mut at = tables_end(program) as u64;
-    let mut r: u8 = 0;
-    while r < n {
-        let k = Counts {
-            word: word_of(program, first, e, at),
-        };
-        put_fact(facts, r, k.word);
-        at = at + 8 * (k.declared() as u64 + k.running() as u64);
-        e += 4;
-        r += 1;
     }
 }

@@ -54,7 +54,7 @@ pub fn result_of(code: u8) -> u8
 }
 
 // How many of the n R commands from byte `at` on have a result.
-pub fn results_from(program: &[u8], at: u64, n: u8) -> u8
+fn results_from(program: &[u8], at: u64, n: u8) -> u8
     requires { ⌜ at < 30000000000000 ⌝ }
     ensures is { λ m.
         let p = now (program .entry) in

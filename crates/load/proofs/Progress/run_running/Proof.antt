@@ -1,11 +1,13 @@
-use Prim.Native.Nat.{_+_, _≤_}
-use Rattle.load.proofs.Turns.{Running, run-done, run-refused, run-start, run-taken}
+use Prim.Native.Nat.{_+_, _-_, _≤_}
+use Rattle.load.proofs.Turns.{Running, none-yet, one-more, run-done, run-refused, run-start, run-taken}
 use Rattle.load.specs.Lent.{state}
 use Rattle.load.specs.Scan.{kindAt, standingAt}
+use Rattle.program.proofs.Slots.{results-few}
 use Rattle.program.specs.Bytes.{commandsIn, declared, running}
+use Rattle.program.specs.Location.{results}
 use denote.Ref.{now}
 use mathlib.Core.Bool.{false≢true, true≢false}
-use mathlib.Core.Path.{_∙_, sym}
+use mathlib.Core.Path.{_≡_, _∙_, ap, sym}
 use native.Mathlib.Omega.{arith}
 use Rattle.load.proofs.Progress.run_running.Statement.{statement}
 use Rattle.load.proofs.Progress.run_running.Tie as tie
@@ -14,6 +16,7 @@ abbrev Inv-loop : tie.InvT-loop
 Inv-loop program facts standing₀ kind₀ first s₀ left₀ standing kind s left =
     Running program (facts .reactor) (facts .running) (state standing₀ kind₀ (s₀ .next))
     (state standing kind (s .next)) left
+    × (s .results ≡ results program (facts .reactor) (facts .running - left))
 
 abbrev μ-loop : tie.MeasureT-loop
 μ-loop program facts standing₀ kind₀ first s₀ left₀ standing kind s left = left
@@ -21,7 +24,8 @@ abbrev μ-loop : tie.MeasureT-loop
 loop-holds : tie.Need-loop-holds Inv-loop μ-loop
 loop-holds c =
     let args = c .before .args in
-    run-start (now (args .program)) (args .facts .reactor) _ _ (c .before .pre .1 .1 .0 .1) (c .before .pre .1 .1 .0 .2)
+    let start = c .before .pre .1 .1 .0 in
+    (run-start (now (args .program)) (args .facts .reactor) _ _ (start .2) (start .3), start .1 ∙ none-yet (now (args .program)) (args .facts .reactor) (args .facts .running))
 
 add-at : tie.Need-add-at Inv-loop μ-loop
 add-at c =
@@ -32,7 +36,7 @@ bytes-within-requires : tie.Need-bytes-within-requires Inv-loop μ-loop
 bytes-within-requires c κs =
     let at-loop = c .before .before .loop in
     let pre = c .before .before .before .before .pre in
-    omega (arith, at-loop .inv .count, pre .1 .1 .0 .0, pre .1 .1 .1 .1)
+    omega (arith, at-loop .inv .0 .count, pre .1 .1 .0 .0, pre .1 .1 .1 .1)
 
 take-running-requires : tie.Need-take-running-requires Inv-loop μ-loop
 unfolding standingAt kindAt commandsIn
@@ -48,16 +52,17 @@ take-running-requires c κs =
       (
         pre .0,
         (
-          at-loop .inv .shaped,
+          at-loop .inv .0 .shaped,
           (
             omega (
               arith,
-              at-loop .inv .count,
-              at-loop .inv .few,
+              at-loop .inv .0 .count,
+              at-loop .inv .0 .few,
               pre .1 .1 .0
                   .0,
             ),
-            omega (arith, at-loop .inv .count, pre .1 .1 .0 .0, most, few .its-declared, few .its-running),
+            omega (arith, at-loop .inv .0 .count, pre .1 .1 .0 .0, most, few .its-declared, few .its-running),
+            omega (arith, at-loop .inv .1, at-loop .inv .0 .count, at-loop .inv .0 .few, pre .1 .1 .0 .0, results-few p (args .facts .reactor) (args .facts .running - at-loop .left)),
           ),
         ),
       ),
@@ -68,16 +73,18 @@ returns c =
     let at-bytes-within = c .before .before .before .before .bytes-within in
     let at-loop = c .before .before .before .before .before .before .before .loop in
     let args = c .before .before .before .before .before .before .before .before .before .args in
-    let pre = c .before .before .before .before .before .before .before .before .before .pre in
-    record {
-      stopped = λ e. run-refused (now (args .program)) (args .facts .reactor) (args .facts .running)
-          (state (now (args .standing)) (now (args .kind)) (args .self .next))
-          (state (at-loop .standing) (at-loop .kind) (at-loop .s .next)) (at-loop .left) (at-loop .inv) (omega arith)
-          (args .first) (pre .1 .1 .1 .0)
-          (at-bytes-within .result) (at-bytes-within .ensures) _ (c .before .take-running .result .refused)
-          (c .before .take-running .ensures) e;
-      passed = λ e. absurd (true≢false (sym (c .if1 .taken) ∙ e));
-    }
+    let pre = c .before .before .before .before .before .before .before .before .before .pre in (
+      record {
+        stopped = λ e. run-refused (now (args .program)) (args .facts .reactor) (args .facts .running)
+            (state (now (args .standing)) (now (args .kind)) (args .self .next))
+            (state (at-loop .standing) (at-loop .kind) (at-loop .s .next)) (at-loop .left) (at-loop .inv .0) (omega arith)
+            (args .first) (pre .1 .1 .1 .0)
+            (at-bytes-within .result) (at-bytes-within .ensures) _ (c .before .take-running .result .refused)
+            (c .before .take-running .ensures .0) e;
+        passed = λ e. absurd (true≢false (sym (c .if1 .taken) ∙ e));
+      },
+      λ e. absurd (true≢false (sym (c .if1 .taken) ∙ e)),
+    )
 
 loop-again : tie.Need-loop-again Inv-loop μ-loop
 unfolding commandsIn
@@ -87,22 +94,33 @@ loop-again c =
     let args = c .before .before .before .before .before .before .before .before .before .args in
     let pre = c .before .before .before .before .before .before .before .before .before .pre in
     let few = pre .1 .0 in
-    run-taken (now (args .program)) (args .facts .reactor) (args .facts .running)
+    let p = now (args .program) in
+    let more = one-more p (args .facts .reactor) (args .facts .running)
     (state (now (args .standing)) (now (args .kind)) (args .self .next))
-    (state (at-loop .standing) (at-loop .kind) (at-loop .s .next)) (at-loop .left) (at-loop .inv) (omega arith)
-    (args .first) (pre .1 .1 .1 .0)
-    (at-bytes-within .result) (at-bytes-within .ensures) _ (c .before .take-running .result .refused)
-    (c .before .take-running .ensures)
-    (pre .0) (omega (arith, at-loop .inv .count, pre .1 .1 .0 .0, few .its-declared, few .its-running)) (c .if1 .left)
+    (state (at-loop .standing) (at-loop .kind) (at-loop .s .next)) (at-loop .left) (at-loop .inv .0) (omega arith)
+    (args .first) (pre .1 .1 .1 .0) (at-bytes-within .result) (at-bytes-within .ensures) _ _ (c .before .take-running .ensures .0)
+    (pre .1 .1 .0 .0 ∙ few .its-declared) _ _ (at-loop .inv .1) (c .before .take-running .ensures .1 (c .if1 .left)) in (
+      run-taken (now (args .program)) (args .facts .reactor) (args .facts .running)
+          (state (now (args .standing)) (now (args .kind)) (args .self .next))
+          (state (at-loop .standing) (at-loop .kind) (at-loop .s .next)) (at-loop .left) (at-loop .inv .0) (omega arith)
+          (args .first) (pre .1 .1 .1 .0)
+          (at-bytes-within .result) (at-bytes-within .ensures) _ (c .before .take-running .result .refused)
+          (c .before .take-running .ensures .0)
+          (pre .0) (omega (arith, at-loop .inv .0 .count, pre .1 .1 .0 .0, few .its-declared, few .its-running)) (c .if1 .left),
+      more,
+    )
 
 returns-2 : tie.Need-returns-2 Inv-loop μ-loop
 returns-2 c =
     let args = c .before .before .before .args in
-    record {
-      stopped = λ e. absurd (false≢true e);
-      passed = λ e. run-done (now (args .program)) (args .facts .reactor) _ _ _ (c .before .loop .left)
-          (c .before .loop .inv) (omega arith);
-    }
+    let all : args .facts .running - c .before .loop .left ≡ args .facts .running = omega arith in (
+      record {
+        stopped = λ e. absurd (false≢true e);
+        passed = λ e. run-done (now (args .program)) (args .facts .reactor) _ _ _ (c .before .loop .left)
+            (c .before .loop .inv .0) (omega arith);
+      },
+      λ e. c .before .loop .inv .1 ∙ ap (results _ _) all,
+    )
 
 pub run-running-spec : {M : Type 1} → statement M
 run-running-spec =

@@ -9,6 +9,7 @@ use Rattle.program.specs.Bytes.{commandsIn}
 use Rattle.program.specs.Location.{sinks, sources}
 use denote.Ref.{now}
 use lib.ListN.{replicate}
+use mathlib.Core.Bool.{true≢false}
 use mathlib.Core.Path.{_∙_, _≡_, ap, refl, subst, sym}
 use native.Mathlib.Omega.{arith}
 use Rattle.load.proofs.reactor.scan.Statement.{statement}
@@ -64,7 +65,7 @@ returns c =
     (at-with-sources .ensures ∙ ap (withSources (sources p r) p r) zeros) in
     let en : commandsIn p r ≡ args .facts .declared + args .facts .running = omega
     (arith, facts .its-declared, facts .its-running) in
-    ran-from p r begin (ran-stopped p r _ en (c .if1 .taken) (c .before .run-declared .ensures))
+    (ran-from p r begin (ran-stopped p r _ en (c .if1 .taken) (c .before .run-declared .ensures)), λ e. absurd (true≢false (sym (c .if1 .taken) ∙ e)))
 
 run-running-requires : tie.Need-run-running-requires
 run-running-requires c κs =
@@ -73,7 +74,7 @@ run-running-requires c κs =
     let pre = c .before .before .before .before .before .before .before .before .before .before .before .before .before
     .pre in
     let first = at-run-declared .ensures .passed (at-if1 .left) in
-    (pre .0, (pre .1 .0, ((omega (arith, first .count), first .shaped, first .within), pre .1 .1 .1)))
+    (pre .0, (pre .1 .0, ((omega (arith, first .count), refl, first .shaped, first .within), pre .1 .1 .1)))
 
 returns-2 : tie.Need-returns-2
 unfolding beginOf commandsIn
@@ -96,7 +97,7 @@ returns-2 c =
     (at-with-sources .ensures ∙ ap (withSources (sources p r) p r) zeros) in
     let en : commandsIn p r ≡ args .facts .declared + args .facts .running = omega
     (arith, facts .its-declared, facts .its-running) in
-    ran-from p r begin (ran-both p r _ en (at-run-declared .ensures .passed (at-if1 .left)) (c .run-running .ensures))
+    (ran-from p r begin (ran-both p r _ en (at-run-declared .ensures .passed (at-if1 .left)) (c .run-running .ensures .0)), c .run-running .ensures .1)
 
 pub scan-spec : {M : Type 1} → statement M
 scan-spec =

@@ -1,12 +1,13 @@
 use Prim.Native.Nat.{_+_, _-_, _≤_, ℕ}
-use Rattle.load.proofs.Turns.{reactor-missing, reactor-refused, reactor-taken, reactors-done}
+use Rattle.load.proofs.Turns.{not-fine, reactor-missing, reactor-refused, reactor-taken, reactors-done}
 use Rattle.load.specs.Check.{accepted, checked, reactorsOf}
 use Rattle.load.specs.Scan.{standingAt}
 use Rattle.load.specs.declared.Checked.the-variants.{Refused}
 use Rattle.load.specs.declared.Refusal.the-variants.{Missing}
+use Rattle.program.proofs.Known.{Upto, upto-all, upto-next, upto-none}
 use Rattle.program.proofs.Places.{commands-first, commands-next, commands-within, tables-within}
 use Rattle.program.specs.Bytes.{commandAt, commandsAt, commandsIn, declared, reactors, running}
-use Rattle.program.specs.Location.{locations, sinkLoc}
+use Rattle.program.specs.Location.{locations, results, sinkLoc, sinks, sources}
 use Rattle.value.proofs.Tests.{passed, refused}
 use borrow.Author.Needs.{needs}
 use denote.Ref.{now}
@@ -16,13 +17,13 @@ use Rattle.load.proofs.verdict.judge_reactors.Statement.{statement}
 use Rattle.load.proofs.verdict.judge_reactors.Tie as tie
 
 abbrev Inv-loop : tie.InvT-loop
-Inv-loop program count first₀ r₀ first r =
+Inv-loop program facts₀ count first₀ r₀ facts first r =
     (reactorsOf (accepted program) (reactors program) program 0 ≡ reactorsOf
     (accepted program) (reactors program - r) program r)
-    × (r ≤ reactors program) × (first ≡ commandsAt program r)
+    × (r ≤ reactors program) × (first ≡ commandsAt program r) × Upto program facts r
 
 abbrev μ-loop : tie.MeasureT-loop
-μ-loop program count first₀ r₀ first r = reactors program - r
+μ-loop program facts₀ count first₀ r₀ facts first r = reactors program - r
 
 loop-holds : tie.Need-loop-holds Inv-loop μ-loop
 loop-holds c =
@@ -32,6 +33,7 @@ loop-holds c =
       omega arith,
       c .tables-end
           .ensures ∙ sym (commands-first p),
+      upto-none p _ (c .before .before .before .pre .1 .1 .0),
     )
 
 facts-of-requires : tie.Need-facts-of-requires Inv-loop μ-loop
@@ -40,7 +42,7 @@ facts-of-requires c κs =
     let args = c .before .before .before .before .before .args in
     let pre = c .before .before .before .before .before .pre in
     let p = now (args .program) in
-    (pre .0, ((omega (arith, c .loop-test .taken, at-reactors .ensures)), omega (arith, pre .1 .1, tables-within p)))
+    (pre .0, ((omega (arith, c .loop-test .taken, at-reactors .ensures)), omega (arith, pre .1 .1 .1 .0, tables-within p)))
 
 scan-requires : tie.Need-scan-requires Inv-loop μ-loop
 unfolding commandsIn
@@ -67,12 +69,12 @@ scan-requires c κs =
               arith,
               at-loop .inv .2,
               within,
-              pre .1 .1,
+              pre .1 .1 .1 .0,
               facts .its-declared ∙ ap (declared p) number,
               facts
                   .its-running ∙ ap (running p) number,
             ),
-            pre .1 .2,
+            pre .1 .1 .1 .1,
           ),
         ),
       ),
@@ -91,8 +93,8 @@ add-refusal c =
       at-loop .inv .2,
       commands-within p (at-loop .r)
           (omega (arith, at-loop-test .taken, at-reactors .ensures)),
-      pre .1 .1,
-      pre .1 .2,
+      pre .1 .1 .1 .0,
+      pre .1 .1 .1 .1,
     )
 
 returns : tie.Need-returns Inv-loop μ-loop
@@ -106,11 +108,13 @@ returns c =
     let at-reactors = c .before .before .before .before .before .before .before .before .before .before .reactors in
     let args = c .before .before .before .before .before .before .before .before .before .before .before .before .args
     in
-    let p = now (args .program) in
-    ap Refused (c .refusal .ensures)
-    ∙ reactor-refused _ p (at-loop .r) _ (omega (arith, at-loop-test .taken, at-reactors .ensures))
-    (at-facts-of .ensures .0) (at-scan .ensures) (at-if1 .taken) _ (omega (arith, at-loop .inv .2))
-    ∙ sym (at-loop .inv .0)
+    let p = now (args .program) in (
+      ap Refused (c .refusal .ensures)
+          ∙ reactor-refused _ p (at-loop .r) _ (omega (arith, at-loop-test .taken, at-reactors .ensures))
+          (at-facts-of .ensures .0) (at-scan .ensures .0) (at-if1 .taken) _ (omega (arith, at-loop .inv .2))
+          ∙ sym (at-loop .inv .0),
+      not-fine,
+    )
 
 add-complete : tie.Need-add-complete Inv-loop μ-loop
 add-complete c = omega (arith, c .before .first-sink .ensures .1)
@@ -132,7 +136,7 @@ complete-requires c κs =
       facts .its-sinks,
     ) in (
       omega (arith, c .before .first-sink .ensures .1),
-      λ l h. c .before .before .before .before .scan .ensures .passed
+      λ l h. c .before .before .before .before .scan .ensures .0 .passed
           (c .before .before .before .if1 .left) .within l (omega (arith, end)),
     )
 
@@ -151,24 +155,33 @@ returns-2 c =
     .before .before .reactors in
     let args = c .before .before .before .before .before .before .before .before .before .before .before .before
     .before .before .before .before .args in
-    let p = now (args .program) in
-    ap (λ (e : ℕ). Refused (Missing e)) (c .entry-at .ensures .0)
-    ∙ reactor-missing _ p (at-loop .r) _ (omega (arith, at-loop-test .taken, at-reactors .ensures))
-    (at-facts-of .ensures .0) (at-scan .ensures) (at-if1 .left)
-    (refused (at-complete .ensures _ _) (c .before .if2 .taken))
-    ∙ sym (at-loop .inv .0)
+    let p = now (args .program) in (
+      ap (λ (e : ℕ). Refused (Missing e)) (c .entry-at .ensures .0)
+          ∙ reactor-missing _ p (at-loop .r) _ (omega (arith, at-loop-test .taken, at-reactors .ensures))
+          (at-facts-of .ensures .0) (at-scan .ensures .0) (at-if1 .left)
+          (refused (at-complete .ensures _ _) (c .before .if2 .taken))
+          ∙ sym (at-loop .inv .0),
+      not-fine,
+    )
+
+element-write-facts : tie.Need-element-write-facts Inv-loop μ-loop
+element-write-facts c =
+    let at-loop-test = c .before .before .before .before .before .before .before .before .before .before .before .loop-test in
+    let at-reactors = c .before .before .before .before .before .before .before .before .before .before .before .before .before .before .reactors in
+    let pre = c .before .before .before .before .before .before .before .before .before .before .before .before .before .before .before .before .pre in
+    omega (arith, at-loop-test .taken, at-reactors .ensures, pre .1 .0 .1)
 
 add-first-2 : tie.Need-add-first-2 Inv-loop μ-loop
 add-first-2 c =
-    let at-loop-test = c .before .before .before .before .before .before .before .before .before .before .before
+    let at-loop-test = c .before .before .before .before .before .before .before .before .before .before .before .before
     .before .loop-test in
-    let at-loop = c .before .before .before .before .before .before .before .before .before .before .before .before
+    let at-loop = c .before .before .before .before .before .before .before .before .before .before .before .before .before
     .before .loop in
-    let at-reactors = c .before .before .before .before .before .before .before .before .before .before .before .before
+    let at-reactors = c .before .before .before .before .before .before .before .before .before .before .before .before .before
     .before .before .before .reactors in
-    let args = c .before .before .before .before .before .before .before .before .before .before .before .before
+    let args = c .before .before .before .before .before .before .before .before .before .before .before .before .before
     .before .before .before .before .before .args in
-    let pre = c .before .before .before .before .before .before .before .before .before .before .before .before .before
+    let pre = c .before .before .before .before .before .before .before .before .before .before .before .before .before .before
     .before .before .before .before .pre in
     let p = now (args .program) in
     omega (
@@ -176,49 +189,57 @@ add-first-2 c =
       at-loop .inv .2,
       commands-within p (at-loop .r)
           (omega (arith, at-loop-test .taken, at-reactors .ensures)),
-      pre .1 .1,
-      pre .1 .2,
+      pre .1 .1 .1 .0,
+      pre .1 .1 .1 .1,
     )
 
 add-r : tie.Need-add-r Inv-loop μ-loop
 add-r c =
-    let at-loop-test = c .before .before .before .before .before .before .before .before .before .before .before
+    let at-loop-test = c .before .before .before .before .before .before .before .before .before .before .before .before
     .before .loop-test in
-    let at-reactors = c .before .before .before .before .before .before .before .before .before .before .before .before
+    let at-reactors = c .before .before .before .before .before .before .before .before .before .before .before .before .before
     .before .before .before .reactors in
     omega (arith, at-loop-test .taken, at-reactors .ensures)
 
 loop-less : tie.Need-loop-less Inv-loop μ-loop
 loop-less c =
-    let at-loop-test = c .before .before .before .before .before .before .before .before .before .before .before
+    let at-loop-test = c .before .before .before .before .before .before .before .before .before .before .before .before
     .before .loop-test in
-    let at-reactors = c .before .before .before .before .before .before .before .before .before .before .before .before
+    let at-reactors = c .before .before .before .before .before .before .before .before .before .before .before .before .before
     .before .before .before .reactors in
     omega (arith, at-loop-test .taken, at-reactors .ensures)
 
 loop-again : tie.Need-loop-again Inv-loop μ-loop
 unfolding commandsIn
 loop-again c =
-    let at-if2 = c .before .before .if2 in
-    let at-complete = c .before .before .before .complete in
-    let at-if1 = c .before .before .before .before .before .before .before .if1 in
-    let at-scan = c .before .before .before .before .before .before .before .before .scan in
-    let at-facts-of = c .before .before .before .before .before .before .before .before .before .before .before
+    let at-if2 = c .before .before .before .if2 in
+    let at-complete = c .before .before .before .before .complete in
+    let at-if1 = c .before .before .before .before .before .before .before .before .if1 in
+    let at-scan = c .before .before .before .before .before .before .before .before .before .scan in
+    let at-facts-of = c .before .before .before .before .before .before .before .before .before .before .before .before
     .facts-of in
-    let at-loop-test = c .before .before .before .before .before .before .before .before .before .before .before
+    let at-loop-test = c .before .before .before .before .before .before .before .before .before .before .before .before
     .before .loop-test in
-    let at-loop = c .before .before .before .before .before .before .before .before .before .before .before .before
+    let at-loop = c .before .before .before .before .before .before .before .before .before .before .before .before .before
     .before .loop in
-    let at-reactors = c .before .before .before .before .before .before .before .before .before .before .before .before
+    let at-reactors = c .before .before .before .before .before .before .before .before .before .before .before .before .before
     .before .before .before .reactors in
-    let args = c .before .before .before .before .before .before .before .before .before .before .before .before
+    let args = c .before .before .before .before .before .before .before .before .before .before .before .before .before
     .before .before .before .before .before .args in
+    let pre = c .before .before .before .before .before .before .before .before .before .before .before .before .before .before .before .before .before .before .pre in
     let p = now (args .program) in
     let r = at-loop .r in
     let number = at-facts-of .ensures .0 in
-    let facts = at-facts-of .ensures .1 in (
+    let facts = at-facts-of .ensures .1 in
+    let few = pre .1 .0 in
+    let in-R = facts .its-running ∙ ap (running p) number in
+    let low = commands-within p r (omega (arith, at-loop-test .taken, at-reactors .ensures)) in
+    let told = c .before .before .new .ensures p r (omega (arith, at-loop .inv .2, low, pre .1 .1 .1 .0, pre .1 .1 .1 .1))
+    (at-loop .inv .2) (facts .its-sources ∙ ap (sources p) number) (facts .its-declared ∙ ap (declared p) number) in-R
+    (at-scan .ensures .1 (at-if1 .left) ∙ ap (λ (q : ℕ). results p q (at-facts-of .result .running)) number ∙ ap (results p r) in-R)
+    (facts .its-sinks ∙ ap (sinks p) number) in (
       at-loop .inv .0
-          ∙ reactor-taken _ p r _ (omega (arith, at-loop-test .taken, at-reactors .ensures)) number (at-scan .ensures)
+          ∙ reactor-taken _ p r _ (omega (arith, at-loop-test .taken, at-reactors .ensures)) number (at-scan .ensures .0)
           (at-if1 .left) (passed (at-complete .ensures _ _) (at-if2 .left))
           ∙ ap (λ (m : ℕ). reactorsOf (accepted p) m p (r + 1))
           (omega (arith, at-loop-test .taken, at-reactors .ensures)),
@@ -231,11 +252,17 @@ loop-again c =
         facts
             .its-running ∙ ap (running p) number,
       ),
+      upto-next p _ r _ (omega (arith, at-loop-test .taken, at-reactors .ensures, few .1)) told (at-loop .inv .3) _ refl,
     )
 
 returns-3 : tie.Need-returns-3 Inv-loop μ-loop
 unfolding checked
-returns-3 c = reactors-done _ _ _ _ (omega arith) ∙ sym (c .before .loop .inv .0)
+returns-3 c =
+    let at-loop = c .before .loop in
+    let at-reactors = c .before .before .before .reactors in
+    let p = now (c .before .before .before .before .before .args .program) in
+    let all : at-loop .r ≡ reactors p = omega (arith, at-reactors .ensures, at-loop .inv .1) in
+    (reactors-done _ _ _ _ (omega arith) ∙ sym (at-loop .inv .0), λ e. upto-all _ _ _ (at-loop .inv .3) all)
 
 pub judge-reactors-spec : {M : Type 1} → statement M
 judge-reactors-spec =
@@ -244,6 +271,7 @@ judge-reactors-spec =
     Inv-loop μ-loop (λ c κs. search needs) (λ c κs. search needs) (λ c. omega arith) loop-holds
     facts-of-requires scan-requires (λ c. omega arith) (λ c. omega arith) add-refusal
     (λ c κs. search needs) returns (λ c κs. search needs) (λ c. omega arith) add-complete
-    complete-requires (λ c. omega arith) (λ c κs. search needs) returns-2 (λ c. omega arith)
+    complete-requires (λ c. omega arith) (λ c κs. search needs) returns-2 (λ c κs. search needs) (λ c. omega arith)
+    (λ c. omega arith) element-write-facts (λ c. omega arith)
     (λ c. omega arith) (λ c. omega arith) (λ c. omega arith) add-first-2 add-r loop-less loop-again
     returns-3)

@@ -6,7 +6,7 @@ use Rattle.remus.specs.Turn.{Turn, numberOf, placeOf, byCheck, refused, turnOf}
 use Rattle.remus.specs.declared.Turned.{Turned}
 use borrow.Author.Needs.{needs}
 use mathlib.Core.List.{List}
-use mathlib.Core.Path.{_≡_, ap, sym}
+use mathlib.Core.Path.{_≡_, ap, refl, sym}
 use Rattle.machine.proofs.calls.turn.Statement.{statement}
 use Rattle.machine.proofs.calls.turn.Tie as tie
 
@@ -19,28 +19,28 @@ answered r m sk e = (e, (ap (λ (x : Turn). numberOf (x .answer)) e, ap (λ (x :
 turn-accepted-requires : tie.Need-turn-accepted-requires
 unfolding checked
 turn-accepted-requires c κs =
-    let at-judge = c .before .before .before .before .judge in
-    let e = sym (rw (c .before .before .enum-told .given .1) at (at-judge .ensures)) in
-    sure _ _ e
+    let at-judge = c .before .before .before .before .before .judge in
+    let fine = c .before .before .before .enum-told .given .1 in
+    sure _ _ (rw fine at (at-judge .ensures .0)) (at-judge .ensures .1 fine)
 
 returns : tie.Need-returns
 unfolding turnOf checked
 returns c =
     let at-turn-accepted = c .before .before .before .before .turn-accepted in
-    let at-enum-told = c .before .before .before .before .before .before .before .enum-told in
-    let at-judge = c .before .before .before .before .before .before .before .before .before .judge in
-    let e = sym (rw (at-enum-told .given .1) at (at-judge .ensures)) in
+    let at-enum-told = c .before .before .before .before .before .before .before .before .enum-told in
+    let at-judge = c .before .before .before .before .before .before .before .before .before .before .judge in
+    let e = sym (rw (at-enum-told .given .1) at (at-judge .ensures .0)) in
     answered _ _ _ (rw e (at-turn-accepted .ensures))
 
 returns-2 : tie.Need-returns-2
 unfolding turnOf byCheck refused turned checked
 returns-2 c =
-    let e = sym (rw (c .before .w .given .1) at (c .before .before .before .judge .ensures)) in
+    let e = sym (rw (c .before .w .given .1) at (c .before .before .before .judge .ensures .0)) in
     answered _ _ _ (rw e)
 
 pub turn-spec : {M : Type 1} → statement M
 turn-spec =
     tie.close
     (tie.spec
-    (λ c κs. search needs) (λ c. search needs) turn-accepted-requires (λ c. search needs) (λ c. search needs) (λ c. search needs)
+    (λ c κs. refl) (λ c. search needs) turn-accepted-requires (λ c. search needs) (λ c. search needs) (λ c. search needs)
     returns returns-2)

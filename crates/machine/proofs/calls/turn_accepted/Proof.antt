@@ -11,33 +11,27 @@ returns : tie.Need-returns
 unfolding byCheck refused turned
 returns c = stops _ (no-pass (c .before .words-legal .ensures) (c .if1 .taken)) refl
 
-fill-facts-requires : tie.Need-fill-facts-requires
-fill-facts-requires c κs = refl
+sound-by-requires : tie.Need-sound-by-requires
+sound-by-requires c κs = c .before .before .before .before .before .before .before .pre .loaded .facts
 
 turn-on-sound-requires : tie.Need-turn-on-sound-requires
 turn-on-sound-requires c κs =
-    let at-enum-told = c .before .before .before .enum-told in
-    let at-sound-by = c .before .before .before .before .before .sound-by in
-    let at-fill-facts = c .before .before .before .before .before .before .before .before .fill-facts in
-    let at-if1 = c .before .before .before .before .before .before .before .before .before .before .if1 in
-    let at-words-legal = c .before .before .before .before .before .before .before .before .before .before .before
-    .words-legal in
-    let pre = c .before .before .before .before .before .before .before .before .before .before .before .before .before
-    .before .before .before .pre in
-    let e = sym (rw (at-enum-told .given .1) at (at-sound-by .ensures)) in
+    let at-sound-by = c .before .before .before .before .sound-by in
+    let at-if1 = c .before .before .before .before .before .before .if1 in
+    let at-words-legal = c .before .before .before .before .before .before .before .words-legal in
+    let pre = c .before .before .before .before .before .before .before .before .before .before .before .before .pre in
+    let e = sym (rw (c .before .before .enum-told .given .1) at (at-sound-by .ensures)) in
     let few = words-legal _ .0 (passed (at-words-legal .ensures) (at-if1 .left)) .1 in
-    (pre .loaded _ (at-fill-facts .ensures), pre .safe _ _ few e)
+    (pre .loaded, pre .safe _ _ few e)
 
 returns-2 : tie.Need-returns-2
 unfolding byCheck bySound
 returns-2 c =
     let at-turn-on-sound = c .before .before .before .before .turn-on-sound in
-    let at-enum-told = c .before .before .before .before .before .before .before .before .enum-told in
-    let at-sound-by = c .before .before .before .before .before .before .before .before .before .before .sound-by in
-    let at-if1 = c .before .before .before .before .before .before .before .before .before .before .before .before
-    .before .before .before .if1 in
-    let at-words-legal = c .before .before .before .before .before .before .before .before .before .before .before
-    .before .before .before .before .before .words-legal in
+    let at-enum-told = c .before .before .before .before .before .before .before .enum-told in
+    let at-sound-by = c .before .before .before .before .before .before .before .before .before .sound-by in
+    let at-if1 = c .before .before .before .before .before .before .before .before .before .before .before .if1 in
+    let at-words-legal = c .before .before .before .before .before .before .before .before .before .before .before .before .words-legal in
     let e = sym (rw (at-enum-told .given .1) at (at-sound-by .ensures)) in
     goes _ _ (passed (at-words-legal .ensures) (at-if1 .left)) (rw e (at-turn-on-sound .ensures))
 
@@ -45,8 +39,8 @@ returns-3 : tie.Need-returns-3
 unfolding byCheck bySound refused turned
 returns-3 c =
     let at-sound-by = c .before .before .before .sound-by in
-    let at-if1 = c .before .before .before .before .before .before .before .before .if1 in
-    let at-words-legal = c .before .before .before .before .before .before .before .before .before .words-legal in
+    let at-if1 = c .before .before .before .before .before .if1 in
+    let at-words-legal = c .before .before .before .before .before .before .words-legal in
     let e = sym (rw (c .before .q .given .1) at (at-sound-by .ensures)) in
     goes _ _ (passed (at-words-legal .ensures) (at-if1 .left)) (rw e)
 
@@ -54,5 +48,5 @@ pub turn-accepted-spec : {M : Type 1} → statement M
 turn-accepted-spec =
     tie.close
     (tie.spec
-    (λ c κs. search needs) returns fill-facts-requires (λ c κs. search needs) (λ c. search needs) turn-on-sound-requires
-    (λ c. search needs) (λ c. search needs) (λ c. search needs) returns-2 (λ c. search needs) returns-3)
+    (λ c κs. search needs) returns sound-by-requires (λ c. search needs) turn-on-sound-requires (λ c. search needs)
+    (λ c. search needs) (λ c. search needs) returns-2 (λ c. search needs) returns-3)
