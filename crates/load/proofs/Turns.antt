@@ -94,8 +94,8 @@ module _ (p : List ℕ) (r : ℕ) where
     run-refused e = let q = step .stays e in subst (λ (v : Scan). Stopped p r n s₀ v) (sym (q .1)) (stopped-here (q .0))
 
     -- R commands with a result, one command more
-    pub one-more : s₀ .next ≡ declared p r → (m k : ℕ) → m ≡ results p r (n - left) → k ≡ m + pick (takesWords (decode c)) 1 0
-        → k ≡ results p r (n - (left - 1))
+    pub one-more : s₀ .next ≡ declared p r → (m k : ℕ) → m ≡ results p r (n - left)
+        → k ≡ m + pick (takesWords (decode c)) 1 0 → k ≡ results p r (n - (left - 1))
     unfolding results cmdOf
     one-more from m k so then =
         let i : s .next ≡ declared p r + (n - left) = omega (arith, run .count, run .few) in

@@ -89,10 +89,18 @@ impl Progress {
     ) -> Progress
         requires tables { ⌜ LegalTables (now program) ⌝ }
         requires facts { ⌜ FactsOf (now program) facts ⌝ }
-        requires start { ⌜ (self .next ≡ facts .declared) × (self .results ≡ 0) × Shaped (now program) (state (now standing) (now kind) (self .next)) × Within (now program) (facts .reactor) (state (now standing) (now kind) (self .next)) ⌝ }
+        requires start { let p = now program in
+            let s = state (now standing) (now kind) (self .next) in
+            ⌜ (self .next ≡ facts .declared) × (self .results ≡ 0) × Shaped p s × Within p (facts .reactor) s ⌝ }
         requires here { ⌜ (first ≡ B.commandsAt (now program) (facts .reactor)) × (first + 8 * (facts .declared + facts .running) ≤ length (now program)) × (length (now program) ≤ 65535) ⌝ }
-        ensures ran { λ t. ⌜ Ran (now (program .entry)) (facts .reactor) (facts .running) (state (now (standing .entry)) (now (kind .entry)) (self .next)) (state (now (standing .exit)) (now (kind .exit)) (t .next)) (t .refused) ⌝ }
-        ensures counted { λ t. ⌜ (t .refused ≡ false → t .results ≡ L.results (now (program .entry)) (facts .reactor) (facts .running)) ⌝ }
+        ensures ran { λ t.
+            let p = now (program .entry) in
+            let before = state (now (standing .entry)) (now (kind .entry)) (self .next) in
+            let after = state (now (standing .exit)) (now (kind .exit)) (t .next) in
+            ⌜ Ran p (facts .reactor) (facts .running) before after (t .refused) ⌝ }
+        ensures counted { λ t.
+            let p = now (program .entry) in
+            ⌜ (t .refused ≡ false → t .results ≡ L.results p (facts .reactor) (facts .running)) ⌝ }
     {
         let mut s = self;
         let mut left = facts.running;
@@ -126,8 +134,14 @@ pub(crate) fn scan(
     requires facts { ⌜ FactsOf (now program) facts ⌝ }
     requires zeros { ⌜ (now standing ≡ replicate 174 0) × (now kind ≡ replicate 174 0) ⌝ }
     requires here { ⌜ (first ≡ B.commandsAt (now program) (facts .reactor)) × (first + 8 * (facts .declared + facts .running) ≤ length (now program)) × (length (now program) ≤ 65535) ⌝ }
-    ensures ran { λ t. ⌜ Ran (now (program .entry)) (facts .reactor) (B.commandsIn (now (program .entry)) (facts .reactor)) (S.beginOf (now (program .entry)) (facts .reactor)) (state (now (standing .exit)) (now (kind .exit)) (t .next)) (t .refused) ⌝ }
-    ensures counted { λ t. ⌜ (t .refused ≡ false → t .results ≡ L.results (now (program .entry)) (facts .reactor) (facts .running)) ⌝ }
+    ensures ran { λ t.
+        let p = now (program .entry) in
+        let r = facts .reactor in
+        let after = state (now (standing .exit)) (now (kind .exit)) (t .next) in
+        ⌜ Ran p r (B.commandsIn p r) (S.beginOf p r) after (t .refused) ⌝ }
+    ensures counted { λ t.
+        let p = now (program .entry) in
+        ⌜ (t .refused ≡ false → t .results ≡ L.results p (facts .reactor) (facts .running)) ⌝ }
 {
     with_sources(program, facts, standing, kind);
     with_sinks(program, facts, standing, kind);

@@ -262,8 +262,13 @@ impl Progress {
         requires tables { ⌜ LegalTables (now program) ⌝ }
         requires shaped { ⌜ Shaped (now program) (state (now standing) (now kind) 0) ⌝ }
         requires here { ⌜ (facts .declared ≤ self .next) × (self .next < 255) × (self .results ≤ self .next) ⌝ }
-        ensures step { λ t. ⌜ Stepped (now (program .entry)) (facts .reactor) (state (now (standing .entry)) (now (kind .entry)) (self .next)) (state (now (standing .exit)) (now (kind .exit)) (t .next)) c (t .refused) ⌝ }
-        ensures counted { λ t. ⌜ (t .refused ≡ false → t .results ≡ self .results + pick (C.takesWords (C.decode c)) 1 0) ⌝ }
+        ensures step { λ t.
+            let before = state (now (standing .entry)) (now (kind .entry)) (self .next) in
+            let after = state (now (standing .exit)) (now (kind .exit)) (t .next) in
+            ⌜ Stepped (now (program .entry)) (facts .reactor) before after c (t .refused) ⌝ }
+        ensures counted { λ t.
+            let d = C.decode c in
+            ⌜ (t .refused ≡ false → t .results ≡ self .results + pick (C.takesWords d) 1 0) ⌝ }
     {
         let here = facts.sources as usize + self.next as usize;
         if !running(program, facts, standing, kind, here, c) {

@@ -225,7 +225,9 @@ module _ (p t rd : List ℕ) (h o : ℕ) (m₀ : List ℕ) (first at end : ℕ) 
           let a = slot-fits p r l (slot-command p r i (let b = under in omega arith) w) in
           let b = fits .within in
           omega arith in
-          rw is (reaches p (set s (first + j) n) r o l here (length m) noted-loc (omega arith) (cmdOf p r i) (fits .reads) own)
+          rw is
+          (reaches p (set s (first + j) n) r o l here (length m) noted-loc (omega arith) (cmdOf p r i) (fits .reads)
+          own)
 
       -- before the next one
       next : (m₁ s₁ : List ℕ) (n₁ : ℕ) → Left p rd f h o x r (running p r - (j + 1)) (declared p r + (j + 1)) m₁ →

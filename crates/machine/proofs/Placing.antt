@@ -11,8 +11,9 @@ use lib.Seq.{getD-set-same, getD-set-other}
 use Rattle.value.specs.Test.{pick}
 use Rattle.value.proofs.Tests.{below}
 use Rattle.program.specs.Bytes.{byte, declared, running, commandAt}
-use Rattle.program.specs.Command.{Cmd, takesWords, decode, bytesAt, bytesOf, cmdOf, allocMono, makePoly, constant, global, supply}
-use Rattle.program.specs.Command.{react, consume, sink, allocPoly, primitive, cell, fetch, keep, none}
+use Rattle.program.specs.Command.{Cmd, takesWords, decode, bytesAt, bytesOf, cmdOf}
+use Rattle.program.specs.Command.{allocMono, makePoly, constant, global, supply, react, consume, sink, allocPoly}
+use Rattle.program.specs.Command.{primitive, cell, fetch, keep, none}
 use Rattle.program.specs.Location.{slotAt, results}
 use Rattle.program.specs.declared.Command.{Command}
 use Rattle.program.proofs.Slots.{firstR, slot-R, slot-up}
@@ -54,8 +55,8 @@ pub reads-at : (p m t : List ℕ) (o r l k : ℕ) → reactor m o ≡ r → Plac
 reads-at p m t o r l k e f h = subst (λ (x : ℕ). Placed p x t k) (sym e) (f k (omega arith))
 
 -- and none lies past the words at `here`, which are the command's own
-pub reaches : (p t : List ℕ) (r o l here n : ℕ) → PlacedTo p r t (l + 1) → here ≡ o + slotAt p r l → (c : Cmd) → ReadsUpTo l c
-    → (takesWords c ≡ true → here + 1 < n) → Reaches t o here n c
+pub reaches : (p t : List ℕ) (r o l here n : ℕ) → PlacedTo p r t (l + 1) → here ≡ o + slotAt p r l → (c : Cmd)
+    → ReadsUpTo l c → (takesWords c ≡ true → here + 1 < n) → Reaches t o here n c
 unfolding takesWords
 reaches p t r o l here n placed e = by
   where

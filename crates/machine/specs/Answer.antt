@@ -47,7 +47,8 @@ pub record Safe (p rd m : List ℕ) : Type 0 where
   pub stops : (w : Refusal) (m′ : List ℕ) → mainRun p rd m ≡ stopped w m′ → Tiling p m′ (used m) mainAt
   pub undoes : (w : Refusal) (m′ : List ℕ) → mainRun p rd m ≡ stopped w m′ → undoOf p (used m) m′ ≡ m
 
--- of an accepted program and its facts t: they are all that the run goes by, and each sound image is safe, whatever the readings
+-- of an accepted program and its facts t: they are all that the run goes by, and each sound image is safe, whatever
+-- the readings
 pub record Sure (p t : List ℕ) : Type 0 where
   pub loaded : Loaded p t
   pub safe : (m rd : List ℕ) → length m ≤ mostWords → soundOf p m ≡ sound → Safe p rd m

@@ -21,8 +21,8 @@ PlacedTo p r t n = (l : ℕ) → l < n → Placed p r t l
 abbrev pub UpTo : List ℕ → ℕ → ℕ → ℕ → Type 0
 UpTo t o here l = o + 3 + 2 * getD t l 0 ≤ here
 
--- A command that has a result finds its words without a test: its own, at `here`, are among the n of the memory, and no operand's lie
--- past them.
+-- A command that has a result finds its words without a test: its own, at `here`, are among the n of the memory, and no
+-- operand's lie past them.
 abbrev pub Reaches : List ℕ → ℕ → ℕ → ℕ → Cmd → Type 0
 Reaches t o here n (allocMono x) = Unit {0}
 Reaches t o here n (makePoly x) = Unit {0}

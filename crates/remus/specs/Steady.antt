@@ -1,7 +1,7 @@
 -- What code that carries out a turn may go by while a deployment runs, so that it tests none of this and has no way for
--- what cannot come: the deployment begins within words 2 to u−1, its words are all there, and it keeps its reactor, one
--- of the program's, from its first command to its last; its D commands come first, then its R commands; no command reads
--- past its own location; an allocation is of one of the program's reactors; a Supply comes to a source that its
+-- what cannot come: the deployment begins within words 2 to u−1, its words are all there, and it keeps its reactor,
+-- one of the program's, from its first command to its last; its D commands come first, then its R commands; no command
+-- reads past its own location; an allocation is of one of the program's reactors; a Supply comes to a source that its
 -- deployment has, and a Consume's deployment has one of the program's reactors; no run is deeper than 64. It holds in
 -- each turn of an accepted program on a sound image: `steady` in proofs/Steady.antt.
 use Prim.Native.Nat.{ℕ, zero, suc, _+_, _-_, _≤_, _<_}

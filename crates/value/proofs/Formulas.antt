@@ -1,5 +1,5 @@
--- The formulas of specs/Formula.antt are what primitives 7 and 11 mean, and stay in 32 bits; primitive 12 by the same formula. Assumes
--- nothing.
+-- The formulas of specs/Formula.antt are what primitives 7 and 11 mean, and stay in 32 bits; and primitive 12 by the
+-- formula of 11. Assumes nothing.
 use Prim.Native.Nat.{ℕ, _*_}
 use native.Mathlib.Omega.{arith}
 use mathlib.Core.Path.{_≡_, refl}

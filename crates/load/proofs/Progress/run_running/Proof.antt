@@ -24,8 +24,11 @@ abbrev μ-loop : tie.MeasureT-loop
 loop-holds : tie.Need-loop-holds Inv-loop μ-loop
 loop-holds c =
     let args = c .before .args in
-    let start = c .before .pre .1 .1 .0 in
-    (run-start (now (args .program)) (args .facts .reactor) _ _ (start .2) (start .3), start .1 ∙ none-yet (now (args .program)) (args .facts .reactor) (args .facts .running))
+    let start = c .before .pre .1 .1 .0 in (
+      run-start (now (args .program)) (args .facts .reactor) _ _ (start .2) (start .3),
+      start .1 ∙ none-yet (now (args
+          .program)) (args .facts .reactor) (args .facts .running),
+    )
 
 add-at : tie.Need-add-at Inv-loop μ-loop
 add-at c =
@@ -62,7 +65,15 @@ take-running-requires c κs =
                   .0,
             ),
             omega (arith, at-loop .inv .0 .count, pre .1 .1 .0 .0, most, few .its-declared, few .its-running),
-            omega (arith, at-loop .inv .1, at-loop .inv .0 .count, at-loop .inv .0 .few, pre .1 .1 .0 .0, results-few p (args .facts .reactor) (args .facts .running - at-loop .left)),
+            omega (
+              arith,
+              at-loop .inv .1,
+              at-loop .inv .0 .count,
+              at-loop .inv .0 .few,
+              pre .1 .1 .0 .0,
+              results-few
+                  p (args .facts .reactor) (args .facts .running - at-loop .left),
+            ),
           ),
         ),
       ),
@@ -77,7 +88,8 @@ returns c =
       record {
         stopped = λ e. run-refused (now (args .program)) (args .facts .reactor) (args .facts .running)
             (state (now (args .standing)) (now (args .kind)) (args .self .next))
-            (state (at-loop .standing) (at-loop .kind) (at-loop .s .next)) (at-loop .left) (at-loop .inv .0) (omega arith)
+            (state (at-loop .standing) (at-loop .kind) (at-loop .s .next)) (at-loop .left) (at-loop .inv .0) (omega
+            arith)
             (args .first) (pre .1 .1 .1 .0)
             (at-bytes-within .result) (at-bytes-within .ensures) _ (c .before .take-running .result .refused)
             (c .before .take-running .ensures .0) e;
@@ -98,15 +110,18 @@ loop-again c =
     let more = one-more p (args .facts .reactor) (args .facts .running)
     (state (now (args .standing)) (now (args .kind)) (args .self .next))
     (state (at-loop .standing) (at-loop .kind) (at-loop .s .next)) (at-loop .left) (at-loop .inv .0) (omega arith)
-    (args .first) (pre .1 .1 .1 .0) (at-bytes-within .result) (at-bytes-within .ensures) _ _ (c .before .take-running .ensures .0)
-    (pre .1 .1 .0 .0 ∙ few .its-declared) _ _ (at-loop .inv .1) (c .before .take-running .ensures .1 (c .if1 .left)) in (
+    (args .first) (pre .1 .1 .1 .0) (at-bytes-within .result) (at-bytes-within .ensures) _ _ (c .before .take-running
+    .ensures .0)
+    (pre .1 .1 .0 .0 ∙ few .its-declared) _ _ (at-loop .inv .1) (c .before .take-running .ensures .1 (c .if1 .left))
+    in (
       run-taken (now (args .program)) (args .facts .reactor) (args .facts .running)
           (state (now (args .standing)) (now (args .kind)) (args .self .next))
           (state (at-loop .standing) (at-loop .kind) (at-loop .s .next)) (at-loop .left) (at-loop .inv .0) (omega arith)
           (args .first) (pre .1 .1 .1 .0)
           (at-bytes-within .result) (at-bytes-within .ensures) _ (c .before .take-running .result .refused)
           (c .before .take-running .ensures .0)
-          (pre .0) (omega (arith, at-loop .inv .0 .count, pre .1 .1 .0 .0, few .its-declared, few .its-running)) (c .if1 .left),
+          (pre .0) (omega (arith, at-loop .inv .0 .count, pre .1 .1 .0 .0, few .its-declared, few .its-running)) (c
+          .if1 .left),
       more,
     )
 

@@ -64,8 +64,11 @@ returns c =
     let begin = at-with-sinks .ensures ∙ ap (withSinks (sinks p r) p r)
     (at-with-sources .ensures ∙ ap (withSources (sources p r) p r) zeros) in
     let en : commandsIn p r ≡ args .facts .declared + args .facts .running = omega
-    (arith, facts .its-declared, facts .its-running) in
-    (ran-from p r begin (ran-stopped p r _ en (c .if1 .taken) (c .before .run-declared .ensures)), λ e. absurd (true≢false (sym (c .if1 .taken) ∙ e)))
+    (arith, facts .its-declared, facts .its-running) in (
+      ran-from p r begin (ran-stopped p r _ en (c .if1 .taken) (c .before .run-declared .ensures)),
+      λ e. absurd
+          (true≢false (sym (c .if1 .taken) ∙ e)),
+    )
 
 run-running-requires : tie.Need-run-running-requires
 run-running-requires c κs =
@@ -96,8 +99,11 @@ returns-2 c =
     let begin = at-with-sinks .ensures ∙ ap (withSinks (sinks p r) p r)
     (at-with-sources .ensures ∙ ap (withSources (sources p r) p r) zeros) in
     let en : commandsIn p r ≡ args .facts .declared + args .facts .running = omega
-    (arith, facts .its-declared, facts .its-running) in
-    (ran-from p r begin (ran-both p r _ en (at-run-declared .ensures .passed (at-if1 .left)) (c .run-running .ensures .0)), c .run-running .ensures .1)
+    (arith, facts .its-declared, facts .its-running) in (
+      ran-from p r begin (ran-both p r _ en (at-run-declared .ensures .passed (at-if1 .left)) (c .run-running .ensures
+          .0)),
+      c .run-running .ensures .1,
+    )
 
 pub scan-spec : {M : Type 1} → statement M
 scan-spec =

@@ -82,8 +82,10 @@ judge-reactors-requires c κs =
     let at-if2 = c .before .before .before .before .before .before .before .if2 in
     let at-header-passes = c .before .before .before .before .before .before .before .before .header-passes in
     let at-if1 = c .before .before .before .before .before .before .before .before .before .if1 in
-    let at-length-legal = c .before .before .before .before .before .before .before .before .before .before .length-legal in
-    let args = c .before .before .before .before .before .before .before .before .before .before .before .before .args in
+    let at-length-legal = c .before .before .before .before .before .before .before .before .before .before
+    .length-legal in
+    let args = c .before .before .before .before .before .before .before .before .before .before .before .before .args
+    in
     let p = now (args .program) in
     let header = eq? (passed (at-header-passes .ensures) (at-if2 .left)) in (
       legal-tables p header (eq? (passed (at-tables-pass .ensures) (at-if4 .left))),

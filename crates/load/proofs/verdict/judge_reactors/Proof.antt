@@ -41,8 +41,18 @@ facts-of-requires c κs =
     let at-reactors = c .before .before .before .reactors in
     let args = c .before .before .before .before .before .args in
     let pre = c .before .before .before .before .before .pre in
-    let p = now (args .program) in
-    (pre .0, ((omega (arith, c .loop-test .taken, at-reactors .ensures)), omega (arith, pre .1 .1 .1 .0, tables-within p)))
+    let p = now (args .program) in (
+      pre .0,
+      (
+        (omega (arith, c .loop-test .taken, at-reactors .ensures)),
+        omega (
+          arith,
+          pre .1 .1 .1 .0,
+          tables-within
+              p,
+        ),
+      ),
+    )
 
 scan-requires : tie.Need-scan-requires Inv-loop μ-loop
 unfolding commandsIn
@@ -166,22 +176,28 @@ returns-2 c =
 
 element-write-facts : tie.Need-element-write-facts Inv-loop μ-loop
 element-write-facts c =
-    let at-loop-test = c .before .before .before .before .before .before .before .before .before .before .before .loop-test in
-    let at-reactors = c .before .before .before .before .before .before .before .before .before .before .before .before .before .before .reactors in
-    let pre = c .before .before .before .before .before .before .before .before .before .before .before .before .before .before .before .before .pre in
+    let at-loop-test = c .before .before .before .before .before .before .before .before .before .before .before
+    .loop-test in
+    let at-reactors = c .before .before .before .before .before .before .before .before .before .before .before
+    .before .before .before .reactors in
+    let pre = c .before .before .before .before .before .before .before .before .before .before .before .before
+    .before .before .before .before .pre in
     omega (arith, at-loop-test .taken, at-reactors .ensures, pre .1 .0 .1)
 
 add-first-2 : tie.Need-add-first-2 Inv-loop μ-loop
 add-first-2 c =
     let at-loop-test = c .before .before .before .before .before .before .before .before .before .before .before .before
     .before .loop-test in
-    let at-loop = c .before .before .before .before .before .before .before .before .before .before .before .before .before
+    let at-loop = c .before .before .before .before .before .before .before .before .before .before .before .before
+    .before
     .before .loop in
-    let at-reactors = c .before .before .before .before .before .before .before .before .before .before .before .before .before
+    let at-reactors = c .before .before .before .before .before .before .before .before .before .before .before
+    .before .before
     .before .before .before .reactors in
     let args = c .before .before .before .before .before .before .before .before .before .before .before .before .before
     .before .before .before .before .before .args in
-    let pre = c .before .before .before .before .before .before .before .before .before .before .before .before .before .before
+    let pre = c .before .before .before .before .before .before .before .before .before .before .before .before
+    .before .before
     .before .before .before .before .pre in
     let p = now (args .program) in
     omega (
@@ -197,7 +213,8 @@ add-r : tie.Need-add-r Inv-loop μ-loop
 add-r c =
     let at-loop-test = c .before .before .before .before .before .before .before .before .before .before .before .before
     .before .loop-test in
-    let at-reactors = c .before .before .before .before .before .before .before .before .before .before .before .before .before
+    let at-reactors = c .before .before .before .before .before .before .before .before .before .before .before
+    .before .before
     .before .before .before .reactors in
     omega (arith, at-loop-test .taken, at-reactors .ensures)
 
@@ -205,7 +222,8 @@ loop-less : tie.Need-loop-less Inv-loop μ-loop
 loop-less c =
     let at-loop-test = c .before .before .before .before .before .before .before .before .before .before .before .before
     .before .loop-test in
-    let at-reactors = c .before .before .before .before .before .before .before .before .before .before .before .before .before
+    let at-reactors = c .before .before .before .before .before .before .before .before .before .before .before
+    .before .before
     .before .before .before .reactors in
     omega (arith, at-loop-test .taken, at-reactors .ensures)
 
@@ -220,13 +238,16 @@ loop-again c =
     .facts-of in
     let at-loop-test = c .before .before .before .before .before .before .before .before .before .before .before .before
     .before .loop-test in
-    let at-loop = c .before .before .before .before .before .before .before .before .before .before .before .before .before
+    let at-loop = c .before .before .before .before .before .before .before .before .before .before .before .before
+    .before
     .before .loop in
-    let at-reactors = c .before .before .before .before .before .before .before .before .before .before .before .before .before
+    let at-reactors = c .before .before .before .before .before .before .before .before .before .before .before
+    .before .before
     .before .before .before .reactors in
     let args = c .before .before .before .before .before .before .before .before .before .before .before .before .before
     .before .before .before .before .before .args in
-    let pre = c .before .before .before .before .before .before .before .before .before .before .before .before .before .before .before .before .before .before .pre in
+    let pre = c .before .before .before .before .before .before .before .before .before .before .before .before
+    .before .before .before .before .before .before .pre in
     let p = now (args .program) in
     let r = at-loop .r in
     let number = at-facts-of .ensures .0 in
@@ -234,12 +255,21 @@ loop-again c =
     let few = pre .1 .0 in
     let in-R = facts .its-running ∙ ap (running p) number in
     let low = commands-within p r (omega (arith, at-loop-test .taken, at-reactors .ensures)) in
-    let told = c .before .before .new .ensures p r (omega (arith, at-loop .inv .2, low, pre .1 .1 .1 .0, pre .1 .1 .1 .1))
+    let told = c .before .before .new .ensures p r (omega (
+      arith,
+      at-loop .inv .2,
+      low,
+      pre .1 .1 .1 .0,
+      pre .1 .1 .1
+          .1,
+    ))
     (at-loop .inv .2) (facts .its-sources ∙ ap (sources p) number) (facts .its-declared ∙ ap (declared p) number) in-R
-    (at-scan .ensures .1 (at-if1 .left) ∙ ap (λ (q : ℕ). results p q (at-facts-of .result .running)) number ∙ ap (results p r) in-R)
+    (at-scan .ensures .1 (at-if1 .left) ∙ ap (λ (q : ℕ). results p q (at-facts-of .result .running)) number ∙ ap
+    (results p r) in-R)
     (facts .its-sinks ∙ ap (sinks p) number) in (
       at-loop .inv .0
-          ∙ reactor-taken _ p r _ (omega (arith, at-loop-test .taken, at-reactors .ensures)) number (at-scan .ensures .0)
+          ∙ reactor-taken _ p r _ (omega (arith, at-loop-test .taken, at-reactors .ensures)) number (at-scan .ensures
+          .0)
           (at-if1 .left) (passed (at-complete .ensures _ _) (at-if2 .left))
           ∙ ap (λ (m : ℕ). reactorsOf (accepted p) m p (r + 1))
           (omega (arith, at-loop-test .taken, at-reactors .ensures)),
@@ -252,7 +282,8 @@ loop-again c =
         facts
             .its-running ∙ ap (running p) number,
       ),
-      upto-next p _ r _ (omega (arith, at-loop-test .taken, at-reactors .ensures, few .1)) told (at-loop .inv .3) _ refl,
+      upto-next p _ r _ (omega (arith, at-loop-test .taken, at-reactors .ensures, few .1)) told (at-loop .inv .3) _
+          refl,
     )
 
 returns-3 : tie.Need-returns-3 Inv-loop μ-loop

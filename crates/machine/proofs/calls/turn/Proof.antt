@@ -42,5 +42,6 @@ pub turn-spec : {M : Type 1} → statement M
 turn-spec =
     tie.close
     (tie.spec
-    (λ c κs. refl) (λ c. search needs) turn-accepted-requires (λ c. search needs) (λ c. search needs) (λ c. search needs)
+    (λ c κs. refl) (λ c. search needs) turn-accepted-requires (λ c. search needs) (λ c. search needs) (λ c. search
+    needs)
     returns returns-2)

@@ -31,7 +31,8 @@ returns-2 c =
     let at-enum-told = c .before .before .before .before .before .before .before .enum-told in
     let at-sound-by = c .before .before .before .before .before .before .before .before .before .sound-by in
     let at-if1 = c .before .before .before .before .before .before .before .before .before .before .before .if1 in
-    let at-words-legal = c .before .before .before .before .before .before .before .before .before .before .before .before .words-legal in
+    let at-words-legal = c .before .before .before .before .before .before .before .before .before .before .before
+    .before .words-legal in
     let e = sym (rw (at-enum-told .given .1) at (at-sound-by .ensures)) in
     goes _ _ (passed (at-words-legal .ensures) (at-if1 .left)) (rw e (at-turn-on-sound .ensures))
 

@@ -33,42 +33,71 @@ global-requires : tie.Need-global-requires
 global-requires c κs =
     let at-bytes-within = c .before .before .before .before .bytes-within in
     let pre = c .before .before .before .before .before .before .before .before .pre in
-    let r = reach _ _ _ _ (as-global (λ (d : Cmd). d) _ (c .before .match .keys2) refl) (at-bytes-within .ensures) (pre .1 .0) in
+    let r = reach _ _ _ _ (as-global (λ (d : Cmd). d) _ (c .before .match .keys2) refl) (at-bytes-within .ensures)
+    (pre .1 .0) in
     (r, pre .1 .1 .clock)
 
 consume-requires : tie.Need-consume-requires
 consume-requires c κs =
     let at-bytes-within = c .before .before .before .before .bytes-within in
     let pre = c .before .before .before .before .before .before .before .before .pre in
-    let r = reach _ _ _ _ (as-consume (λ (d : Cmd). d) _ (c .before .match .keys5) refl) (at-bytes-within .ensures) (pre .1 .0) in
+    let r = reach _ _ _ _ (as-consume (λ (d : Cmd). d) _ (c .before .match .keys5) refl) (at-bytes-within .ensures)
+    (pre .1 .0) in
     (r .0, omega (arith, r .1, c .before .before .place2 .ensures .1 .0))
 
 alloc-poly-requires : tie.Need-alloc-poly-requires
 alloc-poly-requires c κs =
     let at-bytes-within = c .before .before .before .before .bytes-within in
     let pre = c .before .before .before .before .before .before .before .before .pre in
-    let r = reach _ _ _ _ (as-poly (λ (d : Cmd). d) _ (c .before .match .keys7) refl) (at-bytes-within .ensures) (pre .1 .0) in
-    (r .0, ((omega (arith, r .1, c .before .before .before .place .ensures .1 .0), omega (arith, r .2, c .before .before .place2 .ensures .1 .0)), pre .1 .1 .few))
+    let r = reach _ _ _ _ (as-poly (λ (d : Cmd). d) _ (c .before .match .keys7) refl) (at-bytes-within .ensures) (pre
+    .1 .0) in (
+      r .0,
+      (
+        (
+          omega (arith, r .1, c .before .before .before .place .ensures .1 .0),
+          omega (
+            arith,
+            r .2,
+            c .before
+                .before .place2 .ensures .1 .0,
+          ),
+        ),
+        pre .1 .1 .few,
+      ),
+    )
 
 primitive-requires : tie.Need-primitive-requires
 primitive-requires c κs =
     let at-bytes-within = c .before .before .before .before .bytes-within in
     let pre = c .before .before .before .before .before .before .before .before .pre in
-    let r = reach _ _ _ _ (as-primitive (λ (d : Cmd). d) _ (c .before .match .keys8) refl) (at-bytes-within .ensures) (pre .1 .0) in
-    (r .0, (omega (arith, r .1, c .before .before .before .place .ensures .1 .0), omega (arith, r .2, c .before .before .place2 .ensures .1 .0)))
+    let r = reach _ _ _ _ (as-primitive (λ (d : Cmd). d) _ (c .before .match .keys8) refl) (at-bytes-within .ensures)
+    (pre .1 .0) in (
+      r .0,
+      (
+        omega (arith, r .1, c .before .before .before .place .ensures .1 .0),
+        omega (
+          arith,
+          r .2,
+          c .before
+              .before .place2 .ensures .1 .0,
+        ),
+      ),
+    )
 
 fetch-requires : tie.Need-fetch-requires
 fetch-requires c κs =
     let at-bytes-within = c .before .before .before .before .bytes-within in
     let pre = c .before .before .before .before .before .before .before .before .pre in
-    let r = reach _ _ _ _ (as-fetch (λ (d : Cmd). d) _ (c .before .match .keys9) refl) (at-bytes-within .ensures) (pre .1 .0) in
+    let r = reach _ _ _ _ (as-fetch (λ (d : Cmd). d) _ (c .before .match .keys9) refl) (at-bytes-within .ensures) (pre
+    .1 .0) in
     (r .0, omega (arith, r .1, c .before .before .place2 .ensures .1 .0))
 
 keep-requires : tie.Need-keep-requires
 keep-requires c κs =
     let at-bytes-within = c .before .before .before .before .bytes-within in
     let pre = c .before .before .before .before .before .before .before .before .pre in
-    let r = reach _ _ _ _ (as-keep (λ (d : Cmd). d) _ (c .before .match .keys10) refl) (at-bytes-within .ensures) (pre .1 .0) in
+    let r = reach _ _ _ _ (as-keep (λ (d : Cmd). d) _ (c .before .match .keys10) refl) (at-bytes-within .ensures) (pre
+    .1 .0) in
     (r .0, omega (arith, r .1, c .before .before .before .place .ensures .1 .0))
 
 returns : tie.Need-returns

@@ -1,6 +1,7 @@
 use Prim.Native.Nat.{_+_, _-_, _≤_, _<_, ℕ}
 use Rattle.image.specs.Memory.{reactor}
-use Rattle.machine.proofs.Going.{Going, begun, stopped-there, all-inside, counted, fits, found, goes, going-call, going-fail, going-given, going-move}
+use Rattle.machine.proofs.Going.{Going, begun, stopped-there, all-inside, counted, fits, found, goes}
+use Rattle.machine.proofs.Going.{going-call, going-fail, going-given, going-move}
 use Rattle.machine.proofs.Going.{begins-at, here-at, lay-at, nested, not-deep, noted-loc, own, same, short, steady-below, stops, whole}
 use Rattle.machine.proofs.Opening.{legal}
 use Rattle.machine.proofs.Told.{told}
