@@ -14,7 +14,7 @@ use Rattle.remus.specs.Point.{_∈_}
 use Rattle.remus.specs.Claim.{Written}
 
 module _ (p m : List ℕ) where
-  pairs-length : (n x : ℕ) → length (pairsFrom p n x m) ≡ 2 * n
+  pub pairs-length : (n x : ℕ) → length (pairsFrom p n x m) ≡ 2 * n
   unfolding pairsFrom
   pairs-length zero x = refl
   pairs-length (suc n) x = omega (arith, pairs-length n (x + 1))

@@ -1,0 +1,8 @@
+pub mod Copying
+pub mod Holding
+pub mod Pinned
+pub mod Numbers
+pub mod Sizes
+pub mod ManyReadings
+pub mod FirstSinks
+pub mod Facing

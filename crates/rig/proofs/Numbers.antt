@@ -1,0 +1,25 @@
+-- The check's refusals have other numbers than those for lengths of memory and readings.
+-- Assumes nothing.
+use Prim.Native.Nat.{ℕ, _≤_, _<_}
+use mathlib.Core.Path.{_≡_, subst, ap}
+use mathlib.Core.List.{List}
+use mathlib.Core.Logic.{_⊎_, inl, inr, _≢_}
+use native.Mathlib.Omega.{arith}
+use Rattle.load.specs.Check.{checkOf, numberOf}
+use Rattle.load.specs.Refusal.{refusalNumber}
+use Rattle.load.specs.Fault.{CheckNumber}
+use Rattle.load.specs.declared.Refusal.{Refusal}
+use Rattle.load.specs.declared.Checked.the-variants.{Accepted, Refused}
+use Rattle.load.proofs.Exact.Faults.{check-numbers}
+
+-- neither 8 nor 10
+abbrev pub Else : ℕ → Type 0
+Else n = (n ≢ 8) × (n ≢ 10)
+
+else : (n : ℕ) → CheckNumber n → Else n
+else n (inl h) = (λ e. omega arith, λ e. omega arith)
+else n (inr (inl h)) = (λ e. omega (arith, h .0), λ e. omega (arith, h .0))
+else n (inr (inr h)) = (λ e. omega arith, λ e. omega arith)
+
+pub check-else : (p : List ℕ) (w : Refusal) → checkOf p ≡ Refused w → Else (refusalNumber w)
+check-else p w e = subst Else (ap numberOf e) (else (numberOf (checkOf p)) (check-numbers p))

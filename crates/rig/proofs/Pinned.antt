@@ -1,0 +1,63 @@
+-- The laws of specs/Laws.antt.
+-- Assumes nothing.
+use Prim.Native.Nat.{ℕ, suc, _+_, _-_, _*_, _/_, _%_, _<_, _≤_, min}
+use mathlib.Core.Path.{_≡_, refl, sym, ap, _∙_}
+use mathlib.Core.List.{List, [], _∷_, _++_}
+use native.Mathlib.Omega.{arith}
+use lib.ListN.{length, drop, getD, length-append, length-drop}
+use lib.Seq.{getD-append-add, getD-drop}
+use Rattle.value.specs.Test.{pick, _<?_}
+use Rattle.value.proofs.Tests.{cases, yes, no, lt?, lt×?}
+use Rattle.rig.specs.Words.{word, wordsOf, bytesOf, holding, packed, mostPlace}
+use Rattle.rig.specs.Laws.{HeldWords, HeldRest, HeldSame, Unpacked}
+use Rattle.rig.proofs.Copying.{words-length, bytes-length}
+use Rattle.rig.proofs.Holding.{four, hold-more, hold-same}
+
+pub held-same : HeldSame
+held-same = hold-same
+
+-- the word that its own four bytes make
+joined : (x a b c : ℕ) → x < 4294967296 → a ≡ x / 256 → b ≡ a / 256 → c ≡ b / 256
+    → word (x % 256) (a % 256) (b % 256) (c % 256) ≡ x
+joined x a b c h e f g = omega arith
+
+again : (x : ℕ) → x < 4294967296 → word (x % 256) (x / 256 % 256) (x / 65536 % 256) (x / 16777216 % 256) ≡ x
+again x h = joined x (x / 256) (x / 65536) (x / 16777216) h refl (omega arith) (omega arith)
+
+pub held-words : HeldWords
+unfolding wordsOf bytesOf holding
+held-words s [] h l = refl
+held-words [] (x ∷ xs) h l = absurd (omega arith)
+held-words (a ∷ []) (x ∷ xs) h l = absurd (omega arith)
+held-words (a ∷ b ∷ []) (x ∷ xs) h l = absurd (omega arith)
+held-words (a ∷ b ∷ c ∷ []) (x ∷ xs) h l = absurd (omega arith)
+held-words (a ∷ b ∷ c ∷ d ∷ s) (x ∷ xs) h l =
+    ap wordsOf (hold-more x xs a b c d s)
+    ∙ rw (again x (h 0)) (ap (λ (t : List ℕ). x ∷ t) (held-words s xs (λ i. h (suc i)) (omega arith)))
+
+pub held-rest : HeldRest
+unfolding holding
+held-rest s ws l =
+    let n = words-length s in
+    let b = bytes-length ws in (
+      simp (length-append, length-drop) (omega (arith, n .0, b)),
+      λ i g.
+          let e : i ≡ length (bytesOf ws) + (i - 4 * length ws) = omega (arith, b) in
+          let f : i ≡ 4 * length ws + (i - 4 * length ws) = omega arith in
+          ap (λ (j : ℕ). getD (bytesOf ws ++ drop (4 * length ws) s) j 0) e
+          ∙ getD-append-add (bytesOf ws) (drop (4 * length ws) s) (i - 4 * length ws) 0
+          ∙ getD-drop (4 * length ws) s (i - 4 * length ws) 0 ∙ ap (λ (j : ℕ). getD s j 0) (sym f),
+    )
+
+cut : (place : ℕ) → min place mostPlace ≡ pick (place <? mostPlace) place mostPlace
+cut place =
+    cases (place <? mostPlace)
+    (λ e. yes _ e (let h = lt? e in omega (arith, h)))
+    (λ e. no _ e (let h = lt×? e in omega (arith, h)))
+
+pub unpacked : Unpacked
+unfolding packed
+unpacked number place =
+    let c = cut place in
+    let q = pick (place <? mostPlace) place mostPlace in
+    (omega (arith, c), omega (arith, c))

@@ -1,0 +1,26 @@
+use Rattle.rig.proofs.FirstSinks.{first-words}
+use borrow.Author.Needs.{needs}
+use native.Mathlib.Omega.{arith}
+use Rattle.rig.proofs.sinks.sink_in.Statement.{statement}
+use Rattle.rig.proofs.sinks.sink_in.Tie as tie
+
+returns : tie.Need-returns
+returns c =
+    let at-read = c .before .before .before .before .before .before .before .before .before in
+    let at-load = at-read .before .before .before .before .before in
+    let at-slice = at-load .before .before .before in
+    let entry = at-slice .before .before .before .before .before in
+    first-words _ _ _ _ (entry .args .sinks .now) _ _ _ _ (λ i. omega (arith, at-slice .slice-known3 .given i))
+    (entry .pre) (search needs) (at-load .load .ensures) (c .before .before .save .ensures) _ (at-read .turn-read .ensures)
+
+pub sink-in-spec : {M : Type 1} → statement M
+sink-in-spec =
+    tie.close
+    (tie.spec
+    (λ c κs. search needs)
+    (λ c κs. search needs)
+    (λ c κs. search needs)
+    (λ c. search needs)
+    (λ c. search needs)
+    (λ c. search needs)
+    returns)

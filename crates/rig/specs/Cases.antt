@@ -1,0 +1,56 @@
+-- Calls on bytes by computing: the clock on memory and sink space with bytes past the last whole word.
+use Prim.Native.Nat.{ℕ, _+_, _*_}
+use mathlib.Core.Path.{_≡_, refl}
+use mathlib.Core.List.{List, [], _∷_, _++_}
+use lib.ListN.{replicate}
+use Rattle.load.specs.Check.{checkOf}
+use Rattle.load.specs.Programs.{clock}
+use Rattle.remus.specs.Open.{opened as below-opened}
+use Rattle.rig.specs.Words.{wordsOf, bytesOf, holding, packed}
+use Rattle.rig.specs.Face.{checkAnswer, startAnswer, turnAnswer, startBytes, turnBytes}
+
+unfoldable pub opened : ℕ
+unfolding below-opened wordsOf bytesOf holding packed checkAnswer startAnswer turnAnswer startBytes turnBytes
+opened = 0
+
+-- 9 words and two bytes
+abbrev before : List ℕ
+before = replicate 38 238
+
+abbrev started : List ℕ
+started = startBytes clock before .memory
+
+-- two words and a byte
+abbrev space : List ℕ
+space = replicate 9 238
+
+pub check-answers : checkAnswer (checkOf clock) ≡ 7
+unfolding opened
+check-answers = refl
+
+pub start-answers : startAnswer (startBytes clock before) ≡ 9
+unfolding opened
+start-answers = refl
+
+pub start-words : started ≡ (9 ∷ replicate 35 0) ++ (238 ∷ 238 ∷ [])
+unfolding opened
+start-words = refl
+
+-- without the last byte of a word there are 8 words
+pub start-short : startAnswer (startBytes clock (replicate 35 238)) ≡ 14 * 4294967296 + 0
+unfolding opened
+start-short = refl
+
+pub turn-answers : turnAnswer (turnBytes clock started [] space) ≡ 9
+unfolding opened
+turn-answers = refl
+
+-- number 1, low byte first, and the byte past the pair as it was
+pub turn-sinks : turnBytes clock started [] space .sinkSpace ≡ 1 ∷ 0 ∷ 0 ∷ 0 ∷ 1 ∷ 0 ∷ 0 ∷ 0 ∷ 238 ∷ []
+unfolding opened
+turn-sinks = refl
+
+-- a place of more than 32 bits
+pub place-cut : packed 8 4294967296 ≡ 8 * 4294967296 + 4294967295
+unfolding opened
+place-cut = refl

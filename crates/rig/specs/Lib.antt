@@ -1,0 +1,5 @@
+pub mod Words
+pub mod Face
+pub mod Rooms
+pub mod Laws
+pub mod Cases

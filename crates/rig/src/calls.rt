@@ -1,0 +1,63 @@
+// The calls on bytes. One to three bytes past the last whole word of a slice are ignored and kept.
+use crate::Call;
+use crate::pack::pack;
+use crate::rooms::call_sized;
+use crate::sinks::turn_bytes;
+use machine::Turned;
+use machine::check;
+ghost use mathlib.Core.Path.{_≡_};
+ghost use Rattle.machine.specs.Answer.{turned};
+ghost use Rattle.rig.specs.Face.{checkAnswer, startAnswer, turnAnswer, startBytes, turnBytes};
+ghost use Rattle.rig.specs.Rooms.{begun};
+ghost use Rattle.load.specs.Check.{checkOf};
+
+// Start on bytes. It reads no readings and has no sinks.
+fn start_bytes(program: &[u8], memory: &mut [u8]) -> Turned
+    ensures answer { λ r. ⌜ r ≡ begun (startBytes (now (program .entry)) (now (memory .entry)) .answer) ⌝ }
+    ensures memory { λ _. ⌜ now (memory .exit) ≡ startBytes (now (program .entry)) (now (memory .entry)) .memory ⌝ }
+{
+    let readings = [0u32; 1];
+    let mut sinks = [0u32; 1];
+    call_sized(Call::Start, program, memory, &readings, &mut sinks)
+}
+
+// Check.
+#[no_mangle]
+pub extern "C" fn remus_check(program: &[u8]) -> u64
+    ensures { λ r. ⌜ r ≡ checkAnswer (checkOf (now (program .entry))) ⌝ }
+{
+    let c = check(program);
+    pack(c.number(), c.place())
+}
+
+// Start.
+#[no_mangle]
+pub extern "C" fn remus_start(program: &[u8], memory: &mut [u8]) -> u64
+    ensures answer { λ r. ⌜ r ≡ startAnswer (startBytes (now (program .entry)) (now (memory .entry))) ⌝ }
+    ensures memory { λ _. ⌜ now (memory .exit) ≡ startBytes (now (program .entry)) (now (memory .entry)) .memory ⌝ }
+{
+    let t = start_bytes(program, memory);
+    pack(t.number(), t.place())
+}
+
+// A turn.
+#[no_mangle]
+pub extern "C" fn remus_turn(
+    program: &[u8],
+    memory: &mut [u8],
+    readings: &[u8],
+    sinks: &mut [u8],
+) -> u64
+    ensures answer { λ r.
+        let t = turnBytes (now (program .entry)) (now (memory .entry)) (now (readings .entry)) (now (sinks .entry)) in
+        ⌜ r ≡ turnAnswer t ⌝ }
+    ensures memory { λ _.
+        let t = turnBytes (now (program .entry)) (now (memory .entry)) (now (readings .entry)) (now (sinks .entry)) in
+        ⌜ now (memory .exit) ≡ t .memory ⌝ }
+    ensures sinks { λ _.
+        let t = turnBytes (now (program .entry)) (now (memory .entry)) (now (readings .entry)) (now (sinks .entry)) in
+        ⌜ now (sinks .exit) ≡ t .sinkSpace ⌝ }
+{
+    let t = turn_bytes(program, memory, readings, sinks);
+    pack(t.number(), t.place())
+}

@@ -1,0 +1,40 @@
+// The calls on a caller's own words: nothing is copied.
+use crate::pack::pack;
+use machine::start;
+use machine::turn;
+ghost use mathlib.Core.Path.{_≡_};
+ghost use Rattle.image.specs.Start.{startOf};
+ghost use Rattle.remus.specs.Turn.{turnOf};
+ghost use Rattle.rig.specs.Face.{startAnswer, turnAnswer};
+
+// Start.
+#[no_mangle]
+pub extern "C" fn remus_start_words(program: &[u8], memory: &mut [u32]) -> u64
+    ensures answer { λ r. ⌜ r ≡ startAnswer (startOf (now (program .entry)) (now (memory .entry))) ⌝ }
+    ensures memory { λ _. ⌜ now (memory .exit) ≡ startOf (now (program .entry)) (now (memory .entry)) .memory ⌝ }
+{
+    let s = start(program, memory);
+    pack(s.number(), s.place())
+}
+
+// A turn.
+#[no_mangle]
+pub extern "C" fn remus_turn_words(
+    program: &[u8],
+    memory: &mut [u32],
+    readings: &[u32],
+    sinks: &mut [u32],
+) -> u64
+    ensures answer { λ r.
+        let t = turnOf (now (program .entry)) (now (memory .entry)) (now (readings .entry)) (now (sinks .entry)) in
+        ⌜ r ≡ turnAnswer t ⌝ }
+    ensures memory { λ _.
+        let t = turnOf (now (program .entry)) (now (memory .entry)) (now (readings .entry)) (now (sinks .entry)) in
+        ⌜ now (memory .exit) ≡ t .memory ⌝ }
+    ensures sinks { λ _.
+        let t = turnOf (now (program .entry)) (now (memory .entry)) (now (readings .entry)) (now (sinks .entry)) in
+        ⌜ now (sinks .exit) ≡ t .sinkSpace ⌝ }
+{
+    let t = turn(program, memory, readings, sinks);
+    pack(t.number(), t.place())
+}

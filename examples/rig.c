@@ -1,0 +1,196 @@
+/* rig.c: a program on the Remus machine: a check, a start and turns, on bytes and on words, and two refusals.
+ *
+ *     cc -Ibuild examples/rig.c build/libremus.a
+ *
+ * The toggle has two readings. On odd turns its sink is their difference, on even turns their sum: main chooses by the
+ * time which of two reactors runs at its branch point, and each is deployed on the first turn that needs it. */
+#include <inttypes.h>
+#include <remus.h>
+#include <stdio.h>
+#include <string.h>
+
+enum {
+    WORDS = 55,   /* words 0 and 1, 31 of main, and 11 of each reactor that main deploys */
+    SPARE = 3,    /* bytes past the last word, to see that they are kept */
+    UNUSED = 0xEE /* what is in memory before a start, which does not mind */
+};
+
+/* A command is eight bytes: code, x, a, b and four bytes of v. The locations that a and b name count from 0 in each
+ * reactor: sources, D commands, R commands, sinks. */
+static const uint8_t toggle[] = {
+    1, 2, 3, 2, 0, 0, 0, 0,                         /* header: format 1, 2 shapes, 3 reactors, 2 globals */
+    0, 0,                                           /* globals 1 and 2 are numbers */
+    2, 1, 0, 0, 0, 0, 0, 0, 0, 0, 0, 0, 0, 0, 0, 0, /* shape 0: two sources and one sink, numbers */
+    0, 1, 0, 0, 0, 0, 0, 0, 0, 0, 0, 0, 0, 0, 0, 0, /* shape 1: no source and one sink, a number */
+    0, 0, 2, 0,                                     /* reactor 0, plus: shape 0, no D and 2 R commands */
+    0, 0, 2, 0,                                     /* reactor 1, minus: the same */
+    1, 1, 16, 0,                                    /* reactor 2, main: shape 1, 1 D and 16 R commands */
+    /* plus: its sources are locations 0 and 1 */
+    10, 0, 0, 1, 0, 0, 0, 0, /*  2 Primitive 0, add: 0 and 1 */
+    8, 0, 2, 0, 0, 0, 0, 0,  /*  3 Sink 0: location 2 */
+    /* minus */
+    10, 1, 0, 1, 0, 0, 0, 0, /*  2 Primitive 1, subtract: 0 less 1 */
+    8, 0, 2, 0, 0, 0, 0, 0,  /*  3 Sink 0: location 2 */
+    /* main */
+    2, 0, 0, 0, 0, 0, 0, 0,   /*  0 MakePoly: a branch point for reactors of shape 0 */
+    4, 0, 0, 0, 0, 0, 0, 0,   /*  1 Global 0, the time */
+    4, 1, 0, 0, 0, 0, 0, 0,   /*  2 Global 1, the first reading */
+    4, 2, 0, 0, 0, 0, 0, 0,   /*  3 Global 2, the second reading */
+    3, 0, 0, 0, 2, 0, 0, 0,   /*  4 Constant: the number 2 */
+    10, 3, 1, 4, 0, 0, 0, 0,  /*  5 Primitive 3, divide: half the time, cut */
+    10, 2, 5, 4, 0, 0, 0, 0,  /*  6 Primitive 2, times: twice that */
+    10, 6, 6, 1, 0, 0, 0, 0,  /*  7 Primitive 6, equal: whether it is the time, which is even then */
+    3, 2, 0, 0, 0, 0, 0, 0,   /*  8 Constant: reactor 0, plus */
+    3, 2, 0, 0, 1, 0, 0, 0,   /*  9 Constant: reactor 1, minus */
+    10, 11, 7, 8, 9, 0, 0, 0, /* 10 Primitive 11, choose: plus if 7 is true, else minus */
+    9, 0, 10, 0, 0, 0, 0, 0,  /* 11 AllocPoly: the deployment of that reactor at branch point 0 */
+    5, 0, 2, 11, 0, 0, 0, 0,  /* 12 Supply: the first reading to its source 0 */
+    5, 1, 3, 11, 0, 0, 0, 0,  /* 13 Supply: the second reading to its source 1 */
+    6, 0, 0, 11, 0, 0, 0, 0,  /* 14 React: run it */
+    7, 0, 0, 11, 0, 0, 0, 0,  /* 15 Consume: its sink 0 */
+    8, 0, 15, 0, 0, 0, 0, 0,  /* 16 Sink 0: location 15 */
+};
+
+/* What each refusal means, and what its place is. No call gives another number. */
+static const struct {
+    const char *meaning, *place;
+} why[] = {
+    [REMUS_PROGRAM_LENGTH] = {"the program is not as long as its counts call for", "bytes"},
+    [REMUS_TABLE_BYTE] = {"a byte of the program's tables is not legal", "byte"},
+    [REMUS_COMMAND] = {"a command is not legal", "byte"},
+    [REMUS_OPERAND] = {"a command names a location that it may not", "byte"},
+    [REMUS_PORT_OR_KIND] = {"a command names no such port, or a value of another kind", "byte"},
+    [REMUS_SET_TWICE] = {"a command sets a source or a sink for the second time", "byte"},
+    [REMUS_MISSING] = {"a reactor lacks a React, an AllocPoly, a Keep or a Sink", "byte"},
+    [REMUS_MEMORY_LENGTH] = {"memory is too short or too long", "words"},
+    [REMUS_UNSOUND_IMAGE] = {"memory is not as this program left it", "word"},
+    [REMUS_READINGS_LENGTH] = {"the readings are not a pair for each global", "words"},
+    [REMUS_READING] = {"a reading is of the wrong kind, or its content is not legal", "reading"},
+    [REMUS_SINK_SPACE] = {"the space for sinks is too short", "words needed"},
+    [REMUS_CLOCK] = {"no further turn can be counted", "place"},
+    [REMUS_NO_ROOM] = {"too few words are left for a new deployment", "reactor"},
+    [REMUS_TOO_DEEP] = {"a new deployment would be too deep", "reactor"},
+    [REMUS_TOO_EARLY] = {"a React or a Consume comes too early", "byte"},
+    [REMUS_TOO_LATE] = {"a command comes too late, or for the second time", "byte"},
+    [REMUS_NOT_LOWER] = {"an AllocMono names a reactor that is not lower", "byte"},
+    [REMUS_WITHDRAWN] = {"a command is the remainder, which is withdrawn", "byte"},
+};
+
+/* Whether an answer is a refusal; if so, says why. */
+static int refused(uint64_t answer) {
+    uint32_t number = remus_number(answer);
+    if (number == REMUS_OK) {
+        return 0;
+    }
+    printf("refused %" PRIu32 ": %s (%s %" PRIu32 ")\n", number, why[number].meaning, why[number].place,
+           remus_place(answer));
+    return 1;
+}
+
+/* A blank has no content to show. */
+static void print_value(const uint8_t *pairs, size_t i) {
+    if (!remus_known(pairs, i)) {
+        printf(" blank");
+    } else if (remus_mark(pairs, i) == REMUS_TRUTH) {
+        printf(" %s", remus_content(pairs, i) ? "true" : "false");
+    } else {
+        printf(" %" PRId32, remus_content(pairs, i));
+    }
+}
+
+static void check(void) {
+    printf("check: ");
+    uint64_t answer = remus_check(toggle, sizeof toggle);
+    if (!refused(answer)) {
+        printf("accepted, main has %" PRIu32 " words\n", remus_place(answer));
+    }
+}
+
+static void start(uint8_t *memory, size_t memory_len) {
+    printf("start in %zu words: ", memory_len / REMUS_WORD_BYTES);
+    memset(memory, UNUSED, memory_len);
+    uint64_t answer = remus_start(toggle, sizeof toggle, memory, memory_len);
+    if (!refused(answer)) {
+        printf("%" PRIu32 " in use\n", remus_place(answer));
+    }
+}
+
+/* One turn, which is the one after those completed: a refused turn does not count. */
+static void turn(uint8_t *memory, size_t memory_len, const uint8_t *readings, size_t readings_len) {
+    printf("turn %" PRIu32 ", %s", remus_word(memory, 1) + 1, readings_len == 0 ? "no readings" : "readings");
+    for (size_t i = 0; i < readings_len / REMUS_PAIR_BYTES; i++) {
+        print_value(readings, i);
+    }
+    printf(": ");
+    uint8_t sinks[REMUS_PAIR_BYTES];
+    uint64_t answer =
+        remus_turn(toggle, sizeof toggle, memory, memory_len, readings, readings_len, sinks, sizeof sinks);
+    if (!refused(answer)) {
+        printf("sink");
+        print_value(sinks, 0);
+        printf(", %" PRIu32 " words in use\n", remus_place(answer));
+    }
+}
+
+/* Three turns, one with a reading missing, and one that is refused and made again. */
+static void run(void) {
+    uint8_t memory[WORDS * REMUS_WORD_BYTES + SPARE];
+    start(memory, sizeof memory);
+    uint8_t readings[2 * REMUS_PAIR_BYTES];
+    remus_put(readings, 0, REMUS_NUMBER, 7);
+    remus_put(readings, 1, REMUS_NUMBER, 5);
+    for (int i = 0; i < 3; i++) {
+        turn(memory, sizeof memory, readings, sizeof readings);
+    }
+    remus_put(readings, 1, REMUS_BLANK, 0);
+    turn(memory, sizeof memory, readings, sizeof readings);
+    turn(memory, sizeof memory, NULL, 0);
+    remus_put(readings, 1, REMUS_NUMBER, -5);
+    turn(memory, sizeof memory, readings, sizeof readings);
+    int kept = 1;
+    for (size_t i = sizeof memory - SPARE; i < sizeof memory; i++) {
+        kept = kept && memory[i] == UNUSED;
+    }
+    printf("bytes past the last word: %s\n", kept ? "kept" : "lost");
+}
+
+/* One word less: the second turn has no room for the second deployment, however often it is tried. */
+static void run_short(void) {
+    uint8_t memory[(WORDS - 1) * REMUS_WORD_BYTES];
+    start(memory, sizeof memory);
+    uint8_t readings[2 * REMUS_PAIR_BYTES];
+    remus_put(readings, 0, REMUS_NUMBER, 7);
+    remus_put(readings, 1, REMUS_NUMBER, 5);
+    turn(memory, sizeof memory, readings, sizeof readings);
+    uint8_t before[sizeof memory];
+    memcpy(before, memory, sizeof memory);
+    turn(memory, sizeof memory, readings, sizeof readings);
+    turn(memory, sizeof memory, readings, sizeof readings);
+    printf("memory: %s\n", memcmp(before, memory, sizeof memory) == 0 ? "as before the refusals" : "changed");
+}
+
+/* The first three turns on the processor's own words: these lengths count words. */
+static void run_on_words(void) {
+    uint32_t memory[WORDS], sinks[REMUS_PAIR_WORDS];
+    const uint32_t readings[] = {REMUS_NUMBER, 7, REMUS_NUMBER, 5};
+    if (refused(remus_start_words(toggle, sizeof toggle, memory, WORDS))) {
+        return;
+    }
+    for (int i = 1; i <= 3; i++) {
+        uint64_t answer = remus_turn_words(toggle, sizeof toggle, memory, WORDS, readings,
+                                           sizeof readings / sizeof readings[0], sinks, REMUS_PAIR_WORDS);
+        if (refused(answer)) {
+            return;
+        }
+        printf("on words, turn %d: sink %" PRId32 ", %" PRIu32 " words in use\n", i, remus_signed(sinks[1]),
+               remus_place(answer));
+    }
+}
+
+int main(void) {
+    check();
+    run();
+    run_short();
+    run_on_words();
+    return 0;
+}

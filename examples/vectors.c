@@ -1,0 +1,367 @@
+/* vectors.c: holds the library to files of test vectors.
+ *
+ *     cc -Ibuild examples/vectors.c build/libremus.a -o vectors && ./vectors FILE...
+ *
+ * A line is a call and what comes of it, or a comment after `#`. Its fields have one space between them, and stand in
+ * one of two forms:
+ *
+ *     NUMBER PLACE PROGRAM                                       check
+ *     NUMBER PLACE PROGRAM MEMORY                                image: 0 0 if memory is sound, else 9 and the place
+ *     NUMBER PLACE PROGRAM MEMORY AFTER                          start
+ *     NUMBER PLACE PROGRAM MEMORY AFTER READINGS SINKS AFTER     turn
+ *
+ *     check PROGRAM -> NUMBER PLACE
+ *     start PROGRAM MEMORY -> NUMBER PLACE AFTER
+ *     turn PROGRAM MEMORY READINGS SINKS -> NUMBER PLACE AFTER AFTER
+ *
+ * A program is its bytes in hexadecimal, `-` if it has none, `=` if it is the program of the line before. Words are
+ * `N:` and the bytes of N words in hexadecimal, low byte first; what is not written is zero.
+ *
+ * Each line is tried on bytes, with every slice at each of four addresses in a row and with 0 to 3 bytes past its last
+ * word, and then on words. Number and place have to be the line's, and so has every word; the bytes past the last word
+ * and those around each slice have to be as before. It stops at the first line that differs. */
+#include <remus.h>
+#include <stdio.h>
+#include <stdlib.h>
+#include <string.h>
+
+enum {
+    MOST_WORDS = 20000,  /* of a slice: some more than the machine takes */
+    MOST_FIELDS = 10,    /* of a line */
+    MOST_LINE = 1 << 20, /* bytes of a line */
+    GUARD = 16,          /* bytes on each side of a slice */
+    FILLED = 0xA5        /* what the guards and the bytes past the last word hold */
+};
+
+enum kind { CHECK, IMAGE, START, TURN, KINDS };
+static const char *const names[KINDS] = {"check", "image", "start", "turn"};
+
+/* Bytes that a line gives. */
+struct given {
+    size_t len;
+    uint8_t bytes[MOST_WORDS * REMUS_WORD_BYTES];
+};
+
+static struct vector {
+    enum kind kind;
+    uint32_t number, place;
+    struct given program, memory, memory_after, readings, sinks, sinks_after;
+} vector;
+
+/* A slice that is lent, in a room that begins at a word. */
+struct lent {
+    size_t len;
+    uint8_t *at;
+    uint32_t room[MOST_WORDS + 2 * GUARD / REMUS_WORD_BYTES + 2];
+};
+
+static struct lent program, memory, readings, sinks;
+
+/* The line that is tried. */
+static const char *file_name;
+static unsigned long line_number;
+
+/* ---- reading a line ---- */
+
+/* The decimal number of a field, cut to 32 bits as places are. */
+static int read_number(const char *field, uint32_t *number) {
+    char *end;
+    unsigned long long value = strtoull(field, &end, 10);
+    *number = value > UINT32_MAX ? UINT32_MAX : (uint32_t)value;
+    return end != field && *end == '\0';
+}
+
+static int digit(char c) {
+    if (c >= '0' && c <= '9') {
+        return c - '0';
+    }
+    return c >= 'a' && c <= 'f' ? c - 'a' + 10 : -1;
+}
+
+/* At most `most` bytes in hexadecimal; how many there are goes to `len`. */
+static int read_bytes(const char *field, uint8_t *bytes, size_t most, size_t *len) {
+    size_t n = strlen(field) / 2;
+    if (strlen(field) % 2 != 0 || n > most) {
+        return 0;
+    }
+    for (size_t i = 0; i < n; i++) {
+        int high = digit(field[2 * i]), low = digit(field[2 * i + 1]);
+        if (high < 0 || low < 0) {
+            return 0;
+        }
+        bytes[i] = (uint8_t)(16 * high + low);
+    }
+    *len = n;
+    return 1;
+}
+
+static int read_program(const char *field, struct given *given) {
+    if (strcmp(field, "=") == 0) {
+        return 1;
+    }
+    return read_bytes(strcmp(field, "-") == 0 ? "" : field, given->bytes, sizeof given->bytes, &given->len);
+}
+
+static int read_words(char *field, struct given *given) {
+    char *bytes = strchr(field, ':');
+    uint32_t count;
+    size_t written;
+    if (bytes == NULL) {
+        return 0;
+    }
+    *bytes++ = '\0';
+    if (!read_number(field, &count) || count > MOST_WORDS) {
+        return 0;
+    }
+    given->len = (size_t)count * REMUS_WORD_BYTES;
+    memset(given->bytes, 0, given->len);
+    return read_bytes(bytes, given->bytes, given->len, &written);
+}
+
+/* Cuts a line at its spaces. How many fields it has, and 0 if there are too many. */
+static size_t split(char *line, char *fields[MOST_FIELDS]) {
+    size_t n = 0;
+    line[strcspn(line, "\n")] = '\0';
+    while (line != NULL) {
+        char *space = strchr(line, ' ');
+        if (n == MOST_FIELDS) {
+            return 0;
+        }
+        fields[n++] = line;
+        if (space != NULL) {
+            *space++ = '\0';
+        }
+        line = space;
+    }
+    return n;
+}
+
+/* Brings the fields of the second form into the order of the first. How many there are then. */
+static size_t reorder(char *fields[MOST_FIELDS], size_t n) {
+    static const struct {
+        const char *call;
+        size_t fields, kept, order[8];
+    } forms[] = {
+        {"check", 5, 3, {3, 4, 1}},
+        {"start", 7, 5, {4, 5, 1, 2, 6}},
+        {"turn", 10, 8, {6, 7, 1, 2, 8, 3, 4, 9}},
+    };
+    for (size_t f = 0; f < sizeof forms / sizeof forms[0]; f++) {
+        if (n == forms[f].fields && strcmp(fields[0], forms[f].call) == 0) {
+            char *given[MOST_FIELDS];
+            memcpy(given, fields, sizeof given);
+            for (size_t i = 0; i < forms[f].kept; i++) {
+                fields[i] = given[forms[f].order[i]];
+            }
+            return forms[f].kept;
+        }
+    }
+    return n;
+}
+
+/* There is no call for an image alone. A turn with one word of readings is refused with 9 if the image is not sound,
+ * and if it is then with 10 and 1, since readings are pairs. */
+static void ask_by_turn(void) {
+    if (vector.number == REMUS_OK) {
+        vector.number = REMUS_READINGS_LENGTH;
+        vector.place = 1;
+    }
+    vector.memory_after = vector.memory;
+    vector.readings.len = REMUS_WORD_BYTES;
+}
+
+/* Whether the line is understood; if so, it is the vector now. */
+static int read_line(char *line) {
+    char *fields[MOST_FIELDS] = {NULL};
+    size_t n = split(line, fields);
+    n = reorder(fields, n);
+    if (n != 3 && n != 4 && n != 5 && n != 8) {
+        return 0;
+    }
+    vector.kind = n == 3 ? CHECK : n == 4 ? IMAGE : n == 5 ? START : TURN;
+    struct given *const rest[] = {&vector.memory, &vector.memory_after, &vector.readings, &vector.sinks,
+                                  &vector.sinks_after};
+    if (!read_number(fields[0], &vector.number) || !read_number(fields[1], &vector.place) ||
+        !read_program(fields[2], &vector.program)) {
+        return 0;
+    }
+    for (size_t i = 0; i < sizeof rest / sizeof rest[0]; i++) {
+        rest[i]->len = 0;
+        if (i + 3 < n && !read_words(fields[i + 3], rest[i])) {
+            return 0;
+        }
+    }
+    if (vector.kind == IMAGE) {
+        ask_by_turn();
+    }
+    return 1;
+}
+
+/* ---- the calls ---- */
+
+static void lend(struct lent *lent, const struct given *given, size_t address, size_t spare) {
+    lent->at = (uint8_t *)lent->room + GUARD + address % REMUS_WORD_BYTES;
+    lent->len = given->len + spare % REMUS_WORD_BYTES;
+    memset(lent->at - GUARD, FILLED, GUARD + lent->len + GUARD);
+    memcpy(lent->at, given->bytes, given->len);
+}
+
+/* The slices differ in address and in spare bytes, so that a mix-up of two of them shows. */
+static uint64_t call_on_bytes(size_t address, size_t spare) {
+    lend(&program, &vector.program, address, 0);
+    lend(&memory, &vector.memory, address + 1, spare);
+    lend(&readings, &vector.readings, address + 2, spare + 1);
+    lend(&sinks, &vector.sinks, address + 3, spare + 2);
+    switch (vector.kind) {
+    case CHECK:
+        return remus_check(program.at, program.len);
+    case START:
+        return remus_start(program.at, program.len, memory.at, memory.len);
+    default:
+        return remus_turn(program.at, program.len, memory.at, memory.len, readings.at, readings.len, sinks.at,
+                          sinks.len);
+    }
+}
+
+/* The same words in the processor's own byte order, and back. */
+static uint32_t *lend_words(struct lent *lent, const struct given *given) {
+    uint32_t *words = lent->room + GUARD / REMUS_WORD_BYTES;
+    lend(lent, given, 0, 0);
+    for (size_t i = 0; i < lent->len / REMUS_WORD_BYTES; i++) {
+        words[i] = remus_word(lent->at, i);
+    }
+    return words;
+}
+
+static void to_bytes(struct lent *lent, const uint32_t *words) {
+    for (size_t i = 0; i < lent->len / REMUS_WORD_BYTES; i++) {
+        remus_put_word(lent->at, i, words[i]);
+    }
+}
+
+static uint64_t call_on_words(void) {
+    uint32_t *m = lend_words(&memory, &vector.memory);
+    uint32_t *r = lend_words(&readings, &vector.readings);
+    uint32_t *s = lend_words(&sinks, &vector.sinks);
+    uint64_t answer;
+    lend(&program, &vector.program, 0, 0);
+    if (vector.kind == CHECK) {
+        answer = remus_check(program.at, program.len);
+    } else if (vector.kind == START) {
+        answer = remus_start_words(program.at, program.len, m, memory.len / REMUS_WORD_BYTES);
+    } else {
+        answer = remus_turn_words(program.at, program.len, m, memory.len / REMUS_WORD_BYTES, r,
+                                  readings.len / REMUS_WORD_BYTES, s, sinks.len / REMUS_WORD_BYTES);
+    }
+    to_bytes(&memory, m);
+    to_bytes(&readings, r);
+    to_bytes(&sinks, s);
+    return answer;
+}
+
+/* ---- what came of them ---- */
+
+static int filled(const uint8_t *from, const uint8_t *to) {
+    while (from < to && *from == FILLED) {
+        from++;
+    }
+    return from == to;
+}
+
+/* Whether the slice has these bytes, and all that were not given it are as they were. */
+static int holds(const struct lent *lent, const struct given *before, const struct given *after) {
+    return before->len == after->len && memcmp(lent->at, after->bytes, after->len) == 0 &&
+           filled(lent->at - GUARD, lent->at) && filled(lent->at + after->len, lent->at + lent->len + GUARD);
+}
+
+/* What is not as the line says, or null. */
+static const char *difference(uint64_t answer) {
+    if (remus_number(answer) != vector.number || remus_place(answer) != vector.place) {
+        return "answer";
+    }
+    if (!holds(&memory, &vector.memory, &vector.memory_after)) {
+        return "memory";
+    }
+    if (!holds(&sinks, &vector.sinks, &vector.sinks_after)) {
+        return "sink space";
+    }
+    if (!holds(&readings, &vector.readings, &vector.readings)) {
+        return "readings";
+    }
+    return holds(&program, &vector.program, &vector.program) ? NULL : "program";
+}
+
+static int agrees(uint64_t answer, const char *face) {
+    const char *what = difference(answer);
+    if (what == NULL) {
+        return 1;
+    }
+    fprintf(stderr, "%s:%lu: %s on %s: wrong %s; answer %lu, %lu, expected %lu, %lu\n", file_name,
+            line_number, names[vector.kind], face, what, (unsigned long)remus_number(answer),
+            (unsigned long)remus_place(answer), (unsigned long)vector.number, (unsigned long)vector.place);
+    return 0;
+}
+
+/* Whether all calls for the vector agree with it. */
+static int try_vector(void) {
+    for (size_t address = 0; address < REMUS_WORD_BYTES; address++) {
+        for (size_t spare = 0; spare < REMUS_WORD_BYTES; spare++) {
+            if (!agrees(call_on_bytes(address, spare), "bytes")) {
+                return 0;
+            }
+        }
+    }
+    return agrees(call_on_words(), "words");
+}
+
+/* Whether all lines of a file agree; they are counted by kind. */
+static int try_lines(FILE *file, unsigned long agreed[KINDS]) {
+    static char line[MOST_LINE];
+    for (line_number = 1; fgets(line, sizeof line, file) != NULL; line_number++) {
+        if (line[0] == '#') {
+            continue;
+        }
+        if (!read_line(line)) {
+            fprintf(stderr, "%s:%lu: not a vector of check, image, start or turn\n", file_name, line_number);
+            return 0;
+        }
+        if (!try_vector()) {
+            return 0;
+        }
+        agreed[vector.kind]++;
+    }
+    if (ferror(file)) {
+        perror(file_name);
+        return 0;
+    }
+    return 1;
+}
+
+static int try_file(const char *name, unsigned long agreed[KINDS]) {
+    FILE *file = fopen(name, "r");
+    if (file == NULL) {
+        perror(name);
+        return 0;
+    }
+    file_name = name;
+    int agree = try_lines(file, agreed);
+    fclose(file);
+    return agree;
+}
+
+int main(int argc, char **argv) {
+    unsigned long agreed[KINDS] = {0};
+    if (argc < 2) {
+        fprintf(stderr, "usage: %s FILE...\n", argv[0]);
+        return 2;
+    }
+    for (int i = 1; i < argc; i++) {
+        if (!try_file(argv[i], agreed)) {
+            return 1;
+        }
+    }
+    for (int kind = 0; kind < KINDS; kind++) {
+        printf("%s vectors: %lu agree\n", names[kind], agreed[kind]);
+    }
+    return 0;
+}
