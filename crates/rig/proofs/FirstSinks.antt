@@ -22,14 +22,12 @@ use Rattle.image.specs.Passes.{Judged, sound, unsound, soundOf}
 use Rattle.remus.specs.Clear.{pairs, sunk}
 use Rattle.remus.specs.Run.{Ran, ran, stopped, mainRun}
 use Rattle.remus.specs.Turn.{Turn, turnOf, byCheck, bySound, byAsked, byRun, Asked, fine, asked, askedOf, refused}
-use Rattle.remus.specs.declared.Turned.{Turned}
 use Rattle.remus.proofs.Sinks.{pairs-length}
-use Rattle.machine.specs.Answer.{turned}
 use Rattle.machine.proofs.Turning.{sinks-fit}
 use Rattle.rig.specs.Words.{wordsOf, holding}
 use Rattle.rig.specs.Laws.{Bytes}
-use Rattle.rig.specs.Face.{turnBytes}
-use Rattle.rig.specs.Rooms.{held}
+use Rattle.rig.specs.Face.{turnAnswer, turnBytes}
+use Rattle.rig.specs.Rooms.{Faced, faced, turnFaced, held}
 use Rattle.rig.proofs.Copying.{words-count}
 use Rattle.rig.proofs.Holding.{hold-rest}
 
@@ -125,11 +123,11 @@ module _ (p m m′ rd sk w w′ b : List ℕ) (k : ℕ) (h : Bytes sk) (l : k �
         ∙ hold-rest sk w′ h (omega (arith, n, words-count sk, l)) ∙ sym f
 
     pub first-words : w ≡ take k (wordsOf sk) → b ≡ holding sk w′
-        → (r : Turned) → turned r m′ w′ ≡ held m (turnOf p (wordsOf m) (wordsOf rd) w)
-        → turned r m′ b ≡ turnBytes p m rd sk
-    unfolding turned held turnBytes
-    first-words e f r t =
-        let answer = ap (λ (x : Turn). x .answer) t in
-        let memory = ap (λ (x : Turn). x .memory) t in
-        let space = ap (λ (x : Turn). x .sinkSpace) t in
+        → (a : ℕ) → faced a m′ w′ ≡ held m (turnFaced (turnOf p (wordsOf m) (wordsOf rd) w))
+        → faced a m′ b ≡ turnFaced (turnBytes p m rd sk)
+    unfolding faced held turnFaced turnBytes turnAnswer
+    first-words e f a t =
+        let answer = ap (λ (x : Faced). x .answer) t in
+        let memory = ap (λ (x : Faced). x .memory) t in
+        let space = ap (λ (x : Faced). x .sinkSpace) t in
         rw (behind e) (rw (answer, memory, ← given f, space) refl)

@@ -11,7 +11,7 @@ use Rattle.value.proofs.Tests.{cases, eq×, eq!, no, yes, stops, goes}
 use Rattle.program.specs.Bytes.{globals}
 use Rattle.load.specs.Check as Check
 use Rattle.load.specs.Check.{checkOf}
-use Rattle.load.specs.Refusal.{refusalNumber}
+use Rattle.load.specs.Refusal.{refusalNumber, refusalPlace}
 use Rattle.load.specs.declared.Checked.{Checked}
 use Rattle.load.specs.declared.Checked.the-variants.{Accepted, Refused}
 use Rattle.load.specs.declared.Refusal.{Refusal}
@@ -20,26 +20,30 @@ use Rattle.load.proofs.Exact.{exact}
 use Rattle.image.specs.Start.{wordsLegal}
 use Rattle.image.specs.Passes.{Judged, sound, unsound, soundOf}
 use Rattle.remus.specs.Turn.{Turn, turnOf, byCheck, bySound, byAsked, askedOf, asked, refused}
-use Rattle.remus.specs.declared.Turned.{Turned}
-use Rattle.machine.specs.Answer.{turned}
-use Rattle.rig.specs.Words.{wordsOf}
-use Rattle.rig.specs.Rooms.{held, ofReadings, withReadings}
+use Rattle.rig.specs.Words.{wordsOf, packed}
+use Rattle.rig.specs.Face.{turnAnswer}
+use Rattle.rig.specs.Rooms.{Faced, faced, turnFaced, held, placedAt}
 use Rattle.rig.proofs.Copying.{words-count}
 use Rattle.rig.proofs.Holding.{all-words}
 use Rattle.rig.proofs.Numbers.{check-else}
+use Rattle.rig.proofs.Pinned.{unpacked}
 
--- the turn with n as the place of 10
-abbrev placed : ℕ → Turn → Turn
-placed n t = record { answer = withReadings n (t .answer); memory = t .memory; sinkSpace = t .sinkSpace }
+-- what a call comes to, with n as the place of 10
+unfoldable placed : ℕ → Faced → Faced
+placed n f = faced (placedAt 10 n (f .answer)) (f .memory) (f .sinkSpace)
 
 module _ (p m rd rd₁ sk : List ℕ) where
-  not-ten : (n : ℕ) (w : Refusal) → refusalNumber w ≢ 10 → refused p m rd sk w ≡ placed n (refused p m rd₁ sk w)
-  unfolding refused ofReadings
-  not-ten n w h = ap (λ (v : Refusal). refused p m rd sk v) (no (ReadingsLength n) (eq× h) refl)
+  not-ten : (n : ℕ) (w : Refusal) → refusalNumber w ≢ 10
+      → turnFaced (refused p m rd sk w) ≡ placed n (turnFaced (refused p m rd₁ sk w))
+  unfolding refused placed placedAt turnFaced turnAnswer faced
+  not-ten n w h =
+      let u = unpacked (refusalNumber w) (refusalPlace w) .0 in
+      ap (λ (a : ℕ). faced a m sk) (no (packed 10 n) (eq× (λ e. h (sym u ∙ e))) refl)
 
-  ten : (n k : ℕ) → refused p m rd sk (ReadingsLength n) ≡ placed n (refused p m rd₁ sk (ReadingsLength k))
-  unfolding refused ofReadings
-  ten n k = ap (λ (v : Refusal). refused p m rd sk v) (yes (ReadingsLength k) (eq! refl) refl)
+  ten : (n k : ℕ)
+      → turnFaced (refused p m rd sk (ReadingsLength n)) ≡ placed n (turnFaced (refused p m rd₁ sk (ReadingsLength k)))
+  unfolding refused placed placedAt turnFaced turnAnswer faced
+  ten n k = ap (λ (a : ℕ). faced a m sk) (yes (packed 10 k) (eq! (unpacked 10 k .0)) refl)
 
   -- neither is as long as the program asks
   module _ (u : length rd ≢ 2 * globals p) (u₁ : length rd₁ ≢ 2 * globals p) where
@@ -51,32 +55,35 @@ module _ (p m rd rd₁ sk : List ℕ) where
     unfolding askedOf
     unlike₁ = sym (stops _ (eq× u₁) refl)
 
-    judged : (j : Judged) → bySound p m rd sk j ≡ placed (length rd) (bySound p m rd₁ sk j)
+    judged : (j : Judged) → turnFaced (bySound p m rd sk j) ≡ placed (length rd) (turnFaced (bySound p m rd₁ sk j))
     unfolding bySound byAsked
     judged sound = rw (unlike, unlike₁) (ten (length rd) (length rd₁))
     judged (unsound q) = not-ten (length rd) (UnsoundImage q) (λ e. omega arith)
 
-    accepted : (size : ℕ) → byCheck p m rd sk (Accepted size) ≡ placed (length rd) (byCheck p m rd₁ sk (Accepted size))
+    accepted : (size : ℕ) → turnFaced (byCheck p m rd sk (Accepted size))
+        ≡ placed (length rd) (turnFaced (byCheck p m rd₁ sk (Accepted size)))
     unfolding byCheck
     accepted size =
         cases (wordsLegal (length m))
-        (λ e. sym (goes _ _ e refl) ∙ judged (soundOf p m) ∙ ap (placed (length rd)) (goes _ _ e refl))
-        (λ e. sym (stops _ e refl) ∙ not-ten (length rd) (MemoryLength (length m)) (λ f. omega arith)
-        ∙ ap (placed (length rd)) (stops _ e refl))
+        (λ e. ap turnFaced (sym (goes _ _ e refl)) ∙ judged (soundOf p m)
+        ∙ ap (λ (t : Turn). placed (length rd) (turnFaced t)) (goes _ _ e refl))
+        (λ e. ap turnFaced (sym (stops _ e refl)) ∙ not-ten (length rd) (MemoryLength (length m)) (λ f. omega arith)
+        ∙ ap (λ (t : Turn). placed (length rd) (turnFaced t)) (stops _ e refl))
 
 -- an accepted program takes at most 62 words of readings
 takes-few : (p : List ℕ) (size : ℕ) → checkOf p ≡ Accepted size → globals p ≤ 31
 takes-few p size e = (exact p .0 (ap Check.numberOf e)) .tables .header .few-globals
 
 module _ (p m rd rd₁ sk : List ℕ) (l : 62 < length rd) (l₁ : 62 < length rd₁) where
-  by-check : (c : Checked) → checkOf p ≡ c → byCheck p m rd sk c ≡ placed (length rd) (byCheck p m rd₁ sk c)
+  by-check : (c : Checked) → checkOf p ≡ c
+      → turnFaced (byCheck p m rd sk c) ≡ placed (length rd) (turnFaced (byCheck p m rd₁ sk c))
   unfolding byCheck
   by-check (Accepted size) e =
       let g = takes-few p size e in
       accepted p m rd rd₁ sk (λ h. omega (arith, g)) (λ h. omega (arith, g)) size
   by-check (Refused w) e = not-ten p m rd rd₁ sk (length rd) w (check-else p w e .1)
 
-  turn-reads : turnOf p m rd sk ≡ placed (length rd) (turnOf p m rd₁ sk)
+  turn-reads : turnFaced (turnOf p m rd sk) ≡ placed (length rd) (turnFaced (turnOf p m rd₁ sk))
   unfolding turnOf
   turn-reads = by-check (checkOf p) refl
 
@@ -86,16 +93,17 @@ room-fits n room rd e h = let l = length-take-le n room h in omega (arith, l)
 
 -- as many of the readings as there are
 pub all-read : (p m b rd sk sk′ : List ℕ) (k : ℕ) → k ≡ length rd / 4
-    → (r : Turned) → turned r b sk′ ≡ held m (turnOf p (wordsOf m) (take k (wordsOf rd)) sk)
-    → turned r b sk′ ≡ held m (turnOf p (wordsOf m) (wordsOf rd) sk)
-all-read p m b rd sk sk′ k e r h = h ∙ ap (λ (x : List ℕ). held m (turnOf p (wordsOf m) x sk)) (all-words rd k e)
+    → (a : ℕ) → faced a b sk′ ≡ held m (turnFaced (turnOf p (wordsOf m) (take k (wordsOf rd)) sk))
+    → faced a b sk′ ≡ held m (turnFaced (turnOf p (wordsOf m) (wordsOf rd) sk))
+all-read p m b rd sk sk′ k e a h =
+    h ∙ ap (λ (x : List ℕ). held m (turnFaced (turnOf p (wordsOf m) x sk))) (all-words rd k e)
 
--- rd has more words than any program takes; what the turn answers for 63 of them, r, tells what it answers for rd
+-- rd has more words than any program takes; what the turn answers for 63 of them, a, tells what it answers for rd
 pub too-many : (p m b rd sk sk′ : List ℕ) (n : ℕ) → 63 < n → n ≡ length rd / 4
-    → (r r′ : Turned) → turned r b sk′ ≡ held m (turnOf p (wordsOf m) (take 63 (wordsOf rd)) sk) → r′ ≡ withReadings n r
-    → turned r′ b sk′ ≡ held m (turnOf p (wordsOf m) (wordsOf rd) sk)
-unfolding held turned
-too-many p m b rd sk sk′ n l e r r′ h f =
+    → (a a′ : ℕ) → faced a b sk′ ≡ held m (turnFaced (turnOf p (wordsOf m) (take 63 (wordsOf rd)) sk))
+    → a′ ≡ placedAt 10 n a → faced a′ b sk′ ≡ held m (turnFaced (turnOf p (wordsOf m) (wordsOf rd) sk))
+unfolding held faced placed
+too-many p m b rd sk sk′ n l e a a′ h f =
     let k : n ≡ length (wordsOf rd) = e ∙ sym (words-count rd) in
     let c = length-take-le 63 (wordsOf rd) (omega (arith, k)) in
     let t = turn-reads p (wordsOf m) (wordsOf rd) (take 63 (wordsOf rd)) sk (omega (arith, k)) (omega (arith, c)) in

@@ -9,7 +9,10 @@ use lib.Seq.{getD-append-add, getD-drop}
 use Rattle.value.specs.Test.{pick, _<?_}
 use Rattle.value.proofs.Tests.{cases, yes, no, lt?, lt×?}
 use Rattle.rig.specs.Words.{word, wordsOf, bytesOf, holding, packed, mostPlace}
-use Rattle.rig.specs.Laws.{HeldWords, HeldRest, HeldSame, Unpacked}
+use Rattle.image.proofs.Memory.Starting.{start-keeps}
+use Rattle.remus.proofs.Kept.{refused-keeps}
+use Rattle.rig.specs.Face.{startBytes, turnBytes}
+use Rattle.rig.specs.Laws.{HeldWords, HeldRest, HeldSame, Unpacked, StartKeepsBytes, RefusedKeepsBytes}
 use Rattle.rig.proofs.Copying.{words-length, bytes-length}
 use Rattle.rig.proofs.Holding.{four, hold-more, hold-same}
 
@@ -61,3 +64,13 @@ unpacked number place =
     let c = cut place in
     let q = pick (place <? mostPlace) place mostPlace in
     (omega (arith, c), omega (arith, c))
+
+pub start-keeps-bytes : StartKeepsBytes
+unfolding startBytes
+start-keeps-bytes p m h n = ap (holding m) (start-keeps p (wordsOf m) n) ∙ hold-same m h
+
+pub refused-keeps-bytes : RefusedKeepsBytes
+unfolding turnBytes
+refused-keeps-bytes p m rd sk h k n =
+    let kept = refused-keeps p (wordsOf m) (wordsOf rd) (wordsOf sk) n in
+    (ap (holding m) (kept .0) ∙ hold-same m h, ap (holding sk) (kept .1) ∙ hold-same sk k)

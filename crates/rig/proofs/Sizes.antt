@@ -8,31 +8,30 @@ use native.Mathlib.Omega.{arith}
 use lib.ListN.{length, drop}
 use Rattle.value.proofs.Tests.{eq×, eq!, no, yes, stops, left×, right×, le×}
 use Rattle.load.specs.Check.{checkOf}
-use Rattle.load.specs.Refusal.{refusalNumber}
+use Rattle.load.specs.Refusal.{refusalNumber, refusalPlace}
 use Rattle.load.specs.declared.Checked.{Checked}
 use Rattle.load.specs.declared.Checked.the-variants as Check
 use Rattle.load.specs.declared.Refusal.{Refusal}
 use Rattle.load.specs.declared.Refusal.the-variants.{MemoryLength}
 use Rattle.image.specs.Memory.{fewestWords, mostWords}
 use Rattle.image.specs.Start.{startOf, startBy, wordsLegal, refused as refused-start}
-use Rattle.remus.specs.Turn.{Turn, turnOf, byCheck, refused}
-use Rattle.remus.specs.declared.Turned.{Turned}
-use Rattle.remus.specs.declared.Turned.the-variants.{Refused}
-use Rattle.machine.specs.Answer.{turned}
-use Rattle.rig.specs.Words.{wordsOf, bytesOf, holding}
+use Rattle.remus.specs.Turn.{turnOf, byCheck, refused}
+use Rattle.rig.specs.Words.{wordsOf, bytesOf, holding, packed}
 use Rattle.rig.specs.Laws.{Bytes}
-use Rattle.rig.specs.Rooms.{begun, callOf, held, ofWords, withWords}
+use Rattle.rig.specs.Face.{startAnswer, turnAnswer}
+use Rattle.rig.specs.Rooms.{Faced, faced, turnFaced, callOf, held, placedAt}
 use Rattle.rig.specs.declared.Call.{Call}
 use Rattle.rig.specs.declared.Call.the-variants as C
 use Rattle.rig.proofs.Copying.{words-count}
 use Rattle.rig.proofs.Holding.{hold-same}
 use Rattle.rig.proofs.Numbers.{Else, check-else}
+use Rattle.rig.proofs.Pinned.{unpacked}
 
 -- w₀ the words of the bytes m, w those in the room then, and b the bytes that were given them
-pub in-room : (m w w₀ b : List ℕ) → w₀ ≡ wordsOf m → b ≡ holding m w → (what : Call) (p rd sk sk′ : List ℕ) (r : Turned)
-    → turned r w sk′ ≡ callOf what p w₀ rd sk → turned r b sk′ ≡ held m (callOf what p (wordsOf m) rd sk)
-unfolding held turned
-in-room m w w₀ b e f what p rd sk sk′ r h = rw (← e, ← h, f)
+pub in-room : (m w w₀ b : List ℕ) → w₀ ≡ wordsOf m → b ≡ holding m w → (what : Call) (p rd sk sk′ : List ℕ) (a : ℕ)
+    → faced a w sk′ ≡ callOf what p w₀ rd sk → faced a b sk′ ≡ held m (callOf what p (wordsOf m) rd sk)
+unfolding held faced
+in-room m w w₀ b e f what p rd sk sk′ a h = rw (← e, ← h, f)
 
 -- ---- a memory whose length is not legal
 
@@ -40,6 +39,9 @@ in-room m w w₀ b e f what p rd sk sk′ r h = rw (← e, ← h, f)
 abbrev why : ℕ → Checked → Refusal
 why n (Check.Accepted size) = MemoryLength n
 why n (Check.Refused w) = w
+
+abbrev answer : Refusal → ℕ
+answer w = packed (refusalNumber w) (refusalPlace w)
 
 module _ (p w rd sk : List ℕ) (l : wordsLegal (length w) ≡ false) where
   start-refused : (c : Checked) → startBy p w c ≡ refused-start w (why (length w) c)
@@ -52,10 +54,10 @@ module _ (p w rd sk : List ℕ) (l : wordsLegal (length w) ≡ false) where
   turn-refused (Check.Accepted size) = sym (stops _ l refl)
   turn-refused (Check.Refused v) = refl
 
-  call-refused : (what : Call) → callOf what p w rd sk ≡ turned (Refused (why (length w) (checkOf p))) w sk
-  unfolding callOf startOf turnOf turned refused refused-start
+  call-refused : (what : Call) → callOf what p w rd sk ≡ faced (answer (why (length w) (checkOf p))) w sk
+  unfolding callOf startOf turnOf turnFaced startAnswer turnAnswer refused refused-start
   call-refused C.Start = rw (start-refused (checkOf p))
-  call-refused C.Turn = turn-refused (checkOf p)
+  call-refused C.Turn = rw (turn-refused (checkOf p))
 
 -- none are too few, and more than 16,384 too many
 none : wordsLegal 0 ≡ false
@@ -68,22 +70,23 @@ many n h = right× _ (le× h)
 
 -- a refusal of k words as that of n
 of-words : (n k : ℕ) (c : Checked) → ((w : Refusal) → c ≡ Check.Refused w → Else (refusalNumber w))
-    → ofWords n (why k c) ≡ why n c
-unfolding ofWords
-of-words n k (Check.Accepted size) f = sym (yes _ (eq! refl) refl)
-of-words n k (Check.Refused w) f = sym (no _ (eq× (f w refl .0)) refl)
+    → placedAt 8 n (answer (why k c)) ≡ answer (why n c)
+unfolding placedAt
+of-words n k (Check.Accepted size) f = sym (yes _ (eq! (unpacked 8 k .0)) refl)
+of-words n k (Check.Refused w) f =
+    let u = unpacked (refusalNumber w) (refusalPlace w) .0 in sym (no _ (eq× (λ e. f w refl .0 (sym u ∙ e))) refl)
 
--- m has more words than any room; what the call answers for none of them, r, tells what it answers for m
+-- m has more words than any room; what the call answers for none of them, a, tells what it answers for m
 pub too-many : (what : Call) (p m b rd sk sk′ : List ℕ) (n : ℕ) → Bytes m → mostWords < n → n ≡ length m / 4
-    → (r r′ : Turned) → turned r b sk′ ≡ held [] (callOf what p (wordsOf []) rd sk) → r′ ≡ withWords n r
-    → turned r′ (b ++ m) sk′ ≡ held m (callOf what p (wordsOf m) rd sk)
-unfolding held turned holding bytesOf wordsOf
-too-many what p m b rd sk sk′ n h l e r r′ k f =
+    → (a a′ : ℕ) → faced a b sk′ ≡ held [] (callOf what p (wordsOf []) rd sk) → a′ ≡ placedAt 8 n a
+    → faced a′ (b ++ m) sk′ ≡ held m (callOf what p (wordsOf m) rd sk)
+unfolding held faced holding bytesOf wordsOf
+too-many what p m b rd sk sk′ n h l e a a′ k f =
     let c : n ≡ length (wordsOf m) = e ∙ sym (words-count m) in
     let k₀ = k ∙ ap (held []) (call-refused p [] rd sk none what) in
-    let kr : r ≡ Refused (why 0 (checkOf p)) = ap (λ (t : Turn). t .answer) k₀ in
-    let kb : b ≡ [] = ap (λ (t : Turn). t .memory) k₀ in
-    let ks : sk′ ≡ sk = ap (λ (t : Turn). t .sinkSpace) k₀ in
+    let ka : a ≡ answer (why 0 (checkOf p)) = ap (λ (x : Faced). x .answer) k₀ in
+    let kb : b ≡ [] = ap (λ (x : Faced). x .memory) k₀ in
+    let ks : sk′ ≡ sk = ap (λ (x : Faced). x .sinkSpace) k₀ in
     let t = call-refused p (wordsOf m) rd sk (many (length (wordsOf m)) (omega (arith, c))) what in
-    rw (f, kr, kb, ks, c, of-words (length (wordsOf m)) 0 (checkOf p) (check-else p), t)
-    (ap (λ (x : List ℕ). turned (Refused (why (length (wordsOf m)) (checkOf p))) x sk) (sym (hold-same m h)))
+    rw (f, ka, kb, ks, c, of-words (length (wordsOf m)) 0 (checkOf p) (check-else p), t)
+    (ap (λ (x : List ℕ). faced (answer (why (length (wordsOf m)) (checkOf p))) x sk) (sym (hold-same m h)))

@@ -3,7 +3,11 @@ use Prim.Native.Nat.{ℕ, _+_, _*_, _/_, _%_, _≤_, _<_, min}
 use mathlib.Core.Path.{_≡_}
 use mathlib.Core.List.{List, _++_}
 use lib.ListN.{length, getD, drop}
+use mathlib.Core.Logic.{_≢_}
+use Rattle.image.specs.Start as Start
+use Rattle.remus.specs.Turn as Turn
 use Rattle.rig.specs.Words.{wordsOf, holding, packed, mostPlace}
+use Rattle.rig.specs.Face.{startBytes, turnBytes}
 
 -- bytes, and words of 32 bits
 abbrev pub Bytes : List ℕ → Type 0
@@ -33,3 +37,11 @@ HeldSame = (s : List ℕ) → Bytes s → holding s (wordsOf s) ≡ s
 abbrev pub Unpacked : Type 0
 Unpacked = (number place : ℕ) → (packed number place / 4294967296 ≡ number)
     × (packed number place % 4294967296 ≡ min place mostPlace)
+
+-- A refused call leaves every byte of memory and of sink space.
+abbrev pub StartKeepsBytes : Type 0
+StartKeepsBytes = (p m : List ℕ) → Bytes m → Start.numberOf (startBytes p m .answer) ≢ 0 → startBytes p m .memory ≡ m
+
+abbrev pub RefusedKeepsBytes : Type 0
+RefusedKeepsBytes = (p m rd sk : List ℕ) → Bytes m → Bytes sk → Turn.numberOf (turnBytes p m rd sk .answer) ≢ 0
+    → (turnBytes p m rd sk .memory ≡ m) × (turnBytes p m rd sk .sinkSpace ≡ sk)

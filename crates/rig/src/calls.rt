@@ -2,24 +2,13 @@
 use crate::Call;
 use crate::pack::pack;
 use crate::rooms::call_sized;
-use crate::sinks::turn_bytes;
-use machine::Turned;
+use crate::sinks::MOST_WORDS;
+use crate::sinks::least;
+use crate::sinks::sink_in;
 use machine::check;
 ghost use mathlib.Core.Path.{_≡_};
-ghost use Rattle.machine.specs.Answer.{turned};
 ghost use Rattle.rig.specs.Face.{checkAnswer, startAnswer, turnAnswer, startBytes, turnBytes};
-ghost use Rattle.rig.specs.Rooms.{begun};
 ghost use Rattle.load.specs.Check.{checkOf};
-
-// Start on bytes. It reads no readings and has no sinks.
-fn start_bytes(program: &[u8], memory: &mut [u8]) -> Turned
-    ensures answer { λ r. ⌜ r ≡ begun (startBytes (now (program .entry)) (now (memory .entry)) .answer) ⌝ }
-    ensures memory { λ _. ⌜ now (memory .exit) ≡ startBytes (now (program .entry)) (now (memory .entry)) .memory ⌝ }
-{
-    let readings = [0u32; 1];
-    let mut sinks = [0u32; 1];
-    call_sized(Call::Start, program, memory, &readings, &mut sinks)
-}
 
 // Check.
 #[no_mangle]
@@ -30,14 +19,15 @@ pub extern "C" fn remus_check(program: &[u8]) -> u64
     pack(c.number(), c.place())
 }
 
-// Start.
+// Start. It takes no readings and has no sinks.
 #[no_mangle]
 pub extern "C" fn remus_start(program: &[u8], memory: &mut [u8]) -> u64
     ensures answer { λ r. ⌜ r ≡ startAnswer (startBytes (now (program .entry)) (now (memory .entry))) ⌝ }
     ensures memory { λ _. ⌜ now (memory .exit) ≡ startBytes (now (program .entry)) (now (memory .entry)) .memory ⌝ }
 {
-    let t = start_bytes(program, memory);
-    pack(t.number(), t.place())
+    let readings = [0u32; 1];
+    let mut sinks = [0u32; 1];
+    call_sized(Call::Start, program, memory, &readings, &mut sinks)
 }
 
 // A turn.
@@ -58,6 +48,7 @@ pub extern "C" fn remus_turn(
         let t = turnBytes (now (program .entry)) (now (memory .entry)) (now (readings .entry)) (now (sinks .entry)) in
         ⌜ now (sinks .exit) ≡ t .sinkSpace ⌝ }
 {
-    let t = turn_bytes(program, memory, readings, sinks);
-    pack(t.number(), t.place())
+    let n = least(sinks.len() / 4, MOST_WORDS);
+    let mut room = [0u32; MOST_WORDS];
+    sink_in(&mut room[..n], program, memory, readings, sinks)
 }

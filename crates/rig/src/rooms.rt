@@ -3,44 +3,25 @@
 use crate::Call;
 use crate::bytes::load;
 use crate::bytes::save;
-use load::Refusal;
-use machine::Started;
-use machine::Turned;
-use machine::start;
-use machine::turn;
+use crate::pack::with_place;
+use crate::words::remus_start_words;
+use crate::words::remus_turn_words;
 ghost use mathlib.Core.Path.{_≡_};
 ghost use Prim.Native.Nat.{_/_, _≤_};
 ghost use lib.ListN.{length};
-ghost use Rattle.machine.specs.Answer.{turned};
-ghost use Rattle.rig.specs.Rooms.{begun, callOf, callBytes, ofWords, withWords};
+ghost use Rattle.rig.specs.Rooms.{faced, callOf, callHeld};
 
 const MOST_WORDS: usize = 16384;
 
-// Start's answer as a turn's.
-fn as_turned(s: Started) -> Turned
-    ensures { λ r. ⌜ r ≡ begun s ⌝ }
-{
-    match s {
-        Started::Ready(u) => Turned::Done(u),
-        Started::Refused(w) => Turned::Refused(w),
-    }
-}
-
 // The call on words.
-fn call(
-    what: Call,
-    program: &[u8],
-    memory: &mut [u32],
-    readings: &[u32],
-    sinks: &mut [u32],
-) -> Turned
+fn call(what: Call, program: &[u8], memory: &mut [u32], readings: &[u32], sinks: &mut [u32]) -> u64
     ensures { λ r.
         let t = callOf what (now (program .entry)) (now (memory .entry)) (now (readings .entry)) (now (sinks .entry)) in
-        ⌜ turned r (now (memory .exit)) (now (sinks .exit)) ≡ t ⌝ }
+        ⌜ faced r (now (memory .exit)) (now (sinks .exit)) ≡ t ⌝ }
 {
     match what {
-        Call::Start => as_turned(start(program, memory)),
-        Call::Turn => turn(program, memory, readings, sinks),
+        Call::Start => remus_start_words(program, memory),
+        Call::Turn => remus_turn_words(program, memory, readings, sinks),
     }
 }
 
@@ -52,17 +33,17 @@ fn call_in(
     memory: &mut [u8],
     readings: &[u32],
     sinks: &mut [u32],
-) -> Turned
+) -> u64
     requires { ⌜ length (now room) ≡ length (now memory) / 4 ⌝ }
     ensures { λ r.
         let p = now (program .entry) in
-        let t = callBytes what p (now (memory .entry)) (now (readings .entry)) (now (sinks .entry)) in
-        ⌜ turned r (now (memory .exit)) (now (sinks .exit)) ≡ t ⌝ }
+        let t = callHeld what p (now (memory .entry)) (now (readings .entry)) (now (sinks .entry)) in
+        ⌜ faced r (now (memory .exit)) (now (sinks .exit)) ≡ t ⌝ }
 {
     load(memory, room);
-    let t = call(what, program, room, readings, sinks);
+    let a = call(what, program, room, readings, sinks);
     save(room, memory);
-    t
+    a
 }
 
 // The call in the room's first words.
@@ -73,46 +54,34 @@ fn call_within(
     memory: &mut [u8],
     readings: &[u32],
     sinks: &mut [u32],
-) -> Turned
+) -> u64
     requires { ⌜ length (now memory) / 4 ≤ length (now room) ⌝ }
     ensures { λ r.
         let p = now (program .entry) in
-        let t = callBytes what p (now (memory .entry)) (now (readings .entry)) (now (sinks .entry)) in
-        ⌜ turned r (now (memory .exit)) (now (sinks .exit)) ≡ t ⌝ }
+        let t = callHeld what p (now (memory .entry)) (now (readings .entry)) (now (sinks .entry)) in
+        ⌜ faced r (now (memory .exit)) (now (sinks .exit)) ≡ t ⌝ }
 {
     let n = memory.len() / 4;
     call_in(&mut room[..n], what, program, memory, readings, sinks)
 }
 
-fn in_64(
-    what: Call,
-    program: &[u8],
-    memory: &mut [u8],
-    readings: &[u32],
-    sinks: &mut [u32],
-) -> Turned
+fn in_64(what: Call, program: &[u8], memory: &mut [u8], readings: &[u32], sinks: &mut [u32]) -> u64
     requires { ⌜ length (now memory) / 4 ≤ 64 ⌝ }
     ensures { λ r.
         let p = now (program .entry) in
-        let t = callBytes what p (now (memory .entry)) (now (readings .entry)) (now (sinks .entry)) in
-        ⌜ turned r (now (memory .exit)) (now (sinks .exit)) ≡ t ⌝ }
+        let t = callHeld what p (now (memory .entry)) (now (readings .entry)) (now (sinks .entry)) in
+        ⌜ faced r (now (memory .exit)) (now (sinks .exit)) ≡ t ⌝ }
 {
     let mut room = [0u32; 64];
     call_within(&mut room, what, program, memory, readings, sinks)
 }
 
-fn in_256(
-    what: Call,
-    program: &[u8],
-    memory: &mut [u8],
-    readings: &[u32],
-    sinks: &mut [u32],
-) -> Turned
+fn in_256(what: Call, program: &[u8], memory: &mut [u8], readings: &[u32], sinks: &mut [u32]) -> u64
     requires { ⌜ length (now memory) / 4 ≤ 256 ⌝ }
     ensures { λ r.
         let p = now (program .entry) in
-        let t = callBytes what p (now (memory .entry)) (now (readings .entry)) (now (sinks .entry)) in
-        ⌜ turned r (now (memory .exit)) (now (sinks .exit)) ≡ t ⌝ }
+        let t = callHeld what p (now (memory .entry)) (now (readings .entry)) (now (sinks .entry)) in
+        ⌜ faced r (now (memory .exit)) (now (sinks .exit)) ≡ t ⌝ }
 {
     let mut room = [0u32; 256];
     call_within(&mut room, what, program, memory, readings, sinks)
@@ -124,12 +93,12 @@ fn in_1024(
     memory: &mut [u8],
     readings: &[u32],
     sinks: &mut [u32],
-) -> Turned
+) -> u64
     requires { ⌜ length (now memory) / 4 ≤ 1024 ⌝ }
     ensures { λ r.
         let p = now (program .entry) in
-        let t = callBytes what p (now (memory .entry)) (now (readings .entry)) (now (sinks .entry)) in
-        ⌜ turned r (now (memory .exit)) (now (sinks .exit)) ≡ t ⌝ }
+        let t = callHeld what p (now (memory .entry)) (now (readings .entry)) (now (sinks .entry)) in
+        ⌜ faced r (now (memory .exit)) (now (sinks .exit)) ≡ t ⌝ }
 {
     let mut room = [0u32; 1024];
     call_within(&mut room, what, program, memory, readings, sinks)
@@ -141,12 +110,12 @@ fn in_4096(
     memory: &mut [u8],
     readings: &[u32],
     sinks: &mut [u32],
-) -> Turned
+) -> u64
     requires { ⌜ length (now memory) / 4 ≤ 4096 ⌝ }
     ensures { λ r.
         let p = now (program .entry) in
-        let t = callBytes what p (now (memory .entry)) (now (readings .entry)) (now (sinks .entry)) in
-        ⌜ turned r (now (memory .exit)) (now (sinks .exit)) ≡ t ⌝ }
+        let t = callHeld what p (now (memory .entry)) (now (readings .entry)) (now (sinks .entry)) in
+        ⌜ faced r (now (memory .exit)) (now (sinks .exit)) ≡ t ⌝ }
 {
     let mut room = [0u32; 4096];
     call_within(&mut room, what, program, memory, readings, sinks)
@@ -158,12 +127,12 @@ fn in_8192(
     memory: &mut [u8],
     readings: &[u32],
     sinks: &mut [u32],
-) -> Turned
+) -> u64
     requires { ⌜ length (now memory) / 4 ≤ 8192 ⌝ }
     ensures { λ r.
         let p = now (program .entry) in
-        let t = callBytes what p (now (memory .entry)) (now (readings .entry)) (now (sinks .entry)) in
-        ⌜ turned r (now (memory .exit)) (now (sinks .exit)) ≡ t ⌝ }
+        let t = callHeld what p (now (memory .entry)) (now (readings .entry)) (now (sinks .entry)) in
+        ⌜ faced r (now (memory .exit)) (now (sinks .exit)) ≡ t ⌝ }
 {
     let mut room = [0u32; 8192];
     call_within(&mut room, what, program, memory, readings, sinks)
@@ -175,38 +144,19 @@ fn in_16384(
     memory: &mut [u8],
     readings: &[u32],
     sinks: &mut [u32],
-) -> Turned
+) -> u64
     requires { ⌜ length (now memory) / 4 ≤ 16384 ⌝ }
     ensures { λ r.
         let p = now (program .entry) in
-        let t = callBytes what p (now (memory .entry)) (now (readings .entry)) (now (sinks .entry)) in
-        ⌜ turned r (now (memory .exit)) (now (sinks .exit)) ≡ t ⌝ }
+        let t = callHeld what p (now (memory .entry)) (now (readings .entry)) (now (sinks .entry)) in
+        ⌜ faced r (now (memory .exit)) (now (sinks .exit)) ≡ t ⌝ }
 {
     let mut room = [0u32; 16384];
     call_within(&mut room, what, program, memory, readings, sinks)
 }
 
-// The refusal of a memory of n words, where it is refused for how many they are.
-fn of_words(w: Refusal, n: usize) -> Refusal
-    ensures { λ r. ⌜ r ≡ ofWords n w ⌝ }
-{
-    if w.number() == 8 {
-        return Refusal::MemoryLength(n);
-    }
-    w
-}
-
-fn with_words(t: Turned, n: usize) -> Turned
-    ensures { λ r. ⌜ r ≡ withWords n t ⌝ }
-{
-    match t {
-        Turned::Done(u) => Turned::Done(u),
-        Turned::Refused(w) => Turned::Refused(of_words(w, n)),
-    }
-}
-
 // The call in the smallest room that will do. More words than any room has are refused as none are, but
-// for their number. That it calls itself keeps the compiler from merging the functions above into it:
+// for 8's place. That it calls itself keeps the compiler from merging the functions above into it:
 // their rooms would then all stand in its frame.
 pub(crate) fn call_sized(
     what: Call,
@@ -214,16 +164,16 @@ pub(crate) fn call_sized(
     memory: &mut [u8],
     readings: &[u32],
     sinks: &mut [u32],
-) -> Turned
+) -> u64
     ensures { λ r.
         let p = now (program .entry) in
-        let t = callBytes what p (now (memory .entry)) (now (readings .entry)) (now (sinks .entry)) in
-        ⌜ turned r (now (memory .exit)) (now (sinks .exit)) ≡ t ⌝ }
+        let t = callHeld what p (now (memory .entry)) (now (readings .entry)) (now (sinks .entry)) in
+        ⌜ faced r (now (memory .exit)) (now (sinks .exit)) ≡ t ⌝ }
 {
     let n = memory.len() / 4;
     if MOST_WORDS < n {
-        let t = call_sized(what, program, &mut memory[..0], readings, sinks);
-        return with_words(t, n);
+        let a = call_sized(what, program, &mut memory[..0], readings, sinks);
+        return with_place(a, 8, n);
     }
     if n <= 64 {
         return in_64(what, program, memory, readings, sinks);

@@ -2,52 +2,36 @@
 use crate::bytes::load;
 use crate::bytes::save;
 use crate::readings::turn_read;
-use machine::Turned;
 ghost use mathlib.Core.Path.{_≡_};
 ghost use Prim.Native.Nat.{_/_, min};
 ghost use lib.ListN.{length};
-ghost use Rattle.machine.specs.Answer.{turned};
 ghost use Rattle.rig.specs.Face.{turnBytes};
+ghost use Rattle.rig.specs.Rooms.{faced, turnFaced};
 
 // A pair for each sink that a main can have.
-const MOST_WORDS: usize = 14;
+pub(crate) const MOST_WORDS: usize = 14;
 
-fn least(a: usize, b: usize) -> usize
+pub(crate) fn least(a: usize, b: usize) -> usize
     ensures { λ r. ⌜ r ≡ min a b ⌝ }
 {
     if a < b { a } else { b }
 }
 
-fn sink_in(
+// A turn with the first words of the sink space, all that there are or 14.
+pub(crate) fn sink_in(
     room: &mut [u32],
     program: &[u8],
     memory: &mut [u8],
     readings: &[u8],
     sinks: &mut [u8],
-) -> Turned
+) -> u64
     requires { ⌜ length (now room) ≡ min (length (now sinks) / 4) 14 ⌝ }
     ensures { λ r.
         let t = turnBytes (now (program .entry)) (now (memory .entry)) (now (readings .entry)) (now (sinks .entry)) in
-        ⌜ turned r (now (memory .exit)) (now (sinks .exit)) ≡ t ⌝ }
+        ⌜ faced r (now (memory .exit)) (now (sinks .exit)) ≡ turnFaced t ⌝ }
 {
     load(sinks, room);
-    let t = turn_read(program, memory, readings, room);
+    let a = turn_read(program, memory, readings, room);
     save(room, sinks);
-    t
-}
-
-// A turn on bytes.
-pub(crate) fn turn_bytes(
-    program: &[u8],
-    memory: &mut [u8],
-    readings: &[u8],
-    sinks: &mut [u8],
-) -> Turned
-    ensures { λ r.
-        let t = turnBytes (now (program .entry)) (now (memory .entry)) (now (readings .entry)) (now (sinks .entry)) in
-        ⌜ turned r (now (memory .exit)) (now (sinks .exit)) ≡ t ⌝ }
-{
-    let n = least(sinks.len() / 4, MOST_WORDS);
-    let mut room = [0u32; MOST_WORDS];
-    sink_in(&mut room[..n], program, memory, readings, sinks)
+    a
 }

@@ -1,23 +1,28 @@
-use Rattle.rig.proofs.Facing.{turn-faced}
+use Rattle.rig.proofs.Facing.{turn-told}
 use borrow.Author.Needs.{needs}
+use lib.Seq.{length-take-le}
+use mathlib.Core.Path.{sym, _∙_}
+use native.Mathlib.Omega.{arith}
 use Rattle.rig.proofs.calls.remus_turn.Statement.{statement}
 use Rattle.rig.proofs.calls.remus_turn.Tie as tie
 
+slice-aggregate-sink-in : tie.Need-slice-aggregate-sink-in
+slice-aggregate-sink-in c = sym (length-take-le _ _ (omega arith))
+
+sink-in-requires : tie.Need-sink-in-requires
+sink-in-requires c κs = length-take-le _ _ (omega arith) ∙ c .before .before .before .least .ensures
+
 returns : tie.Need-returns
-returns c =
-    let at-turn = c .before .before .before .before .before .before .before .turn-bytes in
-    let number = c .before .before .number in
-    let place = c .before .place in
-    turn-faced (c .pack .ensures) _ _ _ _ (at-turn .ensures) (number .ensures) (place .ensures)
+returns c = turn-told _ _ _ _ (c .before .before .before .before .before .sink-in .ensures)
 
 pub remus-turn-spec : {M : Type 1} → statement M
 remus-turn-spec =
     tie.close
     (tie.spec
     (λ c κs. search needs)
-    (λ c κs. search needs)
-    (λ c κs. search needs)
-    (λ c κs. search needs)
+    (λ c. search needs)
+    slice-aggregate-sink-in
+    sink-in-requires
     (λ c. search needs)
     (λ c. search needs)
     returns)

@@ -11,7 +11,7 @@ returns : tie.Need-returns
 returns c =
     let at-read = c .before .before .before .before .before .before in
     let at-if = at-read .before .before .before .before in
-    too-many _ _ _ _ _ _ _ (at-if .if1 .taken) refl _ _ (at-read .read-in .ensures) (c .with-readings .ensures)
+    too-many _ _ _ _ _ _ _ (at-if .if1 .taken) refl _ _ (at-read .read-in .ensures) (c .with-place .ensures)
 
 slice-aggregate-read-in-2 : tie.Need-slice-aggregate-read-in-2
 slice-aggregate-read-in-2 c = sym (length-take-le _ _ (omega arith))

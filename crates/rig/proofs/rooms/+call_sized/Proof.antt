@@ -17,7 +17,7 @@ use Rattle.rig.proofs.rooms.in_256.Reads as in-256-reads
 use Rattle.rig.proofs.rooms.in_4096.Reads as in-4096-reads
 use Rattle.rig.proofs.rooms.in_64.Reads as in-64-reads
 use Rattle.rig.proofs.rooms.in_8192.Reads as in-8192-reads
-use Rattle.rig.proofs.rooms.with_words.Reads as with-words-reads
+use Rattle.rig.proofs.pack.with_place.Reads as with-place-reads
 
 -- memory's length
 abbrev μ-call-sized : Measures 4 call-sized-kinds.ps ℕ
@@ -35,8 +35,8 @@ abbrev call-sized-cs : ℕ → call-sized-lts.Claims
 call-sized-cs t = (
   call-sized-below t,
   call-sized.Post,
-  with-words-reads.Asked,
-  with-words-reads.Learnt,
+  with-place-reads.Asked,
+  with-place-reads.Learnt,
   in-64-reads.Asked,
   in-64-reads.Learnt,
   in-256-reads.Asked,
@@ -62,7 +62,7 @@ returns t c =
     let at-slice = at-if .before .before .before in
     let m = at-slice .before .before .args .memory .now in
     too-many _ _ m _ _ _ _ _ (λ i. omega (arith, at-slice .slice-known .given i)) (at-if .if1 .taken) refl _ _
-    (at-self .call-sized .ensures) (c .with-words .ensures)
+    (at-self .call-sized .ensures) (c .with-place .ensures)
 
 pub +call-sized-spec : {M : Type 1} → statement M
 +call-sized-spec = close μ-call-sized λ t. call-sized-lts.spec (call-sized-cs t)

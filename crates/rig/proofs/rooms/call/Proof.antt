@@ -1,30 +1,28 @@
-use Rattle.image.specs.Answer.{started}
-use Rattle.machine.specs.Answer.{turned}
-use Rattle.rig.specs.Rooms.{callOf}
+use Rattle.rig.proofs.Facing.{turn-one}
+use Rattle.rig.specs.Rooms.{callOf, faced}
 use borrow.Author.Needs.{needs}
 use Rattle.rig.proofs.rooms.call.Statement.{statement}
 use Rattle.rig.proofs.rooms.call.Tie as tie
 
 returns : tie.Need-returns
-unfolding callOf turned started
+unfolding callOf faced
 returns c =
-    let at-told = c .before .before .before .before .before .enum-told in
-    let at-start = c .before .before .before .start in
-    rw (at-told .given .1, c .as-turned .ensures, ← at-start .ensures .0)
+    let at-told = c .before .before .before .before .enum-told in
+    let start = c .before .before .remus-start-words .ensures in
+    rw (at-told .given .1, start .0, start .1)
 
 returns-2 : tie.Need-returns-2
 unfolding callOf
 returns-2 c =
     let at-told = c .before .before .before .before .before .before .before .enum-told2 in
-    let at-turn = c .before .before .before .before .turn in
-    rw (at-told .given .1) (at-turn .ensures .0)
+    let at-turn = c .before .before .before .before .remus-turn-words in
+    rw (at-told .given .1) (turn-one _ _ _ _ (at-turn .ensures))
 
 pub call-spec : {M : Type 1} → statement M
 call-spec =
     tie.close
     (tie.spec
     (λ c. search needs)
-    (λ c κs. search needs)
     (λ c κs. search needs)
     (λ c. search needs)
     (λ c κs. search needs)
