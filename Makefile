@@ -1,5 +1,5 @@
 # rt is the toolchain's one command; target/ is made by it. build/ is what C and Python programs take.
-.PHONY: test run jumps rig shared example install fmt
+.PHONY: test run jumps rig shared example install speed others fmt
 
 CFLAGS ?= -O2
 PREFIX ?= /usr/local
@@ -68,5 +68,21 @@ install: rig
 	@install -m 644 build/libremus.a $(DESTDIR)$(PREFIX)/lib
 	@install -m 644 build/remus.pc $(DESTDIR)$(PREFIX)/lib/pkgconfig
 
+# Prints what a call costs beside hand-written C, the tables of docs/PERFORMANCE.md (speed/README.md).
+# SPEED has the arguments: quick, tsv, runs N.
+SPEED = runs 7
+speed: rig
+	@$(MAKE) -s build/speed/speed
+	@build/speed/speed $(SPEED)
+
+# The same for four rules in the machine and in Lua, LuaJIT and Duktape, where those are installed.
+others: rig
+	@pkg-config --exists lua5.4 luajit duktape || \
+	  { echo "others: needs pkg-config, liblua5.4-dev, libluajit-5.1-dev, duktape-dev"; exit 1; }
+	@$(MAKE) -s build/speed/others
+	@build/speed/others $(SPEED)
+
 fmt:
 	@rt fmt
+
+include speed/build.mk
