@@ -15,8 +15,8 @@
  * Slices. A slice is a pointer and a length. Lengths count bytes; but in the two calls whose names end in _words the
  * lengths of memory, readings and sinks count words.
  *
- *   - A word has 32 bits. In a slice of bytes it is four of them, low byte first, at any address. One to three bytes
- *     past the last whole word are ignored and kept.
+ *   - A word has 32 bits. In a slice of bytes it is four of them, low byte first, at any address. If the length is no
+ *     multiple of four, the one to three last bytes make no word: no call reads them, and none writes them.
  *   - In a slice of words it is a uint32_t, in the processor's own byte order, and the slice is aligned as uint32_t is.
  *   - A slice that a call may write, memory or sinks, must share no byte with another slice of that call.
  *   - The pointer of an empty slice is not used and may be null.

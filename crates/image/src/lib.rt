@@ -33,6 +33,7 @@ pub use tiling::counts_at;
 pub use words::MAIN_AT;
 pub use words::MOST_DEPTH;
 pub use words::MOST_TURNS;
+pub use words::MOST_WORDS;
 pub use words::next;
 pub use words::pair;
 pub use words::pair_within;

@@ -1,15 +1,15 @@
 -- The check's refusals have other numbers than those for lengths of memory and readings.
 -- Assumes nothing.
-use Prim.Native.Nat.{ℕ, _≤_, _<_}
+use Prim.Native.Nat.{ℕ}
 use mathlib.Core.Path.{_≡_, subst, ap}
 use mathlib.Core.List.{List}
-use mathlib.Core.Logic.{_⊎_, inl, inr, _≢_}
+use mathlib.Core.Logic.{inl, inr, _≢_}
 use native.Mathlib.Omega.{arith}
 use Rattle.load.specs.Check.{checkOf, numberOf}
 use Rattle.load.specs.Refusal.{refusalNumber}
 use Rattle.load.specs.Fault.{CheckNumber}
 use Rattle.load.specs.declared.Refusal.{Refusal}
-use Rattle.load.specs.declared.Checked.the-variants.{Accepted, Refused}
+use Rattle.load.specs.declared.Checked.the-variants.{Refused}
 use Rattle.load.proofs.Exact.Faults.{check-numbers}
 
 -- neither 8 nor 10

@@ -1,11 +1,11 @@
 -- A call in a room of words; and a memory of more words than any room has: refused by the check, else 8.
 -- Assumes nothing.
-use Prim.Native.Nat.{ℕ, _+_, _*_, _/_, _≤_, _<_}
+use Prim.Native.Nat.{ℕ, _+_, _/_, _<_}
 use mathlib.Core.Path.{_≡_, refl, sym, ap, _∙_}
-use mathlib.Core.Bool.{Bool, true, false}
+use mathlib.Core.Bool.{false}
 use mathlib.Core.List.{List, [], _++_}
 use native.Mathlib.Omega.{arith}
-use lib.ListN.{length, drop}
+use lib.ListN.{length}
 use Rattle.value.proofs.Tests.{eq×, eq!, no, yes, stops, left×, right×, le×}
 use Rattle.load.specs.Check.{checkOf}
 use Rattle.load.specs.Refusal.{refusalNumber, refusalPlace}
@@ -13,7 +13,7 @@ use Rattle.load.specs.declared.Checked.{Checked}
 use Rattle.load.specs.declared.Checked.the-variants as Check
 use Rattle.load.specs.declared.Refusal.{Refusal}
 use Rattle.load.specs.declared.Refusal.the-variants.{MemoryLength}
-use Rattle.image.specs.Memory.{fewestWords, mostWords}
+use Rattle.image.specs.Memory.{mostWords}
 use Rattle.image.specs.Start.{startOf, startBy, wordsLegal, refused as refused-start}
 use Rattle.remus.specs.Turn.{turnOf, byCheck, refused}
 use Rattle.rig.specs.Words.{wordsOf, bytesOf, holding, packed}

@@ -1,8 +1,9 @@
-// The calls on bytes. One to three bytes past the last whole word of a slice are ignored and kept.
+// The calls on bytes. Where the length of a slice is no multiple of four, its last bytes make no word: no
+// call reads or writes them.
 use crate::Call;
 use crate::pack::pack;
 use crate::rooms::call_sized;
-use crate::sinks::MOST_WORDS;
+use crate::sinks::SINK_WORDS;
 use crate::sinks::least;
 use crate::sinks::sink_in;
 use machine::check;
@@ -48,7 +49,7 @@ pub extern "C" fn remus_turn(
         let t = turnBytes (now (program .entry)) (now (memory .entry)) (now (readings .entry)) (now (sinks .entry)) in
         ⌜ now (sinks .exit) ≡ t .sinkSpace ⌝ }
 {
-    let n = least(sinks.len() / 4, MOST_WORDS);
-    let mut room = [0u32; MOST_WORDS];
+    let n = least(sinks.len() / 4, SINK_WORDS);
+    let mut room = [0u32; SINK_WORDS];
     sink_in(&mut room[..n], program, memory, readings, sinks)
 }

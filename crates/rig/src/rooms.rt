@@ -6,12 +6,11 @@ use crate::bytes::save;
 use crate::pack::with_place;
 use crate::words::remus_start_words;
 use crate::words::remus_turn_words;
+use image::MOST_WORDS;
 ghost use mathlib.Core.Path.{_≡_};
 ghost use Prim.Native.Nat.{_/_, _≤_};
 ghost use lib.ListN.{length};
 ghost use Rattle.rig.specs.Rooms.{faced, callOf, callHeld};
-
-const MOST_WORDS: usize = 16384;
 
 // The call on words.
 fn call(what: Call, program: &[u8], memory: &mut [u32], readings: &[u32], sinks: &mut [u32]) -> u64

@@ -9,7 +9,7 @@ ghost use Rattle.rig.specs.Face.{turnBytes};
 ghost use Rattle.rig.specs.Rooms.{faced, turnFaced};
 
 // A pair for each sink that a main can have.
-pub(crate) const MOST_WORDS: usize = 14;
+pub(crate) const SINK_WORDS: usize = 14;
 
 pub(crate) fn least(a: usize, b: usize) -> usize
     ensures { λ r. ⌜ r ≡ min a b ⌝ }
