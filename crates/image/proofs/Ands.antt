@@ -1,7 +1,6 @@
 -- Tests joined by `and`, one after the other; and a guard that stops at false as one of them.
 -- Assumes nothing.
-use mathlib.Core.Path.{_≡_, refl, sym, _∙_}
-use mathlib.Core.Bool.{Bool, true, false}
+use Rattle.value.specs.Prelude.{_≡_, refl, sym, _∙_, Bool, true, false}
 use Rattle.value.specs.Test.{_and_, guard}
 use Rattle.value.proofs.Tests.{left×, true-and}
 

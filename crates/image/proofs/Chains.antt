@@ -1,17 +1,13 @@
 -- The chain of a branch point: each test of one link, the next link, and the list of its members.
 -- Assumes nothing.
-use Prim.Native.Nat.{ℕ, zero, suc, _+_, _-_, _<_, _≤_}
-use mathlib.Core.Path.{_≡_, refl, sym}
-use mathlib.Core.Bool.{true, false}
-use mathlib.Core.List.{List, [], _∷_}
-use native.Mathlib.Omega.{arith}
-use lib.ListN.{getD, set}
+use Rattle.value.specs.Prelude.{ℕ, zero, suc, _+_, _-_, _≤_, _<_, _≡_, refl, sym, true, false, List, [], _∷_, getD, set}
+use Rattle.value.specs.Prelude.{arith}
 use Rattle.value.specs.Test.{_and_, _<?_, _=?_}
 use Rattle.value.proofs.Tests.{goes, stops, lt!, lt×}
 use Rattle.program.specs.Bytes.{shapeOf}
 use Rattle.image.specs.Memory.{reactor, next}
 use Rattle.image.specs.Passes.{isStart, chainFrom, membersFrom, childrenFrom, over}
-use Rattle.image.specs.Cut.{namedAt}
+use Rattle.image.specs.Contracts.{namedAt}
 use Rattle.image.proofs.Lists.{over-append, over-done}
 
 module _ (p m t : List ℕ) (o s last : ℕ) (seen : List ℕ) (c : ℕ) where
@@ -26,19 +22,23 @@ module _ (p m t : List ℕ) (o s last : ℕ) (seen : List ℕ) (c : ℕ) where
     chain-ends h = rw e (stops _ (lt× (omega arith)) refl)
 
     module _ (above : 0 < c) where
-      pub chain-unlinked : ((o <? c) and (c <? last) and isStart t c) ≡ false → false ≡ chainFrom p m n t o s last seen c
+      pub chain-unlinked : ((o <? c) and (c <? last) and isStart t c) ≡ false
+          → false ≡ chainFrom p m n t o s last seen c
       unfolding chainFrom
       chain-unlinked h = rw e (goes _ _ (lt! above) (stops _ h refl))
 
       module _ (linked : ((o <? c) and (c <? last) and isStart t c) ≡ true) (r : ℕ) (its : r ≡ reactor m c) where
-        pub chain-unjoined : ((shapeOf p r =? s) and (getD seen r 0 =? 0)) ≡ false → false ≡ chainFrom p m n t o s last seen c
+        pub chain-unjoined : ((shapeOf p r =? s) and (getD seen r 0 =? 0)) ≡ false
+            → false ≡ chainFrom p m n t o s last seen c
         unfolding chainFrom
         chain-unjoined h = rw e (goes _ _ (lt! above) (goes _ _ linked (stops _ (rw its at h) refl)))
 
-        pub chain-next : (seen₁ : List ℕ) (c₁ : ℕ) → ((shapeOf p r =? s) and (getD seen r 0 =? 0)) ≡ true → seen₁ ≡ set seen r 1 → c₁ ≡ next m c
+        pub chain-next : (seen₁ : List ℕ) (c₁ : ℕ)
+            → ((shapeOf p r =? s) and (getD seen r 0 =? 0)) ≡ true → seen₁ ≡ set seen r 1 → c₁ ≡ next m c
             → chainFrom p m k t o s c seen₁ c₁ ≡ chainFrom p m n t o s last seen c
         unfolding chainFrom
-        chain-next seen₁ c₁ h a b = rw (e, a, b, its) (goes _ _ (lt! above) (goes _ _ linked (goes _ _ (rw its at h) refl)))
+        chain-next seen₁ c₁ h a b =
+            rw (e, a, b, its) (goes _ _ (lt! above) (goes _ _ linked (goes _ _ (rw its at h) refl)))
 
 module _ (p m : List ℕ) (c : ℕ) where
   pub members-end : (n : ℕ) → c < 1 → membersFrom p m n c ≡ []

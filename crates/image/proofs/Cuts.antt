@@ -1,30 +1,28 @@
 -- A D command by its two bytes, a deployment's children, a pass, and the ladder of soundness as the code climbs it.
 -- Assumes nothing.
-use Prim.Native.Nat.{ℕ, _+_, _-_}
-use mathlib.Core.Path.{_≡_, refl, sym, ap, _∙_}
-use mathlib.Core.Bool.{Bool, true, false}
-use mathlib.Core.List.{List}
-use mathlib.Core.Logic.{⊎-elim}
-use native.Mathlib.Omega.{arith}
-use lib.ListN.{replicate}
+use Rattle.value.specs.Prelude.{ℕ, _+_, _-_, _≡_, refl, sym, _∙_, ap, ⊎-elim, Bool, true, false, List, replicate, arith}
 use Rattle.value.specs.Test.{_and_, _=?_}
 use Rattle.value.proofs.Tests.{goes, stops, eq!, eq×, le?, both?, same?}
-use Rattle.program.specs.Bytes.{reactors, declared, mainOf}
+use Rattle.program.specs.Bytes.{reactors, commandsD, mainOf}
 use Rattle.program.specs.Command.{Made, madeBy, cmdOf}
 use Rattle.program.specs.Location.{commandLoc, sizeOf}
 use Rattle.image.specs.Memory.{mainAt, used, turns, reactor, wired, next, content, zeroAt, startsBelow}
-use Rattle.image.specs.Passes.{sound, unsound, tableBytes, lowest, over, withEntry, blankTable, visit, tableAfter, fits, membersFrom, namedBy, childrenFrom, childrenOf, lowestUnfit, freshSound, grownSound, byTurns, framed, soundOf}
-use Rattle.image.specs.Cut.{madeOf, SlotOf, Tiling, startsOn}
+use Rattle.image.specs.Passes.{tableBytes, lowest, over, withTableByte, blankTable, visit, tableAfter, fits}
+use Rattle.image.specs.Passes.{membersFrom, namedBy, childrenFrom, childrenOf, lowestUnfit, freshSound}
+use Rattle.image.specs.Passes.{grownSound, byTurns, framed, soundOf}
+use Rattle.image.specs.declared.Judged.the-variants.{Sound, Unsound}
+use Rattle.image.specs.Contracts.{madeOf, SlotOf, Tiling, startsOn}
 use Rattle.image.specs.declared.DSlot.{DSlot}
 use Rattle.image.specs.declared.Pass.{Pass}
-use Rattle.image.proofs.Made.{made-mono, made-point, made-cell, made-other}
+use Rattle.image.proofs.MadeByBytes.{made-mono, made-point, made-cell, made-other}
 
 module _ (p m : List ℕ) (f : List ℕ → ℕ → List ℕ) (t : List ℕ) (o l code x c : ℕ) (holds : c ≡ content p m o l) where
   pub step-mono : (t₁ : List ℕ) → code ≡ 1 → t₁ ≡ f t c → t₁ ≡ over f t (namedBy p m o l (madeOf code x))
   unfolding over namedBy
   step-mono t₁ e h = rw (← made-mono code x e, ← holds) h
 
-  pub step-point : (t₁ : List ℕ) → code ≡ 2 → t₁ ≡ over f t (membersFrom p m (reactors p) c) → t₁ ≡ over f t (namedBy p m o l (madeOf code x))
+  pub step-point : (t₁ : List ℕ) → code ≡ 2 → t₁ ≡ over f t (membersFrom p m (reactors p) c)
+      → t₁ ≡ over f t (namedBy p m o l (madeOf code x))
   unfolding namedBy
   step-point t₁ e h = rw (← made-point code x e, ← holds) h
 
@@ -38,16 +36,18 @@ pub by-slot : {A : Type 0} (F : ℕ → Made → A) (p m : List ℕ) (o j : ℕ)
     → F (s .location) (madeOf (s .code) (s .x)) ≡ F (commandLoc p (reactor m o) j) (madeBy (cmdOf p (reactor m o) j))
 by-slot F p m o j s e = rw (e .located, e .makes)
 
-pub children-first : (p m : List ℕ) (f : List ℕ → ℕ → List ℕ) (t : List ℕ) (o n : ℕ) → n ≡ declared p (reactor m o)
+pub children-first : (p m : List ℕ) (f : List ℕ → ℕ → List ℕ) (t : List ℕ) (o n : ℕ) → n ≡ commandsD p (reactor m o)
     → over f t (childrenFrom p m (n - 0) 0 o) ≡ over f t (childrenOf p m o)
 unfolding childrenOf
-children-first p m f t o n e = let d : n - 0 ≡ declared p (reactor m o) = omega arith in rw d
+children-first p m f t o n e = let d : n - 0 ≡ commandsD p (reactor m o) = omega arith in rw d
 
 -- a pass: t is its table before the visits, t₁ after them
-pub pass-run : (p m : List ℕ) (pass : Pass) (t t₁ s : List ℕ) {r : ℕ} → t ≡ withEntry (replicate tableBytes 0) mainAt 1 → t₁ ≡ over (visit p m pass) t s
+pub pass-run : (p m : List ℕ) (pass : Pass) (t t₁ s : List ℕ) {r : ℕ}
+    → t ≡ withTableByte (replicate tableBytes 0) mainAt 1 → t₁ ≡ over (visit p m pass) t s
     → r ≡ lowest (fits p m pass t₁) s → r ≡ lowestUnfit p m pass s
 unfolding lowestUnfit tableAfter blankTable
-pass-run p m pass t t₁ s a b h = h ∙ ap (λ (t : List ℕ). lowest (fits p m pass t) s) (b ∙ ap (λ (t : List ℕ). over (visit p m pass) t s) a)
+pass-run p m pass t t₁ s a b h = h
+    ∙ ap (λ (t : List ℕ). lowest (fits p m pass t) s) (b ∙ ap (λ (t : List ℕ). over (visit p m pass) t s) a)
 
 module _ (p m : List ℕ) where
   -- with turns 0, by main's size
@@ -55,25 +55,25 @@ module _ (p m : List ℕ) where
     abbrev Clear : Bool
     Clear = (wired m mainAt =? 0) and zeroAt m (mainAt + 3) (size - 3)
 
-    pub main-unfresh : Clear ≡ false → unsound mainAt ≡ freshSound p m
+    pub main-unfresh : Clear ≡ false → Unsound mainAt ≡ freshSound p m
     unfolding freshSound
     main-unfresh e = rw (← sized) (stops _ e refl)
 
-    pub main-followed : Clear ≡ true → (used m ≡ mainAt + size → ⊥) → unsound (mainAt + size) ≡ freshSound p m
+    pub main-followed : Clear ≡ true → (used m ≡ mainAt + size → ⊥) → Unsound (mainAt + size) ≡ freshSound p m
     unfolding freshSound
     main-followed e d = rw (← sized) (goes _ _ e (stops _ (eq× d) refl))
 
-    pub main-alone : Clear ≡ true → used m ≡ mainAt + size → sound ≡ freshSound p m
+    pub main-alone : Clear ≡ true → used m ≡ mainAt + size → Sound ≡ freshSound p m
     unfolding freshSound
     main-alone e f = rw (← sized) (goes _ _ e (goes _ _ (eq! f) refl))
 
   -- the ladder
-  pub unframed : framed p m ≡ false → unsound 0 ≡ soundOf p m
+  pub unframed : framed p m ≡ false → Unsound 0 ≡ soundOf p m
   unfolding soundOf
   unframed e = stops _ e refl
 
   module _ (right : framed p m ≡ true) where
-    pub chained : (next m mainAt ≡ 0 → ⊥) → unsound mainAt ≡ soundOf p m
+    pub chained : (next m mainAt ≡ 0 → ⊥) → Unsound mainAt ≡ soundOf p m
     unfolding soundOf
     chained d = goes _ _ right (stops _ (eq× d) refl)
 

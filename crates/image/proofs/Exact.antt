@@ -1,4 +1,4 @@
--- Exact soundness: the ladder of the passes comes to `sound` where the image is sound. Where else it stops is in Place.
+-- Exact soundness: the ladder of the passes comes to `Sound` where the image is sound. Where else it stops is in Place.
 pub mod Lists
 pub mod Tables
 pub mod Tiling
@@ -9,13 +9,8 @@ pub mod Names
 pub mod Depths
 pub mod Rungs
 pub mod Place
-use Prim.Native.Nat.{ℕ, _≤_}
-use mathlib.Core.Path.{_≡_, refl, sym, ap, subst}
-use mathlib.Core.Bool.{Bool, true, false}
-use mathlib.Core.Logic.{_↔_, ⊎-elim, _≢_}
-use mathlib.Core.List.{List}
-use native.Mathlib.Omega.{arith}
-use lib.ListN.{length}
+use Rattle.value.specs.Prelude.{ℕ, _≤_, _≡_, refl, sym, ap, subst, ⊎-elim, _↔_, _≢_, Bool, true, false, List, length}
+use Rattle.value.specs.Prelude.{arith}
 use Rattle.value.specs.Test.{guard, _=?_}
 use Rattle.value.specs.Value.{blank}
 use Rattle.value.proofs.Tests.{eq!, eq?, eq×?, guards}
@@ -23,16 +18,20 @@ use Rattle.program.specs.Bytes.{mainOf}
 use Rattle.program.specs.Location.{sizeOf, HasSlot}
 use Rattle.load.specs.Rules.{Rules}
 use Rattle.image.specs.Memory.{mostWords, mainAt, turns, reactor, next, valueAt, sizeAt}
-use Rattle.image.specs.Sound.{Deployed, InD, Fresh, Grown, Sound}
-use Rattle.image.specs.Passes.{Judged, sound, unsound, freshSound, grownSound, byTurns, soundOf, ExactSoundness}
+use Rattle.image.specs.Sound.{Deployed, InD, Fresh, Grown, SoundImage}
+use Rattle.image.specs.Passes.{freshSound, grownSound, byTurns, soundOf, ExactSoundness}
+use Rattle.image.specs.declared.Judged.{Judged}
+use Rattle.image.specs.declared.Judged.the-variants.{Sound, Unsound}
 use Rattle.image.specs.Fault.{Framed, Own, FreshMain, All}
 use Rattle.image.proofs.Memory.Tiles.{in-to, in-next}
 use Rattle.image.proofs.Exact.Tiling.{Laid, starts}
-use Rattle.image.proofs.Exact.Rungs.{unsound-not, framed-says, framed-laid, main-says, own-says, named-says, depth-says}
+use Rattle.image.proofs.Exact.Rungs.{unsound-not, framed-says, framed-laid, main-says, own-says, named-says}
+use Rattle.image.proofs.Exact.Rungs.{depth-says}
 
--- a ladder ends in `sound` where each test passes
-ladder : (t : Bool) (n : ℕ) (more : Unit {0} → Judged) → (guard t (unsound n) more ≡ sound) ↔ ((t ≡ true) × (more tt ≡ sound))
-ladder t n more = guards (λ (j : Judged). j ≡ sound) t (unsound n) more (unsound-not n)
+-- a ladder ends in `Sound` where each test passes
+ladder : (t : Bool) (n : ℕ) (more : Unit {0} → Judged) →
+    (guard t (Unsound n) more ≡ Sound) ↔ ((t ≡ true) × (more tt ≡ Sound))
+ladder t n more = guards (λ (j : Judged). j ≡ Sound) t (Unsound n) more (unsound-not n)
 
 module _ (p m : List ℕ) where
   -- "all slots but D slots are zero"
@@ -41,7 +40,7 @@ module _ (p m : List ℕ) where
 
   -- ---- turns 0
 
-  fresh-test : reactor m mainAt ≡ mainOf p → next m mainAt ≡ 0 → (freshSound p m ≡ sound) ↔ Fresh p m
+  fresh-test : reactor m mainAt ≡ mainOf p → next m mainAt ≡ 0 → (freshSound p m ≡ Sound) ↔ Fresh p m
   unfolding freshSound
   fresh-test first last =
       let w = main-says p m first last in (
@@ -66,7 +65,7 @@ module _ (p m : List ℕ) where
   module _ (laid : Laid p m) (first : reactor m mainAt ≡ mainOf p) (last : next m mainAt ≡ 0) where
     -- ---- turns above 0
 
-    grown-test : (grownSound p m (starts p m) ≡ sound) ↔ (((d : ℕ) → Deployed p m d → Empty d) × Grown p m)
+    grown-test : (grownSound p m (starts p m) ≡ Sound) ↔ (((d : ℕ) → Deployed p m d → Empty d) × Grown p m)
     unfolding grownSound
     grown-test =
         let owns = own-says p m laid last in (
@@ -117,7 +116,7 @@ module _ (p m : List ℕ) where
       fresh : turns m ≡ 0 → Fresh p m
       grown : turns m ≢ 0 → Grown p m
 
-    turns-test : (t : Bool) → (turns m =? 0) ≡ t → (byTurns p m t ≡ sound) ↔ ByTurns
+    turns-test : (t : Bool) → (turns m =? 0) ≡ t → (byTurns p m t ≡ Sound) ↔ ByTurns
     unfolding byTurns
     turns-test true q =
         let w = fresh-test first last in (
@@ -174,5 +173,6 @@ exact-soundness p few m small = (
 )
 
 -- the same, of a program that keeps the rules
-pub rules-soundness : (p : List ℕ) → Rules p → (m : List ℕ) → length m ≤ mostWords → (soundOf p m ≡ sound) ↔ Sound p m
+pub rules-soundness : (p : List ℕ) → Rules p → (m : List ℕ) → length m ≤ mostWords →
+    (soundOf p m ≡ Sound) ↔ SoundImage p m
 rules-soundness p rules = exact-soundness p (rules .tables .header .few-reactors)

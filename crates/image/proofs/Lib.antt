@@ -1,9 +1,10 @@
+pub mod Whole
 pub mod Ands
 pub mod Zeros
 pub mod Tiles
 pub mod Lists
 pub mod Chains
-pub mod Made
+pub mod MadeByBytes
 pub mod Positions
 pub mod Cuts
 pub mod Merging

@@ -1,9 +1,6 @@
 -- Folds and first faults over a list, one element at a time.
 -- Assumes nothing.
-use Prim.Native.Nat.{ℕ}
-use mathlib.Core.Path.{_≡_, refl}
-use mathlib.Core.Bool.{Bool, true, false}
-use mathlib.Core.List.{List, [], _∷_, _++_}
+use Rattle.value.specs.Prelude.{ℕ, _≡_, refl, Bool, true, false, List, [], _∷_, _++_}
 use Rattle.value.proofs.Tests.{goes, stops}
 use Rattle.image.specs.Passes.{lowest, over}
 

@@ -1,5 +1,5 @@
--- Words of memory under change: tiling, the three changes (a slot stored, a deployment placed, a deployment wired), what stays alike
--- when slots are cleared, and what start leaves. Assumes nothing.
+-- Words of memory under change: tiling, the three changes (a slot stored, a deployment placed, a deployment wired),
+-- what stays alike when slots are cleared, and what start leaves. Assumes nothing.
 pub mod Tiles
 pub mod Changes
 pub mod Slots

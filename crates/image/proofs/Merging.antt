@@ -1,24 +1,23 @@
 -- The sweep's table beside those of the passes: a child named, children one after the other, deployments one after the
 -- other, and the tables before the first. A sweep that comes to its end shows that no pass finds a fault.
 -- Assumes nothing.
-use Prim.Native.Nat.{ℕ, _+_, _-_, _/_, _%_, _≤_, _<_}
-use mathlib.Core.Path.{_≡_, refl, sym, ap, _∙_}
-use mathlib.Core.Bool.{Bool, true, false, _&&_, _||_}
+use Rattle.value.specs.Prelude.{ℕ, _+_, _-_, _/_, _%_, _≤_, _<_, _≡_, refl, sym, _∙_, ap, ⊎-elim, _≢_, Bool, true}
+use Rattle.value.specs.Prelude.{false, _&&_, _||_, List, [], _∷_, _++_, length, getD, set, replicate, arith}
 use lib.Dec.{ltb, eqb}
-use mathlib.Core.List.{List, [], _∷_, _++_}
-use mathlib.Core.Logic.{⊎-elim, _≢_}
-use native.Mathlib.Omega.{arith}
-use lib.ListN.{length, getD, set, replicate, length-set, length-replicate, List·getD-eq-default}
+use lib.ListN.{length-set, length-replicate, List·getD-eq-default}
 use lib.Seq.{getD-set-same, getD-set-other, set-out}
 use Rattle.value.specs.Test.{_and_, _<?_, _=?_, pick}
-use Rattle.value.proofs.Tests.{same?, below, both!, both?, or×?, lt!, lt×?, le!, eq!, eq?, yes, goes, flags, same-lt, same-eq, same-or}
+use Rattle.value.proofs.Tests.{same?, below, both!, both?, or×?, lt!, lt×?, le!, eq!, eq?, yes, goes, flags, same-lt}
+use Rattle.value.proofs.Tests.{same-eq, same-or}
 use Rattle.program.specs.Bytes.{mainOf}
 use Rattle.value.proofs.Zeros.{zeros-at}
 use Rattle.image.specs.Memory.{mainAt, mostTurns, used, turns, reactor, next, allZero, zeroAt}
 use Rattle.image.specs.Passes as P
-use Rattle.image.specs.Passes.{tableBytes, lowest, over, entry, withEntry, blankTable, isStart, name, deepen, visit, fits, ownSound, childrenOf, tableAfter, lowestUnfit, tilesFrom, grownSound, framed, soundOf, sound}
-use Rattle.image.specs.Cut.{startsOn}
-use Rattle.image.specs.Merged.{Merged, Later, Placed, Sweeps, Swept, Begun, Headed, Grown}
+use Rattle.image.specs.Passes.{tableBytes, lowest, over, tableByte, withTableByte, blankTable, isStart, name}
+use Rattle.image.specs.Passes.{deepen, visit, fits, ownSound, childrenOf, tableAfter, lowestUnfit, tilesFrom}
+use Rattle.image.specs.Passes.{grownSound, framed, soundOf}
+use Rattle.image.specs.declared.Judged.the-variants.{Sound}
+use Rattle.image.specs.Contracts.{startsOn, Merged, Later, Placed, Sweeps, Swept, Begun, Headed, Grown}
 use Rattle.image.specs.declared.Pass.{Pass}
 use Rattle.image.specs.declared.Pass.the-variants.{Starts, Names, Depths}
 use Rattle.image.proofs.Lists.{over-append}
@@ -40,7 +39,7 @@ later-then : (t t₁ t₂ : List ℕ) → Later t t₁ → Later t₁ t₂ → L
 later-then t t₁ t₂ f g = record { kept = λ i h. let e = f .kept i h in g .kept i (omega arith) ∙ e }
 
 pub placed-later : (o k : ℕ) (t t₁ : List ℕ) → Placed o k t → Later t t₁ → Placed o k t₁
-unfolding entry
+unfolding tableByte
 placed-later o k t t₁ f g =
     let h = f .held in
     let l = f .least in
@@ -88,26 +87,26 @@ module _ (s n d t : List ℕ) (i b v : ℕ) (f : Merged s n d t) (least : 4 ≤ 
       let m = f .depths in
       record { unnamed = set-unnamed; named = set-named; names = simp length-set l; depths = simp length-set m }
 
-one-deeper : (x : ℕ) → x ≤ 64 → x + 1 ≡ P.below x
-unfolding P.below
+one-deeper : (x : ℕ) → x ≤ 64 → x + 1 ≡ P.oneDeeper x
+unfolding P.oneDeeper
 one-deeper x h = yes _ (le! h) refl
 
 -- the child c of o, not named yet, is named
 module _ (o k last c : ℕ) (t : List ℕ) (at : Placed o k t) (start : isStart t c ≡ true) where
   its-byte : getD t (c / 3) 0 ≡ 1 + c % 3
-  unfolding isStart entry
+  unfolding isStart tableByte
   its-byte = eq? start
 
   linked-holds : o < c → c < last → (s n d : List ℕ) → Merged s n d t
       → ((o <? c) and (c <? last) and isStart s c) ≡ true
-  unfolding isStart entry
+  unfolding isStart tableByte
   linked-holds above low s n d f =
       let e = its-byte in
       let w = f .unnamed (c / 3) (omega arith) (omega arith) in
       both! (lt! above) (both! (lt! low) (eq! (w .0 ∙ e)))
 
-  linked-steps : (s n d : List ℕ) → Merged s n d t → Merged s (name n c) (deepen o d c) (withEntry t c (k + 1))
-  unfolding name deepen withEntry entry
+  linked-steps : (s n d : List ℕ) → Merged s n d t → Merged s (name n c) (deepen o d c) (withTableByte t c (k + 1))
+  unfolding name deepen withTableByte tableByte
   linked-steps s n d f =
       let e = its-byte in
       let l = at .least in
@@ -118,18 +117,18 @@ module _ (o k last c : ℕ) (t : List ℕ) (at : Placed o k t) (start : isStart 
       let z : getD n (c / 3) 0 ≡ 0 = w .1 in
       let q : getD d (o / 3) 0 + 4 ≡ k = v .1 ∙ g in
       let one : 1 ≡ pick (getD n (c / 3) 0 <? 2) (getD n (c / 3) 0 + 1) 2 = yes _ (lt! (omega arith)) (omega arith) in
-      let deep : getD d (o / 3) 0 + 1 ≡ P.below (getD d (o / 3) 0) = one-deeper (getD d (o / 3) 0) (omega arith) in
+      let deep : getD d (o / 3) 0 + 1 ≡ P.oneDeeper (getD d (o / 3) 0) = one-deeper (getD d (o / 3) 0) (omega arith) in
       rw (← one, ← deep) (merged-set s n d t (c / 3) (k + 1) (getD d (o / 3) 0 + 1) f (omega arith) (omega arith)
       (inside t (c / 3) (omega arith)))
 
-  linked-kept : (i : ℕ) → 4 ≤ getD t i 0 → getD (withEntry t c (k + 1)) i 0 ≡ getD t i 0
-  unfolding withEntry
+  linked-kept : (i : ℕ) → 4 ≤ getD t i 0 → getD (withTableByte t c (k + 1)) i 0 ≡ getD t i 0
+  unfolding withTableByte
   linked-kept i h =
       let e = its-byte in
       getD-set-other t (c / 3) i (k + 1) 0
       (λ q. let x : getD t i 0 ≡ 1 + c % 3 = ap (λ (j : ℕ). getD t j 0) q ∙ e in omega arith)
 
-  pub sweeps-link : o < c → c < last → (t₁ : List ℕ) → t₁ ≡ withEntry t c (k + 1)
+  pub sweeps-link : o < c → c < last → (t₁ : List ℕ) → t₁ ≡ withTableByte t c (k + 1)
       → Sweeps o (c ∷ []) (λ s. (o <? c) and (c <? last) and isStart s c) t t₁
   unfolding over
   sweeps-link above low t₁ e =
@@ -173,7 +172,7 @@ module _ (p m : List ℕ) where
 
   module _ (a k : ℕ) (rest t t₁ t₂ : List ℕ) (at : Placed a k t)
       (f : Sweeps a (childrenOf p m a) (λ s. ownSound p m s a) t t₁) (g : Swept p m rest t₁ t₂) where
-    first-deep : (ok : ℕ → Bool) → ((b : ℕ) → 5 ≤ entry t₂ b → entry t₂ b ≤ 68 → ok b ≡ true) → ok a ≡ true
+    first-deep : (ok : ℕ → Bool) → ((b : ℕ) → 5 ≤ tableByte t₂ b → tableByte t₂ b ≤ 68 → ok b ≡ true) → ok a ≡ true
     first-deep ok h =
         let w = placed-later a k t t₂ at (later-then t t₁ t₂ (f .later) (g .later)) in
         let e = w .held in
@@ -233,25 +232,25 @@ marks-set s t i v h f =
 
 module _ (p m : List ℕ) where
   marks-all : (l s t : List ℕ) → Marks s t → Marks (over (visit p m Starts) s l) (over (visit p m Starts) t l)
-  unfolding over visit withEntry
+  unfolding over visit withTableByte
   marks-all [] s t f = f
   marks-all (a ∷ l) s t f = marks-all l _ _ (marks-set s t (a / 3) (1 + a % 3) (omega arith) f)
 
   marks-length : (l t : List ℕ) → length (over (visit p m Starts) t l) ≡ length t
-  unfolding over visit withEntry
+  unfolding over visit withTableByte
   marks-length [] t = refl
   marks-length (a ∷ l) t = marks-length l _ ∙ length-set t (a / 3) (1 + a % 3)
 
 blank-byte : (i : ℕ) → i ≢ 0 → getD blankTable i 0 ≡ 0
-unfolding blankTable withEntry
+unfolding blankTable withTableByte
 blank-byte i h = getD-set-other (replicate tableBytes 0) 0 i 1 0 h ∙ zeros-at tableBytes i
 
 blank-first : getD blankTable 0 0 ≡ 1
-unfolding blankTable withEntry
+unfolding blankTable withTableByte
 blank-first = getD-set-same (replicate tableBytes 0) 0 1 0 (rw (length-replicate {A = ℕ}) (omega arith))
 
 blank-length : length blankTable ≡ tableBytes
-unfolding blankTable withEntry
+unfolding blankTable withTableByte
 blank-length = length-set {A = ℕ} (replicate tableBytes 0) 0 1 ∙ length-replicate {A = ℕ} tableBytes 0
 
 -- main is named as the sweep begins
@@ -286,9 +285,9 @@ merged-first s t f h g =
 
 module _ (p m l t t₁ t₂ : List ℕ) (zeros : t ≡ replicate (length t) 0) (some : 0 < length t)
     (few : length t ≤ tableBytes)
-    (marked : t₁ ≡ over (visit p m Starts) t l) (swept : Swept p m l (withEntry t₁ mainAt 5) t₂) where
-  begun : Merged (tableAfter p m Starts l) blankTable blankTable (withEntry t₁ mainAt 5)
-  unfolding withEntry tableAfter
+    (marked : t₁ ≡ over (visit p m Starts) t l) (swept : Swept p m l (withTableByte t₁ mainAt 5) t₂) where
+  begun : Merged (tableAfter p m Starts l) blankTable blankTable (withTableByte t₁ mainAt 5)
+  unfolding withTableByte tableAfter
   begun =
       let e : length t₁ ≡ length t = ap length marked ∙ marks-length p m l t in
       let f : Marks (over (visit p m Starts) blankTable l) t₁ = rw marked (marks-all p m l blankTable t unmarked) in
@@ -312,11 +311,11 @@ module _ (p m l t t₁ t₂ : List ℕ) (zeros : t ≡ replicate (length t) 0) (
   starts-fit = swept .owns _ _ _ begun
 
   names-fit : lowestUnfit p m Names l ≡ 0
-  unfolding lowestUnfit fits entry
+  unfolding lowestUnfit fits tableByte
   names-fit = swept .deep _ (λ a h g. eq! (ended .named (a / 3) (omega arith) .0))
 
   depths-fit : lowestUnfit p m Depths l ≡ 0
-  unfolding lowestUnfit fits entry
+  unfolding lowestUnfit fits tableByte
   depths-fit = swept .deep _ (λ a h g. let w = ended .named (a / 3) (omega arith) in le! (omega (arith, w .1)))
 
 pub swept-grown : (p m : List ℕ) (u : ℕ) (t b t₂ : List ℕ) → t ≡ replicate (length t) 0 → 0 < length t
@@ -325,7 +324,7 @@ pub swept-grown : (p m : List ℕ) (u : ℕ) (t b t₂ : List ℕ) → t ≡ rep
 swept-grown p m u t b t₂ z s f e h g w =
     let l = startsOn p m u mainAt in
     let t₁ = over (visit p m Starts) t l in
-    let begins : Swept p m l (withEntry t₁ mainAt 5) t₂ = rw (g .marked) at w in
+    let begins : Swept p m l (withTableByte t₁ mainAt 5) t₂ = rw (g .marked) at w in
     let fit : (pass : Pass) → lowestUnfit p m pass (startsOn p m (used m) mainAt) ≡ lowestUnfit p m pass l =
     (λ pass. ap (λ (v : ℕ). lowestUnfit p m pass (startsOn p m v mainAt)) (sym e)) in
     record {
@@ -347,11 +346,11 @@ module _ (p m : List ℕ) (u : ℕ) (its : u ≡ used m) (fits : u ≤ length m)
       rw (← its) (both! (le! fits) (both! (le! (h .few))
       (both! (rw (← its) at (h .first)) (both! (rw (← its) at (g .tiled)) rest))))
 
-  grown-true : sound ≡ grownSound p m (startsOn p m (used m) mainAt)
+  grown-true : Sound ≡ grownSound p m (startsOn p m (used m) mainAt)
   unfolding grownSound
   grown-true = goes _ _ (eq! (g .owns)) (goes _ _ (eq! (g .names)) (goes _ _ (eq! (g .depths)) refl))
 
-  pub grown-sound : soundOf p m ≡ sound
+  pub grown-sound : soundOf p m ≡ Sound
   grown-sound = sym (grown-true ∙ grown-judged p m framed-true (g .head .last) (g .head .late))
 
 -- nothing is past the end

@@ -1,11 +1,6 @@
 -- The table of positions, one reactor further.
 -- Assumes nothing.
-use Prim.Native.Nat.{ℕ, _+_, _<_, _≤_}
-use mathlib.Core.Path.{_≡_, _∙_}
-use mathlib.Core.List.{List}
-use mathlib.Core.Logic.{⊎-elim}
-use native.Mathlib.Omega.{arith}
-use lib.ListN.{length, getD, set}
+use Rattle.value.specs.Prelude.{ℕ, _+_, _≤_, _<_, _≡_, _∙_, ⊎-elim, List, length, getD, set, arith}
 use lib.Seq.{getD-set-same, getD-set-other}
 use Rattle.value.proofs.Tests.{below}
 use Rattle.program.specs.Bytes.{commandsAt}

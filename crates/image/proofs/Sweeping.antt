@@ -1,28 +1,24 @@
 -- What the sweep does for a chain, a D slot, all D slots and a deployment, as the passes' tests and lists say it.
 -- Assumes nothing.
-use Prim.Native.Nat.{ℕ, suc, _+_, _-_, _*_, _≤_, _<_}
-use mathlib.Core.Path.{_≡_, refl, sym, ap, _∙_}
-use mathlib.Core.Bool.{true, false, _||_}
+use Rattle.value.specs.Prelude.{ℕ, suc, _+_, _-_, _*_, _≤_, _<_, _≡_, refl, sym, _∙_, ap, true, false, _||_, List, []}
+use Rattle.value.specs.Prelude.{_∷_, getD, set, replicate, arith}
 use lib.Dec.{ltb}
-use mathlib.Core.List.{List, [], _∷_}
-use native.Mathlib.Omega.{arith}
-use lib.ListN.{getD, set, replicate}
 use Rattle.value.specs.Value.{value, deploymentMark, pointMark}
 use Rattle.value.specs.Test.{_and_, _<?_, _=?_, sweep}
 use Rattle.value.specs.declared.Value.{Value}
 use Rattle.value.proofs.Tests.{both!, both?, eq!, lt×?, or×?, same-or, same-lt}
 use Rattle.value.proofs.Sweeps.{sweep-next, sweep-done}
-use Rattle.program.specs.Bytes.{reactors, declared, shapeOf}
+use Rattle.program.specs.Bytes.{reactors, commandsD, shapeOf}
 use Rattle.program.specs.Command.{Made, deployment, point, held, madeBy, cmdOf}
 use Rattle.program.specs.Kind.{legal}
-use Rattle.program.specs.Location.{commandLoc, sources, slotAt}
+use Rattle.program.specs.Location.{commandLoc, sourceCount, slotAt}
 use Rattle.program.proofs.Slots.{slot-low}
 use Rattle.image.specs.Memory.{word, used, reactor, wired, next, slot, mark, content, valueAt}
-use Rattle.image.specs.Passes.{entry, isStart, chainFrom, membersFrom, slotSound, namedBy, childrenFrom, childrenOf, clearAt, ownSound}
-use Rattle.image.specs.Cut.{madeOf, commandSound}
-use Rattle.image.specs.Merged.{Placed, Sweeps, SlotSwept, SlotsSwept, OwnSwept}
+use Rattle.image.specs.Passes.{tableByte, isStart, chainFrom, membersFrom, slotSound, namedBy, childrenFrom}
+use Rattle.image.specs.Passes.{childrenOf, clearAt, ownSound}
+use Rattle.image.specs.Contracts.{madeOf, commandSound, Placed, Sweeps, SlotSwept, SlotsSwept, OwnSwept}
 use Rattle.image.proofs.Chains.{chain-ends, chain-next, members-end, members-next}
-use Rattle.image.proofs.Made.{made-other}
+use Rattle.image.proofs.MadeByBytes.{made-other}
 use Rattle.image.proofs.Merging.{sweeps-none, sweeps-then, sweeps-as}
 
 -- ---- a chain
@@ -102,14 +98,14 @@ module _ (p m : List ℕ) (o l code x : ℕ) (t : List ℕ) where
 -- ---- all D slots
 
 -- the word at which the slot of D command j of o begins: D slots lie in a row
-pub slot-in-row : (p m : List ℕ) (o j i d : ℕ) → j < declared p (reactor m o)
-    → d ≡ slotAt p (reactor m o) (sources p (reactor m o))
+pub slot-in-row : (p m : List ℕ) (o j i d : ℕ) → j < commandsD p (reactor m o)
+    → d ≡ slotAt p (reactor m o) (sourceCount p (reactor m o))
     → i ≡ o + d + 2 * j → i ≡ slot p m o (commandLoc p (reactor m o) j)
 unfolding slot commandLoc
 slot-in-row p m o j i d h e f =
     let r = reactor m o in
-    let first = slot-low p r (sources p r) (omega arith) in
-    omega (arith, slot-low p r (sources p r + j) (omega arith))
+    let first = slot-low p r (sourceCount p r) (omega arith) in
+    omega (arith, slot-low p r (sourceCount p r + j) (omega arith))
 
 module _ (p m : List ℕ) (o n j : ℕ) (t : List ℕ) where
   pub slots-swept : n ≤ j → j ≤ n → Sweeps o (childrenFrom p m (n - j) j o)
@@ -130,7 +126,7 @@ module _ (p m : List ℕ) (o n j : ℕ) (t : List ℕ) where
       sweeps-then o _ _ _ _ _ _ t t₁ t₂ (rw (e, its) refl)
       (λ r a b. ap (λ (i : ℕ). i =? n) (sweep-next (commandSound p m r o) j n h (rw its at a)) ∙ b) one rest
 
-module _ (p m : List ℕ) (o n : ℕ) (t t₁ : List ℕ) (its : n ≡ declared p (reactor m o)) where
+module _ (p m : List ℕ) (o n : ℕ) (t t₁ : List ℕ) (its : n ≡ commandsD p (reactor m o)) where
   pub slots-all : Sweeps o (childrenFrom p m (n - 0) 0 o)
       (λ (t : List ℕ). sweep (commandSound p m t o) 0 (n - 0) =? n) t t₁
       → SlotsSwept p m o t t₁
@@ -140,13 +136,13 @@ module _ (p m : List ℕ) (o n : ℕ) (t t₁ : List ℕ) (its : n ≡ declared 
 -- ---- a deployment
 
 -- its byte is that of a depth from 1 to 64
-module _ (a k : ℕ) (t : List ℕ) (its : k ≡ entry t a) (tested : (ltb k 5 || ltb 68 k) ≡ false) where
+module _ (a k : ℕ) (t : List ℕ) (its : k ≡ tableByte t a) (tested : (ltb k 5 || ltb 68 k) ≡ false) where
   pub placed-here : Placed a k t
   placed-here =
       let b = or×? (sym (same-or (same-lt refl refl) (same-lt refl refl)) ∙ tested) in
       record { held = sym its; least = lt×? (b .0); most = lt×? (b .1) }
 
-  pub placed-there : Placed a (entry t a) t
+  pub placed-there : Placed a (tableByte t a) t
   placed-there =
       let q = placed-here in
       let l = q .least in

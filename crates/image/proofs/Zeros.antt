@@ -1,13 +1,10 @@
 -- Zero stretches: bits gathered word by word, and parts that reach past the end.
 -- Assumes nothing.
-use Prim.Native.Nat.{ℕ, zero, suc, _+_, _-_, _≤_, _<_}
-use mathlib.Core.Path.{_≡_, refl, sym, ap, _∙_}
-use mathlib.Core.Bool.{Bool, true}
-use mathlib.Core.List.{List, [], _∷_}
-use native.Mathlib.Omega.{arith}
+use Rattle.value.specs.Prelude.{ℕ, zero, suc, _+_, _-_, _≤_, _<_, _≡_, refl, sym, _∙_, ap, Bool, true, List, [], _∷_}
+use Rattle.value.specs.Prelude.{length, getD, take, drop, arith}
 use native.Mathlib.Numerals.{add-one}
 use lib.Bits.{bitOr, bitAnd, or-add-and, and-le-r}
-use lib.ListN.{length, getD, take, drop, length-drop}
+use lib.ListN.{length-drop}
 use lib.Seq.{drop-cons, drop-length, take-all, take-nil}
 use Rattle.value.specs.Test.{_and_, _=?_}
 use Rattle.value.proofs.Tests.{eq!, eq×, left×, true-and}
@@ -37,8 +34,8 @@ module _ (m : List ℕ) where
 
   pub zero-next : (bits i : ℕ) → i < length m → zeroFrom m (bitOr bits (getD m i 0)) (i + 1) ≡ zeroFrom m bits i
   unfolding zeroFrom allZero
-  zero-next bits i h =
-      rw (gathered, add-one, drop-cons m i 0 h) (and-assoc _ _ _ ∙ ap (λ (t : Bool). (bits =? 0) and t) (sym (as-and _ _)))
+  zero-next bits i h = rw (gathered, add-one, drop-cons m i 0 h)
+      (and-assoc _ _ _ ∙ ap (λ (t : Bool). (bits =? 0) and t) (sym (as-and _ _)))
 
   pub zero-done : (bits i : ℕ) → length m ≤ i → i ≤ length m → (bits =? 0) ≡ zeroFrom m bits i
   unfolding zeroFrom allZero

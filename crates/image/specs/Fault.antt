@@ -1,19 +1,16 @@
--- Where an image that is not sound is at fault: the place of refusal 9, 02 (vi). Faults are told apart in this order:
--- the frame, which is words 0 and 1, the tiling with main first, and the words from u on; each deployment's own words;
--- how often each is named; depths. The place of a frame and of a depth is 0, of any other the lowest deployment that
--- has the fault.
-use Prim.Native.Nat.{ℕ, _+_, _≤_, _<_}
-use mathlib.Core.Path.{_≡_}
-use mathlib.Core.Logic.{_↔_, _≢_}
-use mathlib.Core.List.{List}
-use lib.ListN.{length}
+-- 5.19 Where an image that is not sound is at fault. Faults are told apart in this order: the frame, which is words 0
+-- and 1, the tiling with main first, and the words from u on; each deployment's own words; how often each is named;
+-- depths. The place of a frame and of a depth is 0, of any other the lowest deployment that has the fault.
+use Rattle.value.specs.Prelude.{ℕ, _+_, _≤_, _<_, _≡_, _↔_, _≢_, List, length}
 use Rattle.value.specs.Value.{blank}
-use Rattle.program.specs.Bytes.{reactors, mostReactors, declared, mainOf}
+use Rattle.program.specs.Bytes.{reactors, mostReactors, commandsD, mainOf}
 use Rattle.program.specs.Command.{cmdOf, allocMono, makePoly, cell}
 use Rattle.program.specs.Location.{commandLoc, sizeOf, HasSlot}
-use Rattle.image.specs.Memory.{mostWords, mostTurns, mostDepth, mainAt, word, used, turns, reactor, wired, next, valueAt}
+use Rattle.image.specs.Memory.{mostWords, mostTurns, mostDepth, mainAt, word, used, turns, reactor, wired, next}
+use Rattle.image.specs.Memory.{valueAt}
 use Rattle.image.specs.Sound.{Tiles, Deployed, InD, MonoSlot, PointSlot, CellSlot, NamedOnce, Depth}
-use Rattle.image.specs.Passes.{unsound, soundOf}
+use Rattle.image.specs.Passes.{soundOf}
+use Rattle.image.specs.declared.Judged.the-variants.{Unsound}
 
 module _ (p m : List ℕ) where
   pub record Framed : Type 0 where
@@ -27,11 +24,11 @@ module _ (p m : List ℕ) where
   -- the D slots of d: a child or a chain that is wrong is the fault of the deployment whose slot names it, a cell's
   -- content of the one that has it
   pub record SlotsRight (d : ℕ) : Type 0 where
-    pub monos : (j x : ℕ) → j < declared p (reactor m d) → cmdOf p (reactor m d) j ≡ allocMono x →
+    pub monos : (j x : ℕ) → j < commandsD p (reactor m d) → cmdOf p (reactor m d) j ≡ allocMono x →
         MonoSlot p m d (commandLoc p (reactor m d) j) x
-    pub points : (j x : ℕ) → j < declared p (reactor m d) → cmdOf p (reactor m d) j ≡ makePoly x →
+    pub points : (j x : ℕ) → j < commandsD p (reactor m d) → cmdOf p (reactor m d) j ≡ makePoly x →
         PointSlot p m d (commandLoc p (reactor m d) j) x
-    pub cells : (j x v : ℕ) → j < declared p (reactor m d) → cmdOf p (reactor m d) j ≡ cell x v →
+    pub cells : (j x v : ℕ) → j < commandsD p (reactor m d) → cmdOf p (reactor m d) j ≡ cell x v →
         CellSlot p m d (commandLoc p (reactor m d) j) x
 
   -- d's own words, once a turn is completed; of next, main's alone, since another's is its owner's chain
@@ -84,4 +81,4 @@ module _ (p m : List ℕ) where
 abbrev pub ExactPlace : List ℕ → Type 0
 ExactPlace p =
     reactors p ≤ mostReactors → (m : List ℕ) → length m ≤ mostWords →
-    (q : ℕ) → (soundOf p m ≡ unsound q) ↔ FaultAt p m q
+    (q : ℕ) → (soundOf p m ≡ Unsound q) ↔ FaultAt p m q

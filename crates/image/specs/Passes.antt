@@ -1,27 +1,21 @@
--- Soundness by three passes over the deployments. A pass changes a table of bytes for each of them, then asks each whether it is fit:
--- where deployments begin, how often each is named, how deep each is. Each pass reads each deployment's words, and each chain's, once.
--- The ladder of soundOf is the order in which faults are found.
-use Prim.Native.Nat.{ℕ, zero, suc, _+_, _-_, _/_, _%_, _≤_}
-use mathlib.Core.Path.{_≡_}
-use mathlib.Core.Logic.{_↔_}
-use mathlib.Core.Bool.{Bool, true, false}
-use mathlib.Core.List.{List, [], _∷_, _++_}
-use lib.ListN.{length, getD, set, replicate}
+-- Soundness by three passes over the deployments. A pass changes a table of bytes for each of them, then asks each
+-- whether it is fit: where deployments begin, how often each is named, how deep each is. Each pass reads each
+-- deployment's words, and each chain's, once. The ladder of soundOf is the order in which faults are found.
+use Rattle.value.specs.Prelude.{ℕ, zero, suc, _+_, _-_, _/_, _%_, _≤_, _≡_, _↔_, Bool, true, false, List, [], _∷_, _++_}
+use Rattle.value.specs.Prelude.{length, getD, set, replicate}
 use Rattle.value.specs.Test.{_and_, pick, _<?_, _≤?_, _=?_, guard, sweep}
 use Rattle.value.specs.Value.{deploymentMark, pointMark}
-use Rattle.program.specs.Bytes.{reactors, shapeOf, declared, mainOf, mostReactors}
-use Rattle.program.specs.Command.{Made, deployment, point, held, nothing, madeBy, cmdOf}
-use Rattle.program.specs.Location.{commandLoc, sizeOf}
+use Rattle.program.specs.Bytes.{reactors, shapeOf, commandsD, mainOf, mostReactors}
+use Rattle.program.specs.Command.{Made, deployment, point, held, nought, madeBy, cmdOf}
+use Rattle.program.specs.Location.{headWords, commandLoc, sizeOf}
 use Rattle.program.specs.Kind.{legal}
-use Rattle.image.specs.Sound.{Sound}
-use Rattle.image.specs.Memory.{mostWords, mostTurns, mostDepth, mainAt, used, turns, reactor, wired, next, zeroAt, mark, content, valueAt, sizeAt, startsBelow, slotsD, slotsR}
+use Rattle.image.specs.Sound.{SoundImage}
+use Rattle.image.specs.Memory.{mostWords, mostTurns, mostDepth, mainAt, used, turns, reactor, wired, next, zeroAt}
+use Rattle.image.specs.Memory.{mark, content, valueAt, sizeAt, startsBelow, slotsD, slotsR}
+use Rattle.image.specs.declared.Judged.{Judged}
+use Rattle.image.specs.declared.Judged.the-variants.{Sound, Unsound}
 use Rattle.image.specs.declared.Pass.{Pass}
 use Rattle.image.specs.declared.Pass.the-variants.{Starts, Names, Depths}
-
--- sound, or the place of the fault
-pub data Judged : Type 0 where
-  sound : Judged
-  unsound : (place : ℕ) → Judged
 
 -- the first deployment of a list for which the test fails, 0 if none
 unfoldable pub lowest : (ℕ → Bool) → List ℕ → ℕ
@@ -37,35 +31,35 @@ over f t (a ∷ rest) = over f (f t a) rest
 abbrev pub tableBytes : ℕ
 tableBytes = 5462
 
--- the byte for the deployment at c: "A deployment is three words .. and two per location", so that no two begin in the same three
-unfoldable pub entry : List ℕ → ℕ → ℕ
-entry t c = getD t (c / 3) 0
+-- the byte for the deployment at c: by 3.4 each takes three words or more, so that no two begin in the same three
+unfoldable pub tableByte : List ℕ → ℕ → ℕ
+tableByte t c = getD t (c / 3) 0
 
-unfoldable pub withEntry : List ℕ → ℕ → ℕ → List ℕ
-withEntry t c v = set t (c / 3) v
+unfoldable pub withTableByte : List ℕ → ℕ → ℕ → List ℕ
+withTableByte t c v = set t (c / 3) v
 
 -- each pass begins with zeros but for main, which counts as named once, and whose depth is 1
 unfoldable pub blankTable : List ℕ
-blankTable = withEntry (replicate tableBytes 0) mainAt 1
+blankTable = withTableByte (replicate tableBytes 0) mainAt 1
 
 -- a start's byte tells in which of its three words it is
 abbrev pub startByte : ℕ → ℕ
 startByte c = 1 + c % 3
 
 unfoldable pub isStart : List ℕ → ℕ → Bool
-isStart t c = entry t c =? startByte c
+isStart t c = tableByte t c =? startByte c
 
 -- one more name for c; more than once is as twice
 unfoldable pub name : List ℕ → ℕ → List ℕ
-name t c = withEntry t c (pick (entry t c <? 2) (entry t c + 1) 2)
+name t c = withTableByte t c (pick (tableByte t c <? 2) (tableByte t c + 1) 2)
 
 -- one more than depth d; past the limit every depth is as the first past it, so that a byte holds each
-unfoldable pub below : ℕ → ℕ
-below d = pick (d ≤? mostDepth) (d + 1) d
+unfoldable pub oneDeeper : ℕ → ℕ
+oneDeeper d = pick (d ≤? mostDepth) (d + 1) d
 
 -- c is one deeper than its owner o
 unfoldable pub deepen : ℕ → List ℕ → ℕ → List ℕ
-deepen o t c = withEntry t c (below (entry t o))
+deepen o t c = withTableByte t c (oneDeeper (tableByte t o))
 
 module _ (p : List ℕ) (m : List ℕ) where
   -- the deployments from a on tile the words up to u exactly
@@ -76,8 +70,8 @@ module _ (p : List ℕ) (m : List ℕ) where
       guard (reactor m a <? reactors p) false (λ _.
       tilesFrom f u (a + sizeAt p m a)))
 
-  -- "a chain (empty at 0) of strictly falling indices, shape fitting, no reactor twice, all above the owner's index".
-  -- last: the index of the one before; seen: a byte for each reactor. No reactor twice, so that f, one more than there are reactors, is enough.
+  -- 3.18 The chain from c: indices fall and stay above the owner o, shapes are s, and no reactor comes twice. last: the
+  -- index of the one before; seen: a byte for each reactor. So f, one more than there are reactors, is enough.
   unfoldable pub chainFrom : ℕ → List ℕ → ℕ → ℕ → ℕ → List ℕ → ℕ → Bool
   chainFrom zero t o s last seen c = false
   chainFrom (suc f) t o s last seen c =
@@ -91,22 +85,23 @@ module _ (p : List ℕ) (m : List ℕ) where
   slotSound t o l (deployment x) =
       let c = content p m o l in
       (mark p m o l =? deploymentMark) and (o <? c) and isStart t c and (reactor m c =? x) and (next m c =? 0)
-  slotSound t o l (point x) =
-      (mark p m o l =? pointMark) and chainFrom (reactors p + 1) t o x (used m) (replicate mostReactors 0) (content p m o l)
+  slotSound t o l (point x) = (mark p m o l =? pointMark)
+      and chainFrom (reactors p + 1) t o x (used m) (replicate mostReactors 0) (content p m o l)
   slotSound t o l (held x) = legal p x (valueAt p m o l)
-  slotSound t o l nothing = true
+  slotSound t o l nought = true
 
-  -- "all slots but D slots are zero"
+  -- 3.16 Every slot of a but the D slots is zero.
   unfoldable pub clearAt : ℕ → Bool
   clearAt a =
       let r = reactor m a in
-      zeroAt m (a + 3) (slotsD p r - 3) and zeroAt m (a + slotsR p r) (sizeOf p r - slotsR p r)
+      zeroAt m (a + headWords) (slotsD p r - headWords) and zeroAt m (a + slotsR p r) (sizeOf p r - slotsR p r)
 
   -- a deployment's own words
   unfoldable pub ownSound : List ℕ → ℕ → Bool
   ownSound t a =
       let r = reactor m a in
-      (wired m a =? 1) and clearAt a and (sweep (λ j. slotSound t a (commandLoc p r j) (madeBy (cmdOf p r j))) 0 (declared p r) =? declared p r)
+      (wired m a =? 1) and clearAt a
+      and (sweep (λ j. slotSound t a (commandLoc p r j) (madeBy (cmdOf p r j))) 0 (commandsD p r) =? commandsD p r)
 
   -- the chain from c, as a list
   unfoldable pub membersFrom : ℕ → ℕ → List ℕ
@@ -118,20 +113,21 @@ module _ (p : List ℕ) (m : List ℕ) where
   namedBy o l (deployment x) = content p m o l ∷ []
   namedBy o l (point x) = membersFrom (reactors p) (content p m o l)
   namedBy o l (held x) = []
-  namedBy o l nothing = []
+  namedBy o l nought = []
 
   -- all that the n D commands from j on of o name
   unfoldable pub childrenFrom : ℕ → ℕ → ℕ → List ℕ
   childrenFrom zero j o = []
-  childrenFrom (suc n) j o = namedBy o (commandLoc p (reactor m o) j) (madeBy (cmdOf p (reactor m o) j)) ++ childrenFrom n (j + 1) o
+  childrenFrom (suc n) j o =
+      namedBy o (commandLoc p (reactor m o) j) (madeBy (cmdOf p (reactor m o) j)) ++ childrenFrom n (j + 1) o
 
   -- all that o names
   unfoldable pub childrenOf : ℕ → List ℕ
-  childrenOf o = childrenFrom (declared p (reactor m o)) 0 o
+  childrenOf o = childrenFrom (commandsD p (reactor m o)) 0 o
 
   -- what a pass does for the deployment at o. Owners come before their children.
   unfoldable pub visit : Pass → List ℕ → ℕ → List ℕ
-  visit Starts t o = withEntry t o (startByte o)
+  visit Starts t o = withTableByte t o (startByte o)
   visit Names t o = over name t (childrenOf o)
   visit Depths t o = over (deepen o) t (childrenOf o)
 
@@ -139,11 +135,11 @@ module _ (p : List ℕ) (m : List ℕ) where
   unfoldable pub tableAfter : Pass → List ℕ → List ℕ
   tableAfter pass starts = over (visit pass) blankTable starts
 
-  -- what has to hold then of the deployment at a: its own words; "named exactly once"; "depth is at most 64"
+  -- what has to hold then of the deployment at a: its own words, 3.16 to 3.19; that one slot names it; its depth, 3.20
   unfoldable pub fits : Pass → List ℕ → ℕ → Bool
   fits Starts t a = ownSound t a
-  fits Names t a = entry t a =? 1
-  fits Depths t a = entry t a ≤? mostDepth
+  fits Names t a = tableByte t a =? 1
+  fits Depths t a = tableByte t a ≤? mostDepth
 
   -- the lowest deployment that a pass finds unfit, 0 if none
   unfoldable pub lowestUnfit : Pass → List ℕ → ℕ
@@ -153,17 +149,18 @@ module _ (p : List ℕ) (m : List ℕ) where
   unfoldable pub freshSound : Judged
   freshSound =
       let end = mainAt + sizeOf p (mainOf p) in
-      guard ((wired m mainAt =? 0) and zeroAt m (mainAt + 3) (sizeOf p (mainOf p) - 3)) (unsound mainAt) (λ _.
-      guard (used m =? end) (unsound end) (λ _. sound))
+      guard ((wired m mainAt =? 0) and zeroAt m (mainAt + headWords) (sizeOf p (mainOf p) - headWords))
+      (Unsound mainAt) (λ _.
+      guard (used m =? end) (Unsound end) (λ _. Sound))
 
   -- with turns above 0: each deployment's own words, then how often each is named, then how deep each is
   unfoldable pub grownSound : List ℕ → Judged
   grownSound starts =
       let own = lowestUnfit Starts starts in
-      guard (own =? 0) (unsound own) (λ _.
+      guard (own =? 0) (Unsound own) (λ _.
       let named = lowestUnfit Names starts in
-      guard (named =? 0) (unsound named) (λ _.
-      guard (lowestUnfit Depths starts =? 0) (unsound 0) (λ _. sound)))
+      guard (named =? 0) (Unsound named) (λ _.
+      guard (lowestUnfit Depths starts =? 0) (Unsound 0) (λ _. Sound)))
 
   unfoldable pub byTurns : Bool → Judged
   byTurns true = freshSound
@@ -178,10 +175,11 @@ module _ (p : List ℕ) (m : List ℕ) where
   -- main is the lowest deployment, so that its next comes before all that is asked of others
   unfoldable pub soundOf : Judged
   soundOf =
-      guard framed (unsound 0) (λ _.
-      guard (next m mainAt =? 0) (unsound mainAt) (λ _.
+      guard framed (Unsound 0) (λ _.
+      guard (next m mainAt =? 0) (Unsound mainAt) (λ _.
       byTurns (turns m =? 0)))
 
 -- Exact soundness, for a program of no more reactors than the check accepts. Proved in proofs/Exact.antt.
 abbrev pub ExactSoundness : List ℕ → Type 0
-ExactSoundness p = reactors p ≤ mostReactors → (m : List ℕ) → length m ≤ mostWords → (soundOf p m ≡ sound) ↔ Sound p m
+ExactSoundness p = reactors p ≤ mostReactors → (m : List ℕ) → length m ≤ mostWords →
+    (soundOf p m ≡ Sound) ↔ SoundImage p m

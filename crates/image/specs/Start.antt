@@ -1,53 +1,38 @@
--- Start. 01: "Start zeroes memory, then places an unwired main, u = 2 + its size, turns 0." "Start uses 1 to 8 and 14."
-use Prim.Native.Nat.{ℕ, _+_, _-_}
-use mathlib.Core.Bool.{Bool}
-use mathlib.Core.List.{List}
-use lib.ListN.{length, replicate}
+-- 4.5, 5.5 Start: what it tests, and the words that it leaves.
+use Rattle.value.specs.Prelude.{ℕ, _+_, _-_, Bool, List, length, replicate}
 use Rattle.value.specs.Test.{_and_, _≤?_, guard}
 use Rattle.program.specs.Bytes.{mainOf}
 use Rattle.load.specs.Check.{checkOf}
-use Rattle.load.specs.Refusal.{refusalNumber, refusalPlace}
-use Rattle.load.specs.declared.Checked.{Checked}
-use Rattle.load.specs.declared.Checked.the-variants.{Accepted, Refused as CheckRefused}
-use Rattle.load.specs.declared.Refusal.{Refusal}
-use Rattle.load.specs.declared.Refusal.the-variants.{MemoryLength, NoRoom}
-use Rattle.image.specs.Memory.{fewestWords, mostWords, mainAt, withUsed, place}
-use Rattle.image.specs.declared.Started.{Started}
-use Rattle.image.specs.declared.Started.the-variants.{Ready, Refused}
-
--- this paper's number and place of an answer
-abbrev pub numberOf : Started → ℕ
-numberOf (Ready u) = 0
-numberOf (Refused w) = refusalNumber w
-
-abbrev pub placeOf : Started → ℕ
-placeOf (Ready u) = u
-placeOf (Refused w) = refusalPlace w
+use Rattle.answer.specs.declared.Answer.{Answer}
+use Rattle.answer.specs.declared.Answer.the-variants.{Done, Refused}
+use Rattle.answer.specs.declared.Refusal.{Refusal}
+use Rattle.answer.specs.declared.Refusal.the-variants.{MemoryLength, NoRoom}
+use Rattle.image.specs.Memory.{fewestWords, mostWords, mainAt, withUsed, deploy}
 
 -- an answer, and the memory then
 pub record Start : Type 0 where
-  pub answer : Started
+  pub answer : Answer
   pub memory : List ℕ
 
--- 8: "n outside 2 to 16,384"
+-- 5.18 Memory has a legal length.
 unfoldable pub wordsLegal : ℕ → Bool
 wordsLegal n = (fewestWords ≤? n) and (n ≤? mostWords)
 
--- n words as start leaves them
+-- 4.5 n words as start leaves them: zeros, and main placed at 2
 unfoldable pub startedOf : List ℕ → ℕ → List ℕ
-startedOf p n = place p (withUsed (replicate n 0) mainAt) (mainOf p) 0
+startedOf p n = deploy p (withUsed (replicate n 0) mainAt) (mainOf p) 0
 
--- "A refused call leaves memory .. as at entry."
-unfoldable pub refused : List ℕ → Refusal → Start
-refused m w = record { answer = Refused w; memory = m }
+-- 4.11 Refused: memory stays as it was.
+unfoldable pub startRefused : List ℕ → Refusal → Start
+startRefused m w = record { answer = Refused w; memory = m }
 
--- 1 to 7 by the check, then 8, then 14: "words left below the new deployment's size"
-unfoldable pub startBy : List ℕ → List ℕ → Checked → Start
-startBy p m (CheckRefused w) = refused m w
-startBy p m (Accepted size) =
-    guard (wordsLegal (length m)) (refused m (MemoryLength (length m))) (λ _.
-    guard (size ≤? length m - mainAt) (refused m (NoRoom (mainOf p))) (λ _.
-    record { answer = Ready (mainAt + size); memory = startedOf p (length m) }))
+-- 5.5 The program's own refusals, then 8, then 14 where main has no room.
+unfoldable pub startBy : List ℕ → List ℕ → Answer → Start
+startBy p m (Refused w) = startRefused m w
+startBy p m (Done size) =
+    guard (wordsLegal (length m)) (startRefused m (MemoryLength (length m))) (λ _.
+    guard (size ≤? length m - mainAt) (startRefused m (NoRoom (mainOf p))) (λ _.
+    record { answer = Done (mainAt + size); memory = startedOf p (length m) }))
 
 unfoldable pub startOf : List ℕ → List ℕ → Start
 startOf p m = startBy p m (checkOf p)

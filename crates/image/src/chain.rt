@@ -7,9 +7,7 @@ use crate::words::used;
 use program::byte;
 use program::reactors;
 use program::shape_of;
-ghost use mathlib.Core.Path.{_≡_};
-ghost use Prim.Native.Nat.{_+_};
-ghost use lib.ListN.{getD, replicate};
+ghost use Rattle.value.specs.Prelude.{_+_, _≡_, getD, replicate};
 ghost use Rattle.value.specs.Test.{_and_, _<?_, _=?_};
 ghost use Rattle.program.specs.Bytes as B;
 ghost use Rattle.image.specs.Memory as M;
@@ -39,7 +37,9 @@ pub(crate) fn chain_sound(
     s: u8,
     head: u32,
 ) -> bool
-    ensures { λ r. ⌜ r ≡ P.chainFrom (now (program .entry)) (now (memory .entry)) (B.reactors (now (program .entry)) + 1) (now (table .entry)) o s (M.used (now (memory .entry))) (replicate 64 0) head ⌝ }
+    ensures { λ r.
+        let p = now (program .entry) in let m = now (memory .entry) in
+        ⌜ r ≡ P.chainFrom p m (B.reactors p + 1) (now (table .entry)) o s (M.used m) (replicate 64 0) head ⌝ }
 {
     let mut seen = [0u8; 64];
     let mut last = used(memory);

@@ -1,4 +1,4 @@
-// The slots of a deployment, two words for each location, and a new deployment.
+// 3.5, 6.12 The slots of a deployment, and a new deployment.
 use crate::words::pair;
 use crate::words::put;
 use crate::words::reactor;
@@ -8,12 +8,10 @@ use crate::words::word;
 use program::size_of;
 use program::slot_at;
 use value::Value;
-ghost use mathlib.Core.Path.{_≡_};
-ghost use Prim.Native.Nat.{_+_, _<_};
-ghost use lib.ListN.{set};
+ghost use Rattle.value.specs.Prelude.{_+_, _<_, _≡_, set};
 ghost use Rattle.program.specs.Location as L;
 ghost use Rattle.image.specs.Memory as M;
-ghost use Rattle.image.specs.Cut as W;
+ghost use Rattle.image.specs.Contracts.{deployFits};
 
 // The index of location l's two words, in the deployment at a.
 pub fn slot(program: &[u8], memory: &[u32], a: u32, l: u16) -> usize
@@ -59,7 +57,9 @@ pub fn size_at(program: &[u8], memory: &[u32], a: u32) -> u32
 
 // The three words of an unwired deployment at u, and u after it.
 fn put_header(memory: &mut [u32], u: u32, r: u32, old: u32, end: u32)
-    ensures { λ _. ⌜ now (memory .exit) ≡ M.withUsed (set (set (set (now (memory .entry)) u r) (u + 1) 0) (u + 2) old) end ⌝ }
+    ensures { λ _.
+        let m = now (memory .entry) in
+        ⌜ now (memory .exit) ≡ M.withUsed (set (set (set m u r) (u + 1) 0) (u + 2) old) end ⌝ }
 {
     put(memory, u as usize, r);
     put(memory, u as usize + 1, 0);
@@ -69,8 +69,8 @@ fn put_header(memory: &mut [u32], u: u32, r: u32, old: u32, end: u32)
 
 // A new deployment of reactor r at u, on a branch point with the old head as its next. Its slots stay
 // as they are, in a sound image zero. Nothing, where u after it would not fit a word.
-pub fn place(program: &[u8], memory: &mut [u32], r: u32, old: u32)
-    ensures is { λ _. ⌜ now (memory .exit) ≡ W.placed (now (program .entry)) (now (memory .entry)) r old ⌝ }
+pub fn deploy(program: &[u8], memory: &mut [u32], r: u32, old: u32)
+    ensures is { λ _. ⌜ now (memory .exit) ≡ deployFits (now (program .entry)) (now (memory .entry)) r old ⌝ }
     ensures small { λ _. ⌜ L.sizeOf (now (program .entry)) r < 131074 ⌝ }
 {
     let u = used(memory);

@@ -1,10 +1,9 @@
-// Memory between turns: document 01, "Memory between turns".
+// Memory between turns: section 3 of the manual.
 //
 // Words, from 0: u, turns, then the deployments. A deployment: reactor, wired, next, then a mark and
-// a content for each location. Every function is total: a word past the end is 0, and a store there
-// does nothing, so no caller has to know that an image is sound.
-mod answer;
-mod begin;
+// a content for each location that has words. Every function is total: a word past the end is 0, and a
+// store there does nothing, so no caller has to know that an image is sound.
+mod calls;
 mod chain;
 mod children;
 mod commands;
@@ -18,15 +17,14 @@ mod tiling;
 mod words;
 mod zero;
 
-pub use begin::start;
-pub use begin::words_legal;
+pub use calls::start;
+pub use calls::words_legal;
 pub use deployment::content;
+pub use deployment::deploy;
 pub use deployment::mark;
-pub use deployment::place;
 pub use deployment::size_at;
 pub use deployment::slot;
 pub use deployment::value_at;
-use load::Refusal;
 pub use soundness::sound;
 pub use sweep::sound_by;
 pub use tiling::counts_at;
@@ -34,6 +32,7 @@ pub use words::MAIN_AT;
 pub use words::MOST_DEPTH;
 pub use words::MOST_TURNS;
 pub use words::MOST_WORDS;
+pub use words::SLOTS_AT;
 pub use words::next;
 pub use words::pair;
 pub use words::pair_within;
@@ -50,12 +49,6 @@ pub use words::wired;
 pub use words::word;
 pub use zero::wipe;
 
-// Start's answer: u after it, or why it is refused.
-pub enum Started {
-    Ready(usize),
-    Refused(Refusal),
-}
-
 // Whether an image is sound; if not, the place that refusal 9 names.
 pub enum Judged {
     Sound,
@@ -70,7 +63,7 @@ pub enum Pass {
 }
 
 // What the two later ones do for each child: one more name for it, or one deeper than its owner.
-pub enum Step {
+pub enum ChildStep {
     Name,
     Deepen,
 }

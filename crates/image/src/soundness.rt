@@ -1,4 +1,4 @@
-// Soundness of an image: document 01, "An image is sound for a program if ..".
+// 3.11 Soundness of an image.
 use crate::Judged;
 use crate::Pass;
 use crate::commands::fill_positions;
@@ -6,25 +6,28 @@ use crate::passes::run_pass;
 use crate::tiling::tiles;
 use crate::words::MAIN_AT;
 use crate::words::MOST_TURNS;
+use crate::words::SLOTS_AT;
 use crate::words::next;
 use crate::words::reactor;
 use crate::words::turns;
 use crate::words::used;
 use crate::words::wired;
 use crate::zero::zero_at;
+use program::HEAD_WORDS;
 use program::main_of;
 use program::size_of;
-ghost use mathlib.Core.Path.{_≡_};
+ghost use Rattle.value.specs.Prelude.{_≡_};
 ghost use Rattle.value.specs.Test.{_and_, _<?_, _=?_};
 ghost use Rattle.program.specs.Bytes as B;
-ghost use Rattle.image.specs.Answer as N;
 ghost use Rattle.image.specs.Memory as M;
 ghost use Rattle.image.specs.Passes as P;
-ghost use Rattle.image.specs.Cut as W;
+ghost use Rattle.image.specs.Contracts.{Tiling, startsOn};
 
 // Whether main comes first.
 pub(crate) fn main_first(program: &[u8], memory: &[u32], u: u32) -> bool
-    ensures { λ r. ⌜ r ≡ ((M.mainAt <? u) and (M.reactor (now (memory .entry)) M.mainAt =? B.mainOf (now (program .entry)))) ⌝ }
+    ensures { λ r.
+        let p = now (program .entry) in let m = now (memory .entry) in
+        ⌜ r ≡ ((M.mainAt <? u) and (M.reactor m M.mainAt =? B.mainOf p)) ⌝ }
 {
     (MAIN_AT < u) & (reactor(memory, MAIN_AT) == main_of(program) as u32)
 }
@@ -51,12 +54,16 @@ fn framed(program: &[u8], memory: &[u32]) -> bool
 
 // With turns 0: main is unwired and its slots are zero, and no deployment follows it.
 fn fresh(program: &[u8], memory: &[u32]) -> Judged
-    ensures { λ r. ⌜ N.judged r ≡ P.freshSound (now (program .entry)) (now (memory .entry)) ⌝ }
+    ensures { λ r. ⌜ r ≡ P.freshSound (now (program .entry)) (now (memory .entry)) ⌝ }
 {
     let main = main_of(program);
     let size = size_of(program, main as u32);
     let clear = (wired(memory, MAIN_AT) == 0)
-        & zero_at(memory, MAIN_AT as usize + 3, (size - 3) as usize);
+        & zero_at(
+            memory,
+            MAIN_AT as usize + SLOTS_AT,
+            (size - HEAD_WORDS) as usize,
+        );
     if !clear {
         return Judged::Unsound(MAIN_AT as usize);
     }
@@ -69,11 +76,10 @@ fn fresh(program: &[u8], memory: &[u32]) -> Judged
 
 // With turns above 0: every deployment's own words are right, each is named once, none is too deep.
 fn grown(program: &[u8], memory: &[u32], u: u32) -> Judged
-    requires { ⌜ W.Tiling (now program) (now memory) u M.mainAt ⌝ }
+    requires { ⌜ Tiling (now program) (now memory) u M.mainAt ⌝ }
     ensures { λ r.
-        let p = now (program .entry) in
-        let m = now (memory .entry) in
-        ⌜ N.judged r ≡ P.grownSound p m (W.startsOn p m u M.mainAt) ⌝ }
+        let p = now (program .entry) in let m = now (memory .entry) in
+        ⌜ r ≡ P.grownSound p m (startsOn p m u M.mainAt) ⌝ }
 {
     let mut places = [0u32; 256];
     fill_positions(program, &mut places);
@@ -94,7 +100,7 @@ fn grown(program: &[u8], memory: &[u32], u: u32) -> Judged
 // Whether an image is sound for a program, and if not, where it is at fault: exactly so for up to 64
 // reactors and 16,384 words, which is all that check and length let pass (exact-soundness, exact-place).
 pub fn sound(program: &[u8], memory: &[u32]) -> Judged
-    ensures { λ r. ⌜ N.judged r ≡ P.soundOf (now (program .entry)) (now (memory .entry)) ⌝ }
+    ensures { λ r. ⌜ r ≡ P.soundOf (now (program .entry)) (now (memory .entry)) ⌝ }
 {
     if !framed(program, memory) {
         return Judged::Unsound(0);

@@ -7,14 +7,15 @@ use crate::chain::joins;
 use crate::soundness::main_first;
 use crate::soundness::sound;
 use crate::table::TABLE_BYTES;
-use crate::table::entry;
 use crate::table::is_start;
 use crate::table::mark_start;
 use crate::table::put_byte;
-use crate::table::put_entry;
+use crate::table::put_table_byte;
+use crate::table::table_byte;
 use crate::tiling::counts_at;
 use crate::words::MAIN_AT;
 use crate::words::MOST_TURNS;
+use crate::words::SLOTS_AT;
 use crate::words::next;
 use crate::words::pair;
 use crate::words::reactor;
@@ -28,21 +29,16 @@ use program::byte;
 use program::legal;
 use program::reactors;
 use value::Value;
-ghost use mathlib.Core.Path.{_≡_};
-ghost use mathlib.Core.Bool.{true};
-ghost use mathlib.Core.List.{List, _∷_, []};
-ghost use Prim.Native.Nat.{ℕ, _+_, _<_, _≤_};
-ghost use lib.ListN.{length, replicate};
+ghost use Rattle.value.specs.Prelude.{ℕ, _+_, _≤_, _<_, _≡_, true, List, [], _∷_, length, replicate};
 ghost use Rattle.value.specs.Test.{_and_, _<?_};
 ghost use Rattle.program.specs.Bytes as B;
 ghost use Rattle.program.specs.Command as C;
-ghost use Rattle.program.specs.Counts.{Facts, Tells};
-ghost use Rattle.image.specs.Answer as N;
+ghost use Rattle.program.specs.Contracts.{Facts, Tells};
 ghost use Rattle.image.specs.Memory as M;
 ghost use Rattle.image.specs.Passes as P;
-ghost use Rattle.image.specs.Cut as W;
-ghost use Rattle.image.specs.Merged.{Placed, Sweeps, SlotSwept, SlotsSwept, OwnSwept, Swept};
-ghost use Rattle.image.specs.Merged.{Begun, Headed, Grown};
+ghost use Rattle.image.specs.declared.Judged.the-variants.{Sound};
+ghost use Rattle.image.specs.Contracts.{Tiling, startsOn, madeOf, Placed, Sweeps, SlotSwept, SlotsSwept};
+ghost use Rattle.image.specs.Contracts.{OwnSwept, Swept, Begun, Headed, Grown};
 ghost use Rattle.image.specs.declared.Pass.the-variants.{Starts};
 
 // The byte of a deployment that is named at depth 1, and at depth 64.
@@ -58,14 +54,13 @@ const FEW_WORDS: u32 = 192;
 fn link(table: &mut [u8], o: u32, k: u8, last: u32, c: u32) -> bool
     requires { ⌜ Placed o k (now table) ⌝ }
     ensures { λ r.
-        let t = now (table .entry) in
-        let t₁ = now (table .exit) in
+        let t = now (table .entry) in let t₁ = now (table .exit) in
         ⌜ (r ≡ true → Sweeps o (c ∷ []) (λ s. (o <? c) and (c <? last) and P.isStart s c) t t₁) ⌝ }
 {
     if !((o < c) & (c < last) & is_start(table, c)) {
         return false;
     }
-    put_entry(table, c, k + 1);
+    put_table_byte(table, c, k + 1);
     true
 }
 
@@ -81,12 +76,8 @@ fn sweep_chain(
 ) -> bool
     requires { ⌜ Placed o k (now table) ⌝ }
     ensures { λ r.
-        let p = now (program .entry) in
-        let m = now (memory .entry) in
-        let n = B.reactors p in
-        let members = P.membersFrom p m n head in
-        let t = now (table .entry) in
-        let t₁ = now (table .exit) in
+        let p = now (program .entry) in let m = now (memory .entry) in let n = B.reactors p in
+        let members = P.membersFrom p m n head in let t = now (table .entry) in let t₁ = now (table .exit) in
         ⌜ (r ≡ true → Sweeps o members (λ q. P.chainFrom p m (n + 1) q o s (M.used m) (replicate 64 0) head) t t₁) ⌝ }
 {
     let mut seen = [0u8; 64];
@@ -117,9 +108,7 @@ fn sweep_mono(memory: &[u32], table: &mut [u8], o: u32, k: u8, i: usize, x: u8) 
     requires { ⌜ Placed o k (now table) ⌝ }
     requires { ⌜ i < 18446744073709551615 ⌝ }
     ensures { λ r.
-        let m = now (memory .entry) in
-        let t = now (table .entry) in
-        let t₁ = now (table .exit) in
+        let m = now (memory .entry) in let t = now (table .entry) in let t₁ = now (table .exit) in
         ⌜ ((p : List ℕ) (l : ℕ) → i ≡ M.slot p m o l → r ≡ true → SlotSwept p m o t t₁ l (C.deployment x)) ⌝ }
 {
     let v = pair(memory, i);
@@ -147,9 +136,7 @@ fn sweep_point(
     requires { ⌜ Placed o k (now table) ⌝ }
     requires { ⌜ i < 18446744073709551615 ⌝ }
     ensures { λ r.
-        let p = now (program .entry) in
-        let m = now (memory .entry) in
-        let t = now (table .entry) in
+        let p = now (program .entry) in let m = now (memory .entry) in let t = now (table .entry) in
         let t₁ = now (table .exit) in
         ⌜ ((l : ℕ) → i ≡ M.slot p m o l → r ≡ true → SlotSwept p m o t t₁ l (C.point x)) ⌝ }
 {
@@ -175,11 +162,9 @@ fn sweep_slot(
     requires { ⌜ Placed o k (now table) ⌝ }
     requires { ⌜ i < 18446744073709551615 ⌝ }
     ensures { λ r.
-        let p = now (program .entry) in
-        let m = now (memory .entry) in
-        let t = now (table .entry) in
+        let p = now (program .entry) in let m = now (memory .entry) in let t = now (table .entry) in
         let t₁ = now (table .exit) in
-        ⌜ ((l : ℕ) → i ≡ M.slot p m o l → r ≡ true → SlotSwept p m o t t₁ l (W.madeOf code x)) ⌝ }
+        ⌜ ((l : ℕ) → i ≡ M.slot p m o l → r ≡ true → SlotSwept p m o t t₁ l (madeOf code x)) ⌝ }
 {
     if code == Command::ALLOC_MONO {
         return sweep_mono(memory, table, o, k, i, x);
@@ -205,10 +190,10 @@ fn sweep_slots(
     requires { ⌜ Placed o k (now table) ⌝ }
     requires { ⌜ Tells (now program) (M.reactor (now memory) o) (counts .word) ⌝ }
     ensures { λ r.
-        let p = now (program .entry) in
-        ⌜ (r ≡ true → SlotsSwept p (now (memory .entry)) o (now (table .entry)) (now (table .exit))) ⌝ }
+        let p = now (program .entry) in let m = now (memory .entry) in
+        ⌜ (r ≡ true → SlotsSwept p m o (now (table .entry)) (now (table .exit))) ⌝ }
 {
-    let n = counts.declared();
+    let n = counts.commands_d();
     let mut j: u8 = 0;
     while j < n {
         let at = counts.at() as usize + 8 * (j as usize);
@@ -238,18 +223,19 @@ fn clear_by(program: &[u8], memory: &[u32], a: u32, counts: Counts) -> bool
     let first = counts.slots_d() as usize;
     let end = counts.slots_r() as usize;
     let size = counts.size() as usize;
-    zero_at(memory, a as usize + 3, first - 3) & zero_at(memory, a as usize + end, size - end)
+    zero_at(memory, a as usize + SLOTS_AT, first - SLOTS_AT)
+        & zero_at(memory, a as usize + end, size - end)
 }
 
 // The deployment at a, by the counts of its reactor.
 fn sweep_one(program: &[u8], memory: &[u32], table: &mut [u8], a: u32, counts: Counts) -> bool
     requires { ⌜ Tells (now program) (M.reactor (now memory) a) (counts .word) ⌝ }
-    ensures placed { λ r. ⌜ (r ≡ true → Placed a (P.entry (now (table .entry)) a) (now (table .entry))) ⌝ }
+    ensures placed { λ r. ⌜ (r ≡ true → Placed a (P.tableByte (now (table .entry)) a) (now (table .entry))) ⌝ }
     ensures swept { λ r.
-        let p = now (program .entry) in
-        ⌜ (r ≡ true → OwnSwept p (now (memory .entry)) a (now (table .entry)) (now (table .exit))) ⌝ }
+        let p = now (program .entry) in let m = now (memory .entry) in
+        ⌜ (r ≡ true → OwnSwept p m a (now (table .entry)) (now (table .exit))) ⌝ }
 {
-    let k = entry(table, a);
+    let k = table_byte(table, a);
     if (k < LEAST) | (MOST < k) {
         return false;
     }
@@ -265,11 +251,10 @@ fn sweep_one(program: &[u8], memory: &[u32], table: &mut [u8], a: u32, counts: C
 // All deployments, main's byte being that of depth 1.
 fn sweep_all(program: &[u8], facts: &[u64; 64], memory: &[u32], table: &mut [u8], u: u32) -> bool
     requires { ⌜ Facts (now program) (now facts) ⌝ }
-    requires { ⌜ W.Tiling (now program) (now memory) u M.mainAt ⌝ }
+    requires { ⌜ Tiling (now program) (now memory) u M.mainAt ⌝ }
     ensures { λ r.
-        let p = now (program .entry) in
-        let m = now (memory .entry) in
-        ⌜ (r ≡ true → Swept p m (W.startsOn p m u M.mainAt) (now (table .entry)) (now (table .exit))) ⌝ }
+        let p = now (program .entry) in let m = now (memory .entry) in
+        ⌜ (r ≡ true → Swept p m (startsOn p m u M.mainAt) (now (table .entry)) (now (table .exit))) ⌝ }
 {
     let mut a = MAIN_AT;
     while a < u {
@@ -293,11 +278,9 @@ fn mark_tiles(facts: &[u64; 64], memory: &[u32], table: &mut [u8], u: u32) -> bo
         let m = now (memory .entry) in
         ⌜ ((p : List ℕ) → Facts p (now (facts .entry)) → r ≡ true → P.tilesFrom p m (length m) u M.mainAt ≡ true) ⌝ }
     ensures marked { λ r.
-        let m = now (memory .entry) in
-        let f = now (facts .entry) in
-        let t = now (table .entry) in
+        let m = now (memory .entry) in let f = now (facts .entry) in let t = now (table .entry) in
         let t₁ = now (table .exit) in
-        ⌜ ((p : List ℕ) → Facts p f → r ≡ true → t₁ ≡ P.over (P.visit p m Starts) t (W.startsOn p m u M.mainAt)) ⌝ }
+        ⌜ ((p : List ℕ) → Facts p f → r ≡ true → t₁ ≡ P.over (P.visit p m Starts) t (startsOn p m u M.mainAt)) ⌝ }
 {
     let mut a = MAIN_AT;
     while a < u {
@@ -319,14 +302,13 @@ fn mark_tiles(facts: &[u64; 64], memory: &[u32], table: &mut [u8], u: u32) -> bo
 fn begun(facts: &[u64; 64], memory: &[u32], table: &mut [u8], u: u32) -> bool
     requires { ⌜ u ≤ length (now memory) ⌝ }
     ensures { λ r.
-        let m = now (memory .entry) in
-        let f = now (facts .entry) in
+        let m = now (memory .entry) in let f = now (facts .entry) in
         ⌜ ((p : List ℕ) → Facts p f → r ≡ true → Begun p m u (now (table .entry)) (now (table .exit))) ⌝ }
 {
     if !mark_tiles(facts, memory, table, u) {
         return false;
     }
-    put_entry(table, MAIN_AT, LEAST);
+    put_table_byte(table, MAIN_AT, LEAST);
     true
 }
 
@@ -380,7 +362,7 @@ fn sweep_many(program: &[u8], facts: &[u64; 64], memory: &[u32], u: u32) -> bool
 // large table is in the frame of `sweep_many` alone, which two calls keep out of the turn's.
 fn surely_sound(program: &[u8], facts: &[u64; 64], memory: &[u32]) -> bool
     requires { ⌜ Facts (now program) (now facts) ⌝ }
-    ensures { λ r. ⌜ (r ≡ true → P.soundOf (now (program .entry)) (now (memory .entry)) ≡ P.sound) ⌝ }
+    ensures { λ r. ⌜ (r ≡ true → P.soundOf (now (program .entry)) (now (memory .entry)) ≡ Sound) ⌝ }
 {
     let u = used(memory);
     let n = memory.len();
@@ -400,7 +382,7 @@ fn surely_sound(program: &[u8], facts: &[u64; 64], memory: &[u32]) -> bool
 // sound, the tests in their order decide.
 pub fn sound_by(program: &[u8], facts: &[u64; 64], memory: &[u32]) -> Judged
     requires { ⌜ Facts (now program) (now facts) ⌝ }
-    ensures { λ r. ⌜ N.judged r ≡ P.soundOf (now (program .entry)) (now (memory .entry)) ⌝ }
+    ensures { λ r. ⌜ r ≡ P.soundOf (now (program .entry)) (now (memory .entry)) ⌝ }
 {
     if surely_sound(program, facts, memory) {
         return Judged::Sound;

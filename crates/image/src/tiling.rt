@@ -5,21 +5,19 @@ use crate::words::reactor;
 use program::Counts;
 use program::fact;
 use program::reactors;
-ghost use mathlib.Core.Path.{_≡_};
-ghost use mathlib.Core.List.{List};
-ghost use mathlib.Core.Logic.{_≢_};
-ghost use Prim.Native.Nat.{ℕ, _≤_, _<_};
-ghost use lib.ListN.{length};
+ghost use Rattle.value.specs.Prelude.{ℕ, _≤_, _<_, _≡_, _≢_, List, length};
 ghost use Rattle.program.specs.Bytes as B;
-ghost use Rattle.program.specs.Counts.{Facts, Tells};
+ghost use Rattle.program.specs.Contracts.{Facts, Tells};
 ghost use Rattle.image.specs.Memory as M;
 ghost use Rattle.image.specs.Passes as P;
-ghost use Rattle.image.specs.Cut as W;
+ghost use Rattle.image.specs.Contracts.{Follows, Tiling};
 
 // Whether deployments tile the words from 2 up to u exactly.
 pub(crate) fn tiles(program: &[u8], memory: &[u32], u: u32) -> bool
     requires { ⌜ u ≤ length (now memory) ⌝ }
-    ensures { λ r. ⌜ r ≡ P.tilesFrom (now (program .entry)) (now (memory .entry)) (length (now (memory .entry))) u M.mainAt ⌝ }
+    ensures { λ r.
+        let p = now (program .entry) in let m = now (memory .entry) in
+        ⌜ r ≡ P.tilesFrom p m (length m) u M.mainAt ⌝ }
 {
     let n = reactors(program) as u32;
     let mut a = MAIN_AT;
@@ -38,9 +36,9 @@ pub(crate) fn tiles(program: &[u8], memory: &[u32], u: u32) -> bool
 
 // Where the deployment at a ends.
 pub(crate) fn following(program: &[u8], memory: &[u32], u: u32, a: u32) -> u32
-    requires { ⌜ W.Tiling (now program) (now memory) u a ⌝ }
+    requires { ⌜ Tiling (now program) (now memory) u a ⌝ }
     requires { ⌜ a < u ⌝ }
-    ensures { λ b. ⌜ W.Follows (now (program .entry)) (now (memory .entry)) u a b ⌝ }
+    ensures { λ b. ⌜ Follows (now (program .entry)) (now (memory .entry)) u a b ⌝ }
 {
     a + size_at(program, memory, a)
 }
@@ -55,7 +53,7 @@ pub fn counts_at(facts: &[u64; 64], memory: &[u32], a: u32) -> Counts
         ⌜ ((p : List ℕ) → Facts p (now (facts .entry)) → k .word ≢ 0 → r < B.reactors p) ⌝ }
     ensures known { λ k.
         let r = M.reactor (now (memory .entry)) a in
-        ⌜ ((p : List ℕ) → Facts p (now (facts .entry)) → r < B.reactors p → r < 64 → Tells p r (k .word)) ⌝ }
+        ⌜ ((p : List ℕ) → Facts p (now (facts .entry)) → r < B.reactors p → Tells p r (k .word)) ⌝ }
 {
     let r = reactor(memory, a);
     fact(facts, r)

@@ -1,12 +1,14 @@
 // Words by their index, and by what they are.
+use program::HEAD_WORDS;
 use value::Value;
-ghost use mathlib.Core.Path.{_≡_};
-ghost use Prim.Native.Nat.{_+_, _<_};
-ghost use lib.ListN.{length, set};
+ghost use Rattle.value.specs.Prelude.{_+_, _<_, _≡_, length, set};
 ghost use Rattle.value.specs.Value.{value};
 ghost use Rattle.image.specs.Memory as M;
 
 pub const MAIN_AT: u32 = 2;
+
+// Where a deployment's slots begin, from its first word.
+pub const SLOTS_AT: usize = HEAD_WORDS as usize;
 
 pub const FEWEST_WORDS: usize = 2;
 
@@ -35,7 +37,9 @@ pub fn put(memory: &mut [u32], i: usize, v: u32)
 // The two words from `i` on, which are there, as a value.
 pub fn pair_within(memory: &[u32], i: usize) -> Value
     requires { ⌜ i + 1 < length (now memory) ⌝ }
-    ensures { λ v. ⌜ v ≡ value (M.word (now (memory .entry)) i) (M.word (now (memory .entry)) (i + 1)) ⌝ }
+    ensures { λ v.
+        let m = now (memory .entry) in
+        ⌜ v ≡ value (M.word m i) (M.word m (i + 1)) ⌝ }
 {
     Value {
         mark: memory[i],
@@ -55,7 +59,9 @@ pub fn put_pair_within(memory: &mut [u32], i: usize, v: Value)
 // The two words from `i` on, as a value: 0 past the end.
 pub fn pair(memory: &[u32], i: usize) -> Value
     requires { ⌜ i < 18446744073709551615 ⌝ }
-    ensures { λ v. ⌜ v ≡ value (M.word (now (memory .entry)) i) (M.word (now (memory .entry)) (i + 1)) ⌝ }
+    ensures { λ v.
+        let m = now (memory .entry) in
+        ⌜ v ≡ value (M.word m i) (M.word m (i + 1)) ⌝ }
 {
     if i + 1 < memory.len() {
         return pair_within(memory, i);

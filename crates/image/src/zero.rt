@@ -1,7 +1,6 @@
 // Stretches of zeros. The loops have no test but their end's, so that they are done many words at a
 // time.
-ghost use mathlib.Core.Path.{_≡_};
-ghost use lib.ListN.{length, replicate};
+ghost use Rattle.value.specs.Prelude.{_≡_, length, replicate};
 ghost use Rattle.image.specs.Memory as M;
 
 // Whether all words are zero.

@@ -1,16 +1,11 @@
 -- Bits of a standing: the weight that the code uses does for a byte what the power of two does.
 -- Assumes nothing.
-use Prim.Native.Nat.{ℕ, zero, suc, _+_, _/_, _%_, _^_, _≤_, _<_}
-use mathlib.Core.Path.{_≡_, refl, sym, _∙_, ap}
-use mathlib.Core.Bool.{false}
-use mathlib.Core.Logic.{⊎-elim}
-use mathlib.Core.List.{[], _∷_}
-use lib.ListN.{getD}
-use native.Mathlib.Omega.{arith}
+use Rattle.value.specs.Prelude.{ℕ, zero, suc, _+_, _/_, _%_, _^_, _≤_, _<_, _≡_, refl, sym, _∙_, ap, ⊎-elim, false, []}
+use Rattle.value.specs.Prelude.{_∷_, getD, arith}
 use native.Mathlib.Nat.{pow-le-pow-right, div-eq-of-lt}
 use Rattle.value.specs.Test.{_=?_}
 use Rattle.value.proofs.Tests.{yes, no, lt!, lt×, eq×, eq×?, below}
-use Rattle.load.specs.Bits.{byteBit}
+use Rattle.load.specs.Contracts.{byteBit}
 use Rattle.load.specs.Scan.{readyAt}
 
 pub bit-low : (x : ℕ) → x < 8 → 2 ^ x ≡ byteBit x
@@ -42,8 +37,8 @@ low-some =
     (omega arith) (omega arith) (omega arith) (omega arith) (omega arith) (omega arith) (omega arith) (omega arith)
 
 pub bit-some : (x : ℕ) → 0 < byteBit x
-bit-some x =
-    ⊎-elim (λ (h : x < 8). omega (arith, bit-low x h, low-some x h)) (λ (h : 8 ≤ x). omega (arith, bit-high x h)) (below x 8)
+bit-some x = ⊎-elim (λ (h : x < 8). omega (arith, bit-low x h, low-some x h))
+    (λ (h : 8 ≤ x). omega (arith, bit-high x h)) (below x 8)
 
 even : (q : ℕ) → (q % 2 ≡ 1 → ⊥) → q % 2 ≡ 0
 even q d = ⊎-elim (λ (h : q % 2 < 1). omega arith) (λ (h : 1 ≤ q % 2). absurd (d (omega arith))) (below (q % 2) 1)
@@ -75,7 +70,8 @@ module _ (t : ℕ) (b : t < 256) where
   bit-room x h e = room x h (even _ (eq×? e))
 
 pub weights : (x : ℕ) → x < 8 → getD (1 ∷ 2 ∷ 4 ∷ 8 ∷ 16 ∷ 32 ∷ 64 ∷ 128 ∷ []) x 0 ≡ byteBit x
-weights x h = low-cases (λ (x : ℕ). getD (1 ∷ 2 ∷ 4 ∷ 8 ∷ 16 ∷ 32 ∷ 64 ∷ 128 ∷ []) x 0 ≡ 2 ^ x) refl refl refl refl refl refl refl refl x h ∙ bit-low x h
+weights x h = low-cases (λ (x : ℕ). getD (1 ∷ 2 ∷ 4 ∷ 8 ∷ 16 ∷ 32 ∷ 64 ∷ 128 ∷ []) x 0 ≡ 2 ^ x) refl refl refl refl refl
+    refl refl refl x h ∙ bit-low x h
 
 low-most : (x : ℕ) → x < 8 → 2 ^ x ≤ 128
 low-most =
@@ -83,5 +79,5 @@ low-most =
     (omega arith) (omega arith) (omega arith) (omega arith) (omega arith) (omega arith) (omega arith) (omega arith)
 
 pub bit-most : (x : ℕ) → byteBit x ≤ 256
-bit-most x =
-    ⊎-elim (λ (h : x < 8). omega (arith, bit-low x h, low-most x h)) (λ (h : 8 ≤ x). omega (arith, bit-high x h)) (below x 8)
+bit-most x = ⊎-elim (λ (h : x < 8). omega (arith, bit-low x h, low-most x h))
+    (λ (h : 8 ≤ x). omega (arith, bit-high x h)) (below x 8)

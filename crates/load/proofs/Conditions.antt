@@ -1,19 +1,19 @@
 -- Laws of the one condition that the code asks of each command: it is what the tests of all refusals come to.
 -- Assumes nothing.
-use Prim.Native.Nat.{ℕ, _+_, _-_, _^_, _<_, _≤_}
-use mathlib.Core.Path.{_≡_, refl, sym, _∙_, ap}
-use mathlib.Core.Bool.{Bool, true, false, not}
-use mathlib.Core.List.{List}
-use native.Mathlib.Omega.{arith}
+use Rattle.value.specs.Prelude.{ℕ, _+_, _-_, _^_, _≤_, _<_, _≡_, refl, sym, _∙_, ap, Bool, true, false, not, List}
+use Rattle.value.specs.Prelude.{arith}
 use Rattle.value.specs.Test.{_and_, _<?_, _≤?_, _=?_, need, pick}
 use Rattle.value.specs.Value.{reactorKind}
 use Rattle.value.proofs.Tests.{both!, both?, eq!, eq?, eq×, le!, le?, lt!, lt?, right×, true-and}
-use Rattle.program.specs.Bytes.{shapes, reactors, globals, sourcesIn, sinksIn, sourceKind, sinkKind, shapeOf, declared}
-use Rattle.program.specs.Command.{Cmd, sequenceOf, vOf, allocMono, makePoly, constant, global, supply, react, consume, sink, allocPoly, cell, fetch, keep}
-use Rattle.program.specs.Location.{sinks, sinkLoc}
+use Rattle.program.specs.Bytes.{shapes, reactors, globals, sourcesIn, sinksIn, sourceKind, sinkKind, shapeOf, commandsD}
+use Rattle.program.specs.Command.{Cmd, sequenceOf, vOf, allocMono, makePoly, constant, global, supply, react, consume}
+use Rattle.program.specs.Command.{sink, allocPoly, cell, fetch, keep, gives}
+use Rattle.program.specs.Location.{sinkCount, sinkLoc}
 use Rattle.program.specs.declared.Command.{Command}
-use Rattle.load.specs.Scan.{freePoint, freeCell, unsetSink, reacted, waiting, standingAt, kindAt, isValue, isCell, isPoint, isDeployment, isSupplied, readyAt, inSequence, formed, remaining, located, agreed, disorder, refusalOf}
-use Rattle.load.specs.Lent.{right, allowed}
+use Rattle.load.specs.Scan.{freePoint, freeCell, unsetSink, hasRun, waiting, standingAt, kindAt, isValue, isCell}
+use Rattle.load.specs.Scan.{isPoint, isDeployment, isSupplied, readyAt, inSequence, formed, remaining, located}
+use Rattle.load.specs.Scan.{agreed, disorder, refusalOf}
+use Rattle.load.specs.Contracts.{right, allowed}
 use Rattle.load.specs.declared.Scan.{Scan}
 
 -- ---- tests in another order
@@ -65,11 +65,11 @@ once s t u v n h g =
 
 module _ (p : List ℕ) (r : ℕ) (s : Scan) (c : Command) where
   -- a command is not refused where it is allowed
-  pub allowed-test : (d : Cmd) → (refusalOf p r s c d =? 0) ≡ allowed (s .next <? declared p r) p r s c d
+  pub allowed-test : (d : Cmd) → (refusalOf p r s c d =? 0) ≡ allowed (s .next <? commandsD p r) p r s c d
   unfolding refusalOf allowed right
   allowed-test d =
       need-test _ 3 _ (omega arith)
-      ∙ ap (λ (t : Bool). inSequence (sequenceOf d) (s .next <? declared p r) and t)
+      ∙ ap (λ (t : Bool). inSequence (sequenceOf d) (s .next <? commandsD p r) and t)
       (need-test _ 3 _ (omega arith)
       ∙ ap (λ (t : Bool). formed p c d and t)
       (need-test _ 25 _ (omega arith)
@@ -98,15 +98,16 @@ module _ (p : List ℕ) (r : ℕ) (s : Scan) (c : Command) where
     unfolding right remaining located agreed disorder _and_ _=?_
     right-cell x v e = e ∙ sym (and-true _)
 
-    pub right-constant : (x v : ℕ) → z ≡ formed p c (constant x v) → z ≡ right p r s c (constant x v)
+    pub right-constant : (x v : ℕ) → z ≡ formed p c (gives (constant x v)) → z ≡ right p r s c (gives (constant x v))
     unfolding right remaining located agreed disorder _and_ _=?_
     right-constant x v e = e ∙ sym (and-true _)
 
-    pub right-global : (x : ℕ) → z ≡ ((c .a + c .b + vOf c =? 0) and (x ≤? globals p)) → z ≡ right p r s c (global x)
+    pub right-global : (x : ℕ) → z ≡ ((c .a + c .b + vOf c =? 0) and (x ≤? globals p)) →
+        z ≡ right p r s c (gives (global x))
     unfolding right formed remaining located agreed disorder _and_ _=?_
     right-global x e = e ∙ sym (and-true _)
 
-    pub right-fetch : (b : ℕ) → z ≡ ((c .x + c .a + vOf c =? 0) and isCell s b) → z ≡ right p r s c (fetch b)
+    pub right-fetch : (b : ℕ) → z ≡ ((c .x + c .a + vOf c =? 0) and isCell s b) → z ≡ right p r s c (gives (fetch b))
     unfolding right formed remaining located agreed disorder _and_ _=?_
     right-fetch b e = e ∙ ap (λ (t : Bool). (c .x + c .a + vOf c =? 0) and t) (sym (and-true (isCell s b)))
 
@@ -121,10 +122,10 @@ module _ (p : List ℕ) (r : ℕ) (s : Scan) (c : Command) where
         let y = (x <? sourcesIn p (kindAt s b)) and (kindAt s a =? sourceKind p (kindAt s b) x) in
         let f = not (isSupplied s b x) in
         e ∙ ap (λ (t : Bool). (vOf c =? 0) and (isValue s a and t))
-        (early w (reacted ≤? standingAt s b) y f (λ q. let g : 128 ≤ standingAt s b = le? q in le! (omega arith)))
-        ∙ ap (λ (t : Bool). (vOf c =? 0) and t) (sym (and-right (isValue s a) (reacted ≤? standingAt s b)
+        (early w (hasRun ≤? standingAt s b) y f (λ q. let g : 128 ≤ standingAt s b = le? q in le! (omega arith)))
+        ∙ ap (λ (t : Bool). (vOf c =? 0) and t) (sym (and-right (isValue s a) (hasRun ≤? standingAt s b)
         (y and (w and f))))
-        ∙ ap (λ (t : Bool). (vOf c =? 0) and ((isValue s a and (reacted ≤? standingAt s b)) and (y and t)))
+        ∙ ap (λ (t : Bool). (vOf c =? 0) and ((isValue s a and (hasRun ≤? standingAt s b)) and (y and t)))
         (sym (need-test w 20 _ (omega arith) ∙ ap (λ (t : Bool). w and t) (last-test f 6 (omega arith))))
 
     pub right-react : (b : ℕ) →
@@ -137,27 +138,26 @@ module _ (p : List ℕ) (r : ℕ) (s : Scan) (c : Command) where
         let ready : f ≡ true → 128 ≤ standingAt s b = (λ q. let g : standingAt s b ≡ 128 +
         (2 ^ sourcesIn p (kindAt s b) - 1) = eq? q in omega arith) in
         e ∙ ap (λ (t : Bool). (c .x + c .a + vOf c =? 0) and t)
-        (also f w (λ q. le! (ready q)) ∙ also (w and f) (reacted ≤? standingAt s b)
+        (also f w (λ q. le! (ready q)) ∙ also (w and f) (hasRun ≤? standingAt s b)
         (λ q. let g : 128 ≤ standingAt s b = le? (both? q .0) in le! (omega arith)))
-        ∙ ap (λ (t : Bool). (c .x + c .a + vOf c =? 0) and ((reacted ≤? standingAt s b) and t))
+        ∙ ap (λ (t : Bool). (c .x + c .a + vOf c =? 0) and ((hasRun ≤? standingAt s b) and t))
         (sym (need-test w 20 _ (omega arith) ∙ ap (λ (t : Bool). w and t) (last-test f 19 (omega arith))))
 
     pub right-consume : (x b : ℕ) →
-        z ≡ ((c .a + vOf c =? 0) and (standingAt s b =? reacted) and (x <? sinksIn p (kindAt s b))) →
-        z ≡ right p r s c (consume x b)
+        z ≡ ((c .a + vOf c =? 0) and (standingAt s b =? hasRun) and (x <? sinksIn p (kindAt s b))) →
+        z ≡ right p r s c (gives (consume x b))
     unfolding right formed remaining located agreed disorder isDeployment _and_
     right-consume x b e =
-        let f = standingAt s b =? reacted in
+        let f = standingAt s b =? hasRun in
         e ∙ ap (λ (t : Bool). (c .a + vOf c =? 0) and t)
-        (early-last f (reacted ≤? standingAt s b) (x <? sinksIn p (kindAt s b))
+        (early-last f (hasRun ≤? standingAt s b) (x <? sinksIn p (kindAt s b))
         (λ q. let g : standingAt s b ≡ 127 = eq? q in le! (omega arith))
-        ∙ ap (λ (t : Bool). (reacted ≤? standingAt s b) and ((x <? sinksIn p (kindAt s b)) and t))
+        ∙ ap (λ (t : Bool). (hasRun ≤? standingAt s b) and ((x <? sinksIn p (kindAt s b)) and t))
         (sym (last-test f 19 (omega arith))))
 
-    pub right-sink : (x a : ℕ) →
-        z ≡ ((c .b + vOf c =? 0) and isValue s a and ((x <? sinks p r) and (kindAt s a =? sinkKind p (shapeOf p r) x))
-        and (standingAt s (sinkLoc p r x) =? unsetSink)) →
-        z ≡ right p r s c (sink x a)
+    pub right-sink : (x a : ℕ) → z ≡ ((c .b + vOf c =? 0)
+        and isValue s a and ((x <? sinkCount p r) and (kindAt s a =? sinkKind p (shapeOf p r) x))
+        and (standingAt s (sinkLoc p r x) =? unsetSink)) → z ≡ right p r s c (sink x a)
     unfolding right formed remaining located agreed disorder _and_
     right-sink x a e = rw (last-test (standingAt s (sinkLoc p r x) =? unsetSink) 6 (omega arith)) e
 

@@ -1,8 +1,8 @@
-pub mod Refusals
+pub mod Accepted
 pub mod Bits
 pub mod Stands
 pub mod Shapes
-pub mod Turns
+pub mod Loops
 pub mod TableBytes
 pub mod Exact
 pub mod Conditions

@@ -1,10 +1,6 @@
 -- A primitive is right where its operands are what its row takes: the code's condition for each sort of row.
 -- Assumes nothing.
-use Prim.Native.Nat.{ℕ, _+_, _<_, _≤_}
-use mathlib.Core.Path.{_≡_, refl, sym, _∙_, ap, subst}
-use mathlib.Core.Bool.{Bool, true, false, not}
-use mathlib.Core.List.{List}
-use native.Mathlib.Omega.{arith}
+use Rattle.value.specs.Prelude.{ℕ, _+_, _≤_, _<_, _≡_, refl, sym, _∙_, ap, subst, Bool, true, false, not, List, arith}
 use Rattle.value.specs.Test.{_and_, _or_, _<?_, _≤?_, _=?_}
 use Rattle.value.specs.Primitive.{table, rowOf, isPrimitive, isWithdrawn, operands, countOf, kindsFit, kindGiven}
 use Rattle.value.specs.declared.Takes.{Takes}
@@ -13,10 +9,11 @@ use Rattle.value.specs.declared.Gives.{Gives}
 use Rattle.value.specs.declared.Gives.the-variants.{ANumber, ATruth, TheirKind}
 use Rattle.value.proofs.Rows.{each}
 use Rattle.value.proofs.Tests.{both!, both?, eq!, eq?, left×, right×, same-test}
-use Rattle.program.specs.Command.{vOf, primitive}
+use Rattle.program.specs.Command.{vOf, primitive, gives}
 use Rattle.program.specs.declared.Command.{Command}
-use Rattle.load.specs.Scan.{aValue, kindAt, stand, isValue, formed, remaining, located, agreed, disorder, standingAfter}
-use Rattle.load.specs.Lent.{right, Giving, oneRight, twoRight, alikeRight, threeRight}
+use Rattle.load.specs.Scan.{aValue, kindAt, stand, isValue, formed, remaining, located, agreed, disorder}
+use Rattle.load.specs.Scan.{standingAfter}
+use Rattle.load.specs.Contracts.{right, Giving, oneRight, twoRight, alikeRight, threeRight}
 use Rattle.load.specs.declared.Scan.{Scan}
 use Rattle.load.proofs.Conditions.{and-true}
 
@@ -97,13 +94,13 @@ module _ (s : Scan) (c : Command) where
       and kindsFit t (kindAt s (c .a)) (kindAt s (c .b)) (kindAt s (c .v0)) and true
 
   module _ (p : List ℕ) (r : ℕ) where
-    asks : right p r s c (primitive (c .x) (c .a) (c .b) (c .v0)) ≡ asked (isPrimitive (c .x)) (isWithdrawn (c .x))
-        (rowOf (c .x) .takes)
+    asks : right p r s c (gives (primitive (c .x) (c .a) (c .b) (c .v0)))
+        ≡ asked (isPrimitive (c .x)) (isWithdrawn (c .x)) (rowOf (c .x) .takes)
     unfolding right formed remaining located agreed disorder operands _=?_
     asks = refl
 
     row-right : {t : Takes} {g : Gives} → Row (c .x) t g → rightBy t s c ≡ right p r s c
-        (primitive (c .x) (c .a) (c .b) (c .v0))
+        (gives (primitive (c .x) (c .a) (c .b) (c .v0)))
     unfolding _and_
     row-right {t} w =
         sym (asks ∙ ap (λ (b : Bool). asked b (isWithdrawn (c .x)) (rowOf (c .x) .takes)) (w .there)
@@ -112,10 +109,10 @@ module _ (s : Scan) (c : Command) where
         ∙ ap (λ (b : Bool). formedBy (countOf t) c and locatedBy (countOf t) s c and b) (and-true _))
 
     -- one that there is not, or that is withdrawn, is refused
-    pub no-row : (isPrimitive (c .x) ≡ false) → false ≡ right p r s c (primitive (c .x) (c .a) (c .b) (c .v0))
+    pub no-row : (isPrimitive (c .x) ≡ false) → false ≡ right p r s c (gives (primitive (c .x) (c .a) (c .b) (c .v0)))
     no-row e = sym (asks ∙ left× _ (left× _ e))
 
-    pub row-gone : (isWithdrawn (c .x) ≡ true) → false ≡ right p r s c (primitive (c .x) (c .a) (c .b) (c .v0))
+    pub row-gone : (isWithdrawn (c .x) ≡ true) → false ≡ right p r s c (gives (primitive (c .x) (c .a) (c .b) (c .v0)))
     unfolding _and_
     row-gone e =
         sym (asks ∙ ap (λ (b : Bool). asked (isPrimitive (c .x)) b (rowOf (c .x) .takes)) e
@@ -193,7 +190,7 @@ module _ (p : List ℕ) (r : ℕ) (before : ℕ → Scan) (c : Command) (k : ℕ
   where
     pub giving : ((n : ℕ) → (k <? 256) ≡ rightBy t (before n) c) →
         (k < 256 → (n : ℕ) → k ≡ kindGiven g (kindAt (before n) (c .b))) →
-        Giving p r before c (primitive (c .x) (c .a) (c .b) (c .v0)) k
+        Giving p r before c (gives (primitive (c .x) (c .a) (c .b) (c .v0))) k
     unfolding standingAfter
     giving e f =
         record {

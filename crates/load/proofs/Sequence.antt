@@ -1,18 +1,15 @@
--- A command among the D commands, or among the R commands: allowed where it stands in its sequence and is right, and then taken.
--- Assumes nothing.
-use Prim.Native.Nat.{ℕ, _<_}
-use mathlib.Core.Path.{_≡_, refl, sym, _∙_, ap, subst}
-use mathlib.Core.Bool.{Bool, true, false, false≢true, true≢false}
-use mathlib.Core.List.{List}
-use native.Mathlib.Omega.{arith}
+-- A command among the D commands, or among the R commands: allowed where it stands in its sequence and is right,
+-- and then taken. Assumes nothing.
+use Rattle.value.specs.Prelude.{ℕ, _<_, _≡_, refl, sym, _∙_, ap, subst, Bool, true, false, true≢false, false≢true, List}
+use Rattle.value.specs.Prelude.{arith}
 use Rattle.value.specs.Test.{_and_, _<?_, pick}
 use Rattle.value.proofs.Tests.{cases, eq?, eq×?, lt!, lt?, lt×, true-and, yes, no}
-use Rattle.program.specs.Bytes.{declared}
+use Rattle.program.specs.Bytes.{commandsD}
 use Rattle.program.specs.Command.{Cmd, sequenceOf, decode}
 use Rattle.program.specs.declared.Command.{Command}
 use Rattle.program.proofs.Decode.{by-code}
 use Rattle.load.specs.Scan.{aValue, stand, inSequence, standingAfter, afterOf}
-use Rattle.load.specs.Lent.{right, allowed, Giving, Making, Stepped}
+use Rattle.load.specs.Contracts.{right, allowed, Giving, Making, Stepped}
 use Rattle.load.specs.declared.Scan.{Scan}
 use Rattle.load.specs.declared.Location.{Location}
 use Rattle.load.proofs.Conditions.{allowed-test}
@@ -45,8 +42,8 @@ module _ (p : List ℕ) (r : ℕ) (s : Scan) (c : Command) where
 
   -- ---- a step
 
-  module _ (in-d : Bool) (q : (s .next <? declared p r) ≡ in-d) where
-    asked : allowed in-d p r s c (decode c) ≡ allowed (s .next <? declared p r) p r s c (decode c)
+  module _ (in-d : Bool) (q : (s .next <? commandsD p r) ≡ in-d) where
+    asked : allowed in-d p r s c (decode c) ≡ allowed (s .next <? commandsD p r) p r s c (decode c)
     asked = ap (λ (b : Bool). allowed b p r s c (decode c)) (sym q)
 
     pub step-refused : allowed in-d p r s c (decode c) ≡ false → Stepped p r s s c true

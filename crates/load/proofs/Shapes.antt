@@ -1,25 +1,20 @@
--- Every location but a value's or a cell's has a shape as its kind, and nothing stands past a reactor's locations: so it is before
--- the first command, and so it stays. With it a Supply that is not refused names one of a byte's bits.
--- Assumes nothing.
-use Prim.Native.Nat.{ℕ, zero, suc, _≤_, _<_}
-use mathlib.Core.Path.{_≡_, refl, _∙_}
-use mathlib.Core.Bool.{Bool, true, false}
-use mathlib.Core.Logic.{_⊎_, inl, inr, ⊎-elim}
-use mathlib.Core.List.{List}
-use native.Mathlib.Omega.{arith}
-use lib.ListN.{getD, set, length, replicate, List·getD-eq-default}
+-- Every location but a value's or a cell's has a shape as its kind, and nothing stands past a reactor's
+-- locations: so it is before the first command, and so it stays. With it a Supply that is not refused names one
+-- of a byte's bits. Assumes nothing.
+use Rattle.value.specs.Prelude.{ℕ, zero, suc, _≤_, _<_, _≡_, refl, _∙_, _⊎_, inl, inr, ⊎-elim, Bool, true, false, List}
+use Rattle.value.specs.Prelude.{length, getD, set, replicate, arith}
+use lib.ListN.{List·getD-eq-default}
 use lib.Seq.{getD-set-same, getD-set-other, set-out}
 use Rattle.value.specs.Test.{need, pick, _=?_}
 use Rattle.value.proofs.Tests.{cases, below, eq?, eq×?, lt?, le?, both?, not-true}
 use Rattle.value.proofs.Zeros.{zeros-at}
 use Rattle.program.specs.Bytes.{shapes, commandsIn}
-use Rattle.program.specs.Location.{sources, sinks, commandLoc, sinkLoc, locations}
-use Rattle.program.specs.Command.{Cmd, allocMono, makePoly, constant, global, supply, react, consume, sink}
-use Rattle.program.specs.Command.{allocPoly, primitive, cell, fetch, keep, none}
+use Rattle.program.specs.Location.{mostLocations, sourceCount, sinkCount, commandLoc, sinkLoc, locations}
+use Rattle.program.specs.Command.{Cmd, allocMono, makePoly, supply, react, sink, gives, allocPoly, cell, keep, none}
 use Rattle.program.specs.declared.Command.{Command}
-use Rattle.load.specs.Scan.{standingAt, kindAt, stand, isCell, isPoint, isDeployment, formed, located, agreed, disorder, refusalOf, standingAfter, advance, afterOf, withSources, withSinks, beginOf}
-use Rattle.load.specs.Legal.{LegalTables, Shaped, FreeSource, Within}
-use Rattle.load.specs.Lent.{right}
+use Rattle.load.specs.Scan.{standingAt, kindAt, stand, isCell, isPoint, isDeployment, formed, located, agreed}
+use Rattle.load.specs.Scan.{disorder, refusalOf, standingAfter, advance, afterOf, withSources, withSinks, beginOf}
+use Rattle.load.specs.Contracts.{LegalTables, Shaped, FreeSource, Within, right}
 use Rattle.load.specs.declared.Scan.{Scan}
 
 -- ---- what a stored entry is
@@ -78,9 +73,9 @@ module _ (p : List ℕ) (some : 0 < shapes p) where
   sinks-shaped r s sh zero = sh
   sinks-shaped r s sh (suc n) = shaped-stand _ _ _ _ (sinks-shaped r s sh n) (λ g. some)
 
-  blank-shaped : Shaped p (record { standing = replicate 174 0; kind = replicate 174 0; next = 0 })
+  blank-shaped : Shaped p (record { standing = replicate mostLocations 0; kind = replicate mostLocations 0; next = 0 })
   unfolding standingAt kindAt
-  blank-shaped l g = absurd (omega (arith, zeros-at 174 l))
+  blank-shaped l g = absurd (omega (arith, zeros-at mostLocations l))
 
   pub begin-shaped : (r : ℕ) → Shaped p (beginOf p r)
   unfolding beginOf
@@ -93,19 +88,20 @@ module _ (p : List ℕ) (r : ℕ) where
   unfolding stand standingAt
   within-stand s l t k w h m g = getD-set-other (s .standing) l m t 0 (λ e. omega arith) ∙ w m g
 
-  sources-within : (s : Scan) → Within p r s → (n : ℕ) → n ≤ sources p r → Within p r (withSources n p r s)
+  sources-within : (s : Scan) → Within p r s → (n : ℕ) → n ≤ sourceCount p r → Within p r (withSources n p r s)
   unfolding withSources locations sinkLoc
   sources-within s w zero h = w
   sources-within s w (suc n) h = within-stand _ n _ _ (sources-within s w n (omega arith)) (omega arith)
 
-  sinks-within : (s : Scan) → Within p r s → (n : ℕ) → n ≤ sinks p r → Within p r (withSinks n p r s)
+  sinks-within : (s : Scan) → Within p r s → (n : ℕ) → n ≤ sinkCount p r → Within p r (withSinks n p r s)
   unfolding withSinks locations sinkLoc
   sinks-within s w zero h = w
   sinks-within s w (suc n) h = within-stand _ _ _ _ (sinks-within s w n (omega arith)) (omega arith)
 
-  blank-within : Within p r (record { standing = replicate 174 0; kind = replicate 174 0; next = 0 })
+  blank-within : Within p r
+      (record { standing = replicate mostLocations 0; kind = replicate mostLocations 0; next = 0 })
   unfolding standingAt
-  blank-within l g = zeros-at 174 l
+  blank-within l g = zeros-at mostLocations l
 
   pub begin-within : Within p r (beginOf p r)
   unfolding beginOf
@@ -123,7 +119,7 @@ module _ (p : List ℕ) (r : ℕ) (s : Scan) (c : Command) where
     pub formed : formed p c d ≡ true
     pub located : located s d ≡ true
     pub agreed : agreed p r s d ≡ true
-    pub ordered : disorder p r s d ≡ 0
+    pub in-order : disorder p r s d ≡ 0
 
   not-refused : (d : Cmd) → refusalOf p r s c d ≡ 0 → NotRefused d
   unfolding refusalOf
@@ -133,7 +129,7 @@ module _ (p : List ℕ) (r : ℕ) (s : Scan) (c : Command) where
       let w = needed _ 25 _ (omega arith) (b .1) in
       let f = needed _ 4 _ (omega arith) (w .1) in
       let g = needed _ 5 _ (omega arith) (f .1) in
-      record { formed = b .0; located = f .0; agreed = g .0; ordered = g .1 }
+      record { formed = b .0; located = f .0; agreed = g .0; in-order = g .1 }
 
   module _ (w : Within p r s) where
     -- what stands is within the locations
@@ -147,21 +143,17 @@ module _ (p : List ℕ) (r : ℕ) (s : Scan) (c : Command) where
     unfolding standingAfter located agreed isDeployment isPoint isCell locations sinkLoc
     standing-within here h (allocMono x) n = within-stand p r s here _ _ w h
     standing-within here h (makePoly x) n = within-stand p r s here _ _ w h
-    standing-within here h (constant x v) n = within-stand p r s here _ _ w h
-    standing-within here h (global x) n = within-stand p r s here _ _ w h
+    standing-within here h (cell x v) n = within-stand p r s here _ _ w h
+    standing-within here h (gives g) n = within-stand p r s here _ _ w h
     standing-within here h (supply x a b) n = within-stand p r s b _ _ w
         (stands-within b 127 (le? (both? (n .located) .1)) (omega arith))
     standing-within here h (react b) n = within-stand p r s b _ _ w
         (stands-within b 127 (le? (n .located)) (omega arith))
-    standing-within here h (consume x b) n = within-stand p r s here _ _ w h
     standing-within here h (sink x a) n = within-stand p r s _ _ _ w
-        (let l : x < sinks p r = lt? (both? (n .agreed) .0) in omega arith)
+        (let l : x < sinkCount p r = lt? (both? (n .agreed) .0) in omega arith)
     standing-within here h (allocPoly a b) n =
         within-stand p r _ here _ _ (within-stand p r s b _ _ w
         (stands-within b 4 (le? (both? (both? (n .located) .1) .0)) (omega arith))) h
-    standing-within here h (primitive x a b d) n = within-stand p r s here _ _ w h
-    standing-within here h (cell x v) n = within-stand p r s here _ _ w h
-    standing-within here h (fetch b) n = within-stand p r s here _ _ w h
     standing-within here h (keep a b) n = within-stand p r s b _ _ w
         (stands-within b 2 (le? (both? (both? (n .located) .1) .0)) (omega arith))
     standing-within here h none n = w
@@ -186,20 +178,16 @@ module _ (p : List ℕ) (r : ℕ) (s : Scan) (c : Command) where
         (λ g. legal .shape x (lt? (both? (n .formed) .1)))
     standing-shaped here (makePoly x) n = shaped-stand p (legal .some-shape) s here _ _ sh
         (λ g. lt? (both? (n .formed) .1))
-    standing-shaped here (constant x v) n = value-stand p (legal .some-shape) s here _ sh
-    standing-shaped here (global x) n = value-stand p (legal .some-shape) s here _ sh
+    standing-shaped here (cell x v) n = shaped-stand p (legal .some-shape) s here _ _ sh (λ g. absurd (omega arith))
+    standing-shaped here (gives g) n = value-stand p (legal .some-shape) s here _ sh
     standing-shaped here (supply x a b) n = shaped-stand p (legal .some-shape) s b _ _ sh
         (λ g. deployment-shape b (both? (n .located) .1))
     standing-shaped here (react b) n = shaped-stand p (legal .some-shape) s b _ _ sh
         (λ g. deployment-shape b (n .located))
-    standing-shaped here (consume x b) n = value-stand p (legal .some-shape) s here _ sh
     standing-shaped here (sink x a) n = shaped-stand p (legal .some-shape) s _ _ _ sh (λ g. legal .some-shape)
     standing-shaped here (allocPoly a b) n =
         let k = point-shape b (both? (n .located) .1) in
         shaped-stand p (legal .some-shape) _ here _ _ (shaped-stand p (legal .some-shape) s b _ _ sh (λ g. k)) (λ g. k)
-    standing-shaped here (primitive x a b d) n = value-stand p (legal .some-shape) s here _ sh
-    standing-shaped here (cell x v) n = shaped-stand p (legal .some-shape) s here _ _ sh (λ g. absurd (omega arith))
-    standing-shaped here (fetch b) n = value-stand p (legal .some-shape) s here _ sh
     standing-shaped here (keep a b) n = shaped-stand p (legal .some-shape) s b _ _ sh (λ g. absurd (omega arith))
     standing-shaped here none n = sh
 
@@ -213,7 +201,7 @@ module _ (p : List ℕ) (r : ℕ) (s : Scan) (c : Command) where
         let k = deployment-shape (c .b) (both? (n .located) .1) in
         let f = legal .few-sources _ k in
         let l = lt? (both? (n .agreed) .0) in
-        let o = needed _ 20 _ (omega arith) (n .ordered) in
+        let o = needed _ 20 _ (omega arith) (n .in-order) in
         let u = needed _ 6 0 (omega arith) (o .1) in
         (omega arith, not-true _ (u .0))
 
@@ -223,4 +211,4 @@ module _ (p : List ℕ) (r : ℕ) (s : Scan) (c : Command) where
         let f = both? e in
         let l = both? (both? (f .1) .1) in
         let a = both? (l .1) in
-        supply-free (record { formed = f .0; located = l .0; agreed = a .0; ordered = eq? (a .1) })
+        supply-free (record { formed = f .0; located = l .0; agreed = a .0; in-order = eq? (a .1) })

@@ -1,22 +1,19 @@
 -- States that stand alike, the bytes of ports, the state after a command, and its tables past their end.
 -- Assumes nothing.
-use Prim.Native.Nat.{ℕ, _+_, _≤_}
-use mathlib.Core.Path.{_≡_, refl, sym, _∙_, ap}
-use mathlib.Core.List.{List}
-use native.Mathlib.Omega.{arith}
+use Rattle.value.specs.Prelude.{ℕ, _+_, _≤_, _≡_, refl, sym, _∙_, ap, List, length, getD, set, arith}
 use native.Mathlib.Numerals.{add-one}
-use lib.ListN.{length, getD, set, List·getD-eq-default}
+use lib.ListN.{List·getD-eq-default}
 use lib.Seq.{set-getD}
 use Rattle.program.specs.Bytes.{byte, shapeAt, sourcesIn, sinksIn, sourceKind, sinkKind, shapeOf}
-use Rattle.program.specs.Command.{Cmd, allocMono, makePoly, constant, global, supply, react, consume, sink, allocPoly}
-use Rattle.program.specs.Command.{primitive, cell, fetch, keep, none}
-use Rattle.program.specs.Location.{sinkLoc}
-use Rattle.load.specs.Lent.{state}
-use Rattle.load.specs.Scan.{aValue, unsetSink, kindAt, stand, standingAfter, advance, afterOf, withSources, withSinks}
+use Rattle.program.specs.Command.{Cmd, allocMono, makePoly, supply, react, sink, allocPoly, gives, cell, keep, none}
+use Rattle.program.specs.Location.{mostLocations, sinkLoc}
+use Rattle.load.specs.Contracts.{state}
+use Rattle.load.specs.Scan.{aValue, unsetSink, kindAt, stand, standingAfter, advance, afterOf, withSources}
+use Rattle.load.specs.Scan.{withSinks}
 use Rattle.load.specs.declared.Scan.{Scan}
 
 -- a table read past its end
-pub past-table : (xs : List ℕ) (l : ℕ) → length xs ≡ 174 → 174 ≤ l → 0 ≡ getD xs l 0
+pub past-table : (xs : List ℕ) (l : ℕ) → length xs ≡ mostLocations → mostLocations ≤ l → 0 ≡ getD xs l 0
 past-table xs l n h = sym (List·getD-eq-default xs 0 (omega arith))
 
 pub stands : {u : Scan} (s : Scan) {l m t v k j : ℕ} → u ≡ stand s l t k → l ≡ m → t ≡ v → k ≡ j → u ≡ stand s m v j
@@ -55,16 +52,12 @@ module _ (p : List ℕ) (r : ℕ) (s : Scan) (here : ℕ) where
   unfolding standingAfter stand
   next-kept (allocMono x) = refl
   next-kept (makePoly x) = refl
-  next-kept (constant x v) = refl
-  next-kept (global x) = refl
+  next-kept (cell x v) = refl
+  next-kept (gives g) = refl
   next-kept (supply x a b) = refl
   next-kept (react b) = refl
-  next-kept (consume x b) = refl
   next-kept (sink x a) = refl
   next-kept (allocPoly a b) = refl
-  next-kept (primitive x a b c) = refl
-  next-kept (cell x v) = refl
-  next-kept (fetch b) = refl
   next-kept (keep a b) = refl
   next-kept none = refl
 

@@ -1,19 +1,18 @@
--- Header and tables whose bytes are all legal are as the scan asks; and the bytes by rows: globals, shapes, entries. Assumes nothing.
-use Prim.Native.Nat.{ℕ, _+_, _-_, _≤_, _<_}
-use mathlib.Core.Path.{_≡_, refl, sym, _∙_, ap, subst}
-use mathlib.Core.Bool.{Bool, true, not, false≢true}
-use mathlib.Core.List.{List}
-use native.Mathlib.Omega.{arith}
+-- Header and tables whose bytes are all legal are as the scan asks; and the bytes by rows: globals,
+-- shapes, entries. Assumes nothing.
+use Rattle.value.specs.Prelude.{ℕ, _+_, _-_, _≤_, _<_, _≡_, refl, sym, _∙_, ap, subst, Bool, true, not, false≢true}
+use Rattle.value.specs.Prelude.{List, length, arith}
 use lib.Dec.{eqb}
-use lib.ListN.{length}
 use Rattle.value.specs.Test.{sweep, pick, _and_, _or_, _≤?_, _<?_, _=?_}
 use Rattle.value.proofs.Sweeps.{sweeps, sweeps?, sweep-more}
 use Rattle.value.proofs.Tests.{both!, both?, cases, eq!, eq?, le!, le?, lt!, lt?, lt×, no, same-test, yes}
-use Rattle.program.specs.Bytes.{byte, shapeAt, entryAt, mainOf, shapes, reactors, globals, sourcesIn, sinksIn, sourceKind, sinkKind, tablesEnd, commandsIn}
+use Rattle.program.specs.Bytes.{byte, shapeAt, entryAt, mainOf, shapes, reactors, globals, sourcesIn, sinksIn}
+use Rattle.program.specs.Bytes.{sourceKind, sinkKind, tablesEnd, commandsIn}
 use Rattle.load.specs.Tables.{between, headerLegal, portLegal, shapeLegal, mainLegal, entryLegal, tableLegal}
 use Rattle.load.specs.Rules.{EntryRule}
-use Rattle.load.specs.Legal.{LegalTables}
-use Rattle.load.proofs.Exact.Bytes.{header, tables, header-first, globals-end, sources-byte, sinks-byte, source-byte, sink-byte, three-tables}
+use Rattle.load.specs.Contracts.{LegalTables}
+use Rattle.load.proofs.Exact.Bytes.{header, tables, header-first, globals-end, sources-byte, sinks-byte}
+use Rattle.load.proofs.Exact.Bytes.{source-byte, sink-byte, three-tables}
 use Rattle.load.proofs.Exact.Widths.{sixteen}
 
 few-commands : (p : List ℕ) (r : ℕ) → EntryRule p r → commandsIn p r ≤ 160

@@ -1,38 +1,32 @@
--- Why a program is refused: of all its faults the first, by number and place. 01, "Check, start, turn"; 02 (v), (vi),
--- (x).
+-- 5.2, 5.3 Why a program is refused: of all its faults the first, by number and place.
 -- All is said by positions: nothing here speaks of tests that compute, of their ladder or of the scan.
-use Prim.Native.Nat.{ℕ, _+_, _≤_, _<_}
-use mathlib.Core.Path.{_≡_}
-use mathlib.Core.Logic.{_↔_, _≢_, _⊎_}
-use mathlib.Core.List.{List}
-use lib.ListN.{length}
+use Rattle.value.specs.Prelude.{ℕ, _+_, _≤_, _<_, _≡_, _⊎_, _↔_, _≢_, List, length}
 use Rattle.value.specs.Value.{numberKind, truthKind, reactorKind}
 use Rattle.value.specs.Primitive.{rowOf, table, operands, remainder}
 use Rattle.value.specs.declared.Takes.{Takes}
 use Rattle.value.specs.declared.Takes.the-variants.{TwoNumbers, OneTruth, TwoTruths, OneOfAny, TruthThenTwo, TwoAlike}
 use Rattle.program.specs.Bytes.{byte, mostBytes, mostShapes, mostReactors, mostGlobals, headerEnd, shapes, reactors}
 use Rattle.program.specs.Bytes.{globals, globalKind, shapeAt, sourcesIn, sinksIn, sourceKind, sinkKind, entryAt}
-use Rattle.program.specs.Bytes.{shapeOf}
-use Rattle.program.specs.Bytes.{declared, running, mainOf, commandsIn, tablesEnd, wholeLength, commandAt}
+use Rattle.program.specs.Bytes.{shapeOf, commandsD, commandsR, mainOf, commandsIn, tablesEnd, wholeLength, commandAt}
 use Rattle.program.specs.Command.{Cmd, Sequence, cmdOf, bytesOf, sequenceOf, D, R, neither, allocMono, makePoly}
 use Rattle.program.specs.Command.{constant, global, supply, react, consume, sink, allocPoly, primitive, cell, fetch}
-use Rattle.program.specs.Command.{keep, none}
-use Rattle.program.specs.Location.{sinks, commandLoc, shapeThere}
+use Rattle.program.specs.Command.{keep, none, gives}
+use Rattle.program.specs.Location.{sinkCount, commandLoc, shapeThere}
 use Rattle.program.specs.Kind.{kindOf, Content}
-use Rattle.load.specs.Refusal.{refusalNumber, refusalPlace}
-use Rattle.load.specs.Check.{numberOf, checkOf}
-use Rattle.load.specs.Rules.{HeaderRule, MainRule, ZeroBytes, Value, Deployment, Point, Cell, Reacts, Allocates}
-use Rattle.load.specs.Rules.{Keeps, Sets, ReactorRule, TablesRight}
+use Rattle.answer.specs.Answer.{refusalNumber, refusalPlace, numberOf}
+use Rattle.load.specs.Check.{checkOf}
+use Rattle.load.specs.Rules.{HeaderRule, MainRule, ZeroBytes, IsValue, IsDeployment, IsPoint, IsCell, Reacts}
+use Rattle.load.specs.Rules.{Allocates, Keeps, Sets, ReactorRule, TablesRight}
 use Rattle.load.specs.Order.{Never, OutOfOrder}
-use Rattle.load.specs.declared.Refusal.{Refusal}
-use Rattle.load.specs.declared.Checked.the-variants.{Refused}
+use Rattle.answer.specs.declared.Refusal.{Refusal}
+use Rattle.answer.specs.declared.Answer.the-variants.{Refused}
 
 -- ---- bytes of the header and the tables: where, and what is wrong there
 
 abbrev pub Between : ℕ → ℕ → ℕ → Type 0
 Between low high x = (low ≤ x) × (x ≤ high)
 
--- k may be the kind of port x, where shape s has `count` of them: below the kind of s itself, or 0 if x is not used
+-- 2.6 k may be the kind of port x, where shape s has `count` of them: below the kind of s itself, or 0 if x is not used
 abbrev pub Port : ℕ → ℕ → ℕ → ℕ → Type 0
 Port s count x k = (x < count → k < reactorKind s) × (count ≤ x → k ≡ 0)
 
@@ -44,8 +38,8 @@ module _ (p : List ℕ) where
     global-count : mostGlobals < globals p → HeaderFault 3
     spare-header : {i : ℕ} → 4 ≤ i → i < headerEnd → byte p i ≢ 0 → HeaderFault i
 
-  -- global x is byte 7 + x; a shape's bytes are two counts, seven source kinds, seven sink kinds; main's shape is at
-  -- fault at main's entry
+  -- 5.12 Which bytes of the tables are at fault: those of globals (2.4), shapes (2.5, 2.6) and entries (2.7). A shape
+  -- that main cannot have (2.8) is a fault of main's entry.
   pub data TableFault : ℕ → Type 0 where
     global-kind : {x : ℕ} → 1 ≤ x → x ≤ globals p → truthKind < globalKind p x → TableFault (7 + x)
     source-count : {s : ℕ} → s < shapes p → 7 < sourcesIn p s → TableFault (shapeAt p s)
@@ -56,8 +50,8 @@ module _ (p : List ℕ) where
         → TableFault (shapeAt p s + 9 + x)
     no-shape : {r : ℕ} → r < reactors p → shapes p ≤ shapeOf p r → TableFault (entryAt p r)
     main-shape : shapeOf p (mainOf p) < shapes p → (MainRule p → ⊥) → TableFault (entryAt p (mainOf p))
-    D-count : {r : ℕ} → r < reactors p → 32 < declared p r → TableFault (entryAt p r + 1)
-    R-count : {r : ℕ} → r < reactors p → (Between 1 128 (running p r) → ⊥) → TableFault (entryAt p r + 2)
+    D-count : {r : ℕ} → r < reactors p → 32 < commandsD p r → TableFault (entryAt p r + 1)
+    R-count : {r : ℕ} → r < reactors p → (Between 1 128 (commandsR p r) → ⊥) → TableFault (entryAt p r + 2)
     spare-entry : {r : ℕ} → r < reactors p → byte p (entryAt p r + 3) ≢ 0 → TableFault (entryAt p r + 3)
 
 -- i is at fault, and no place before it is
@@ -79,16 +73,16 @@ KindsFit TwoAlike i j k = i ≡ j
 abbrev pub Ranged : List ℕ → Cmd → Type 0
 Ranged p (allocMono x) = x < reactors p
 Ranged p (makePoly x) = x < shapes p
-Ranged p (constant x v) = (x < reactorKind (shapes p)) × Content p x v
-Ranged p (global x) = x ≤ globals p
+Ranged p (cell x v) = (x ≤ truthKind) × Content p x v
+Ranged p (gives (constant x v)) = (x < reactorKind (shapes p)) × Content p x v
+Ranged p (gives (global x)) = x ≤ globals p
+Ranged p (gives (consume x b)) = Unit {0}
+Ranged p (gives (primitive x a b c)) = x < length table
+Ranged p (gives (fetch b)) = Unit {0}
 Ranged p (supply x a b) = Unit {0}
 Ranged p (react b) = Unit {0}
-Ranged p (consume x b) = Unit {0}
 Ranged p (sink x a) = Unit {0}
 Ranged p (allocPoly a b) = Unit {0}
-Ranged p (primitive x a b c) = x < length table
-Ranged p (cell x v) = (x ≤ truthKind) × Content p x v
-Ranged p (fetch b) = Unit {0}
 Ranged p (keep a b) = Unit {0}
 Ranged p none = ⊥
 
@@ -96,16 +90,16 @@ Ranged p none = ⊥
 abbrev pub Remaining : Cmd → Type 0
 Remaining (allocMono x) = Unit {0}
 Remaining (makePoly x) = Unit {0}
-Remaining (constant x v) = Unit {0}
-Remaining (global x) = Unit {0}
+Remaining (cell x v) = Unit {0}
+Remaining (gives (constant x v)) = Unit {0}
+Remaining (gives (global x)) = Unit {0}
+Remaining (gives (consume x b)) = Unit {0}
+Remaining (gives (primitive x a b c)) = x ≢ remainder
+Remaining (gives (fetch b)) = Unit {0}
 Remaining (supply x a b) = Unit {0}
 Remaining (react b) = Unit {0}
-Remaining (consume x b) = Unit {0}
 Remaining (sink x a) = Unit {0}
 Remaining (allocPoly a b) = Unit {0}
-Remaining (primitive x a b c) = x ≢ remainder
-Remaining (cell x v) = Unit {0}
-Remaining (fetch b) = Unit {0}
 Remaining (keep a b) = Unit {0}
 Remaining none = Unit {0}
 
@@ -114,17 +108,17 @@ Remaining none = Unit {0}
 abbrev pub Placed : (ℕ → Type 0) → (ℕ → Type 0) → (ℕ → Type 0) → (ℕ → Type 0) → Cmd → Type 0
 Placed value deployment point cells (allocMono x) = Unit {0}
 Placed value deployment point cells (makePoly x) = Unit {0}
-Placed value deployment point cells (constant x v) = Unit {0}
-Placed value deployment point cells (global x) = Unit {0}
+Placed value deployment point cells (cell x v) = Unit {0}
+Placed value deployment point cells (gives (constant x v)) = Unit {0}
+Placed value deployment point cells (gives (global x)) = Unit {0}
+Placed value deployment point cells (gives (consume x b)) = deployment b
+Placed value deployment point cells (gives (primitive x a b c)) =
+    value a × ((operands x < 2) ⊎ value b) × ((operands x < 3) ⊎ value c)
+Placed value deployment point cells (gives (fetch b)) = cells b
 Placed value deployment point cells (supply x a b) = value a × deployment b
 Placed value deployment point cells (react b) = deployment b
-Placed value deployment point cells (consume x b) = deployment b
 Placed value deployment point cells (sink x a) = value a
 Placed value deployment point cells (allocPoly a b) = value a × point b
-Placed value deployment point cells (primitive x a b c) =
-    value a × ((operands x < 2) ⊎ value b) × ((operands x < 3) ⊎ value c)
-Placed value deployment point cells (cell x v) = Unit {0}
-Placed value deployment point cells (fetch b) = cells b
 Placed value deployment point cells (keep a b) = value a × cells b
 Placed value deployment point cells none = Unit {0}
 
@@ -132,25 +126,25 @@ Placed value deployment point cells none = Unit {0}
 abbrev pub Agreed : List ℕ → ℕ → Cmd → Type 0
 Agreed p r (allocMono x) = Unit {0}
 Agreed p r (makePoly x) = Unit {0}
-Agreed p r (constant x v) = Unit {0}
-Agreed p r (global x) = Unit {0}
+Agreed p r (cell x v) = Unit {0}
+Agreed p r (gives (constant x v)) = Unit {0}
+Agreed p r (gives (global x)) = Unit {0}
+Agreed p r (gives (consume x b)) = x < sinksIn p (shapeThere p r b)
+Agreed p r (gives (primitive x a b c)) = KindsFit (rowOf x .takes) (kindOf p r a) (kindOf p r b) (kindOf p r c)
+Agreed p r (gives (fetch b)) = Unit {0}
 Agreed p r (supply x a b) =
     (x < sourcesIn p (shapeThere p r b)) × (kindOf p r a ≡ sourceKind p (shapeThere p r b) x)
 Agreed p r (react b) = Unit {0}
-Agreed p r (consume x b) = x < sinksIn p (shapeThere p r b)
-Agreed p r (sink x a) = (x < sinks p r) × (kindOf p r a ≡ sinkKind p (shapeOf p r) x)
+Agreed p r (sink x a) = (x < sinkCount p r) × (kindOf p r a ≡ sinkKind p (shapeOf p r) x)
 Agreed p r (allocPoly a b) = kindOf p r a ≡ reactorKind (shapeThere p r b)
-Agreed p r (primitive x a b c) = KindsFit (rowOf x .takes) (kindOf p r a) (kindOf p r b) (kindOf p r c)
-Agreed p r (cell x v) = Unit {0}
-Agreed p r (fetch b) = Unit {0}
 Agreed p r (keep a b) = kindOf p r a ≡ kindOf p r b
 Agreed p r none = Unit {0}
 
 module _ (p : List ℕ) (r k : ℕ) where
   -- 3: the sequence
   abbrev pub InSequence : Sequence → Type 0
-  InSequence D = k < declared p r
-  InSequence R = k < declared p r → ⊥
+  InSequence D = k < commandsD p r
+  InSequence R = k < commandsD p r → ⊥
   InSequence neither = ⊥
 
   -- all that 3 asks
@@ -161,7 +155,8 @@ module _ (p : List ℕ) (r k : ℕ) where
   abbrev pub Located : Cmd → Type 0
   Located =
       let l = commandLoc p r k in
-      Placed (Value p r l) (λ b. (b < l) × Deployment p r l b) (λ b. (b < l) × Point p r b) (λ b. (b < l) × Cell p r b)
+      Placed (IsValue p r l) (λ b. (b < l) × IsDeployment p r l b) (λ b. (b < l) × IsPoint p r b)
+      (λ b. (b < l) × IsCell p r b)
 
   -- the number of the first test that command c fails at k: 3, 25, 4, 5, then its order
   pub data First (c : Cmd) : ℕ → Type 0 where
@@ -178,11 +173,11 @@ module _ (p : List ℕ) (r : ℕ) where
 
   -- 7: what is missing at the reactor's end
   pub data Lacks : Type 0 where
-    react-missing : {b : ℕ} → Deployment p r (commandLoc p r (commandsIn p r)) b
+    react-missing : {b : ℕ} → IsDeployment p r (commandLoc p r (commandsIn p r)) b
         → Never p r (Reacts p r b) (commandsIn p r) → Lacks
-    poly-missing : {b : ℕ} → Point p r b → Never p r (Allocates p r b) (commandsIn p r) → Lacks
-    keep-missing : {b : ℕ} → Cell p r b → Never p r (Keeps p r b) (commandsIn p r) → Lacks
-    sink-missing : {x : ℕ} → x < sinks p r → Never p r (Sets p r x) (commandsIn p r) → Lacks
+    poly-missing : {b : ℕ} → IsPoint p r b → Never p r (Allocates p r b) (commandsIn p r) → Lacks
+    keep-missing : {b : ℕ} → IsCell p r b → Never p r (Keeps p r b) (commandsIn p r) → Lacks
+    sink-missing : {x : ℕ} → x < sinkCount p r → Never p r (Sets p r x) (commandsIn p r) → Lacks
 
 -- ---- a program
 
@@ -206,11 +201,11 @@ module _ (p : List ℕ) where
 
 -- ---- proved in proofs/Exact/Faults.antt: an element of each of these types
 
--- Demand 2, number and place of every refusal.
+-- 5.2 The check refuses for the first fault, with its number and place.
 abbrev pub FirstFault : Type 0
 FirstFault = (p : List ℕ) (w : Refusal) → (checkOf p ≡ Refused w) ↔ Fault p (refusalNumber w) (refusalPlace w)
 
--- the numbers that the check can give at all
+-- 5.7 The numbers that the check can give at all.
 abbrev pub CheckNumber : ℕ → Type 0
 CheckNumber n = (n ≤ 7) ⊎ Between 19 21 n ⊎ (n ≡ 25)
 

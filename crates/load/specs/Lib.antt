@@ -3,12 +3,9 @@ pub mod Scan
 pub mod Tables
 pub mod Check
 pub mod Rules
-pub mod Bits
-pub mod Legal
-pub mod Accepted
 pub mod Order
 pub mod Fault
 pub mod Kinds
 pub mod Open
 pub mod Programs
-pub mod Lent
+pub mod Contracts

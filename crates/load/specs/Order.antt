@@ -1,12 +1,8 @@
--- Which number a command out of order has, by the commands before it: 02 (vi). `OutOfOrder` does not speak of the scan;
--- `ExactOrder` holds the scan's test to it.
-use Prim.Native.Nat.{ℕ, _≤_, _<_}
-use mathlib.Core.Path.{_≡_}
-use mathlib.Core.Bool.{true}
-use mathlib.Core.Logic.{_↔_, _≢_}
-use mathlib.Core.List.{List}
+-- 5.16, 5.29 to 5.31 Which number a command out of order has, by the commands before it. `OutOfOrder` does not speak of
+-- the scan; `ExactOrder` holds the scan's test to it.
+use Rattle.value.specs.Prelude.{ℕ, _≤_, _<_, _≡_, _↔_, _≢_, true, List}
 use Rattle.program.specs.Bytes.{reactors, sourcesIn, commandsIn}
-use Rattle.program.specs.Command.{Cmd, cmdOf, allocMono, supply, react, consume, sink, allocPoly, keep}
+use Rattle.program.specs.Command.{Cmd, cmdOf, allocMono, supply, react, consume, sink, allocPoly, keep, gives}
 use Rattle.program.specs.Location.{shapeThere}
 use Rattle.load.specs.Scan.{located, agreed, disorder, scanOf, beginOf}
 use Rattle.load.specs.Rules.{Supplies, Reacts, Allocates, Keeps, Sets, TablesRight}
@@ -29,7 +25,7 @@ module _ (p : List ℕ) (r : ℕ) where
     source-again : {x a b : ℕ} → Never (Reacts p r b) k → Already (Supplies p r x b) k → OutOfOrder k (supply x a b) 6
     sink-again : {x a : ℕ} → Already (Sets p r x) k → OutOfOrder k (sink x a) 6
     early-react : {b : ℕ} → Never (Reacts p r b) k → (Supplied b k → ⊥) → OutOfOrder k (react b) 19
-    early-consume : {x b : ℕ} → Never (Reacts p r b) k → OutOfOrder k (consume x b) 19
+    early-consume : {x b : ℕ} → Never (Reacts p r b) k → OutOfOrder k (gives (consume x b)) 19
     late-supply : {x a b : ℕ} → Already (Reacts p r b) k → OutOfOrder k (supply x a b) 20
     second-react : {b : ℕ} → Already (Reacts p r b) k → OutOfOrder k (react b) 20
     second-poly : {a b : ℕ} → Already (Allocates p r b) k → OutOfOrder k (allocPoly a b) 20

@@ -1,7 +1,5 @@
 -- The bench programs, and ways to change them. What is asked of them stands in crate remus, in the one table of cases.
-use Prim.Native.Nat.{ℕ, _+_}
-use mathlib.Core.List.{List, [], _∷_, _++_}
-use lib.ListN.{replicate, take, drop, set}
+use Rattle.value.specs.Prelude.{ℕ, _+_, List, [], _∷_, _++_, set, take, drop, replicate}
 
 abbrev pub zeros : ℕ → List ℕ
 zeros n = replicate n 0
@@ -13,13 +11,11 @@ joined (l ∷ ls) = l ++ joined ls
 abbrev pub command : ℕ → ℕ → ℕ → ℕ → ℕ → List ℕ
 command code x a b v = code ∷ x ∷ a ∷ b ∷ v ∷ 0 ∷ 0 ∷ 0 ∷ []
 
--- "Clock program, hex: 01 01 01 00 00 00 00 00 | 00 01, then 14 times 00 | 00 00 02 00 | 04, then 7 times 00 | 08, then 7 times 00.
--- 44 bytes."
+-- 2.49 The clock: its sink is the time.
 abbrev pub clock : List ℕ
 clock = joined ((1 ∷ 1 ∷ 1 ∷ zeros 5) ∷ (0 ∷ 1 ∷ zeros 14) ∷ (0 ∷ 0 ∷ 2 ∷ 0 ∷ []) ∷ (4 ∷ zeros 7) ∷ (8 ∷ zeros 7) ∷ [])
 
--- "Nest program: one reactor, no sources, one number sink; D MakePoly shape 0; R Constant of kind 2 value 0, AllocPoly, React,
--- Consume, Sink. 76 bytes".
+-- 2.54 The nest: main deploys itself at a branch point.
 abbrev pub nest : List ℕ
 nest =
     joined (
@@ -27,8 +23,8 @@ nest =
     ∷ command 2 0 0 0 0  -- 0 a branch point of shape 0
     ∷ command 3 2 0 0 0 ∷ command 9 0 1 0 0 ∷ command 6 0 0 2 0 ∷ command 7 0 0 2 0 ∷ command 8 0 4 0 0 ∷ [])
 
--- The toggle program: reactors 0 and 1 of size 11, plus and minus; main, of size 31, takes minus where the time is odd,
--- which it tells by times and divide: 02 (x).
+-- 2.53 The toggle: reactors 0 and 1 of size 11, plus and minus; main, of size 31, takes minus where the time is odd,
+-- which it tells by times and divide.
 abbrev pub toggle : List ℕ
 toggle =
     joined (
@@ -45,15 +41,15 @@ toggle =
     ∷ command 9 0 10 0 0 ∷ command 5 0 2 11 0 ∷ command 5 1 3 11 0  -- 11 the deployment, supplied
     ∷ command 6 0 0 11 0 ∷ command 7 0 0 11 0 ∷ command 8 0 15 0 0 ∷ [])
 
--- the toggle with a remainder where it divides, as a program in stock may have it: 02 (x)
+-- 5.35 The toggle with a remainder where it divides.
 abbrev pub stocked : List ℕ
 stocked = set toggle 127 4
 
--- the toggle with a tick difference where it subtracts: 02 (xii)
+-- 1.24 The toggle with a tick difference where it subtracts.
 abbrev pub ticking : List ℕ
 ticking = set toggle 71 13
 
--- whether a card passes, both its counts being below their limits, 100 and 8: 02 (iv)
+-- 1.19 Whether a card passes, both its counts being below their limits, 100 and 8.
 abbrev pub graded : List ℕ
 graded =
     joined (
@@ -64,7 +60,7 @@ graded =
     ∷ command 4 2 0 0 0 ∷ command 3 0 0 0 8 ∷ command 10 5 3 4 0  -- 5 whether the second is
     ∷ command 10 8 2 5 0 ∷ command 8 0 6 0 0 ∷ [])
 
--- A running maximum, 02 (v): of 4 and of all readings so far, a blank one left out. Size 19.
+-- 2.52 A running maximum: of 4 and of all readings so far, a blank one left out. Size 19.
 abbrev pub peak : List ℕ
 peak =
     joined (

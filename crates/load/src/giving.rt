@@ -3,14 +3,13 @@ use crate::Facts;
 use crate::Scan;
 use crate::standing::seen;
 use program::Command;
+use program::MOST_LOCATIONS;
 use program::content_legal;
 use program::global_kind;
-ghost use mathlib.Core.Path.{_≡_};
-ghost use mathlib.Core.List.{List};
-ghost use Prim.Native.Nat.{ℕ, _<_};
+ghost use Rattle.value.specs.Prelude.{ℕ, _<_, _≡_, List};
 ghost use Rattle.value.specs.Test.{_<?_};
 ghost use Rattle.program.specs.Command as C;
-ghost use Rattle.load.specs.Lent.{state, FactsOf, Giving, oneRight, twoRight, alikeRight, threeRight};
+ghost use Rattle.load.specs.Contracts.{state, FactsOf, Giving, oneRight, twoRight, alikeRight, threeRight};
 ghost use Rattle.load.specs.Scan as S;
 
 pub(crate) const REFUSED: u16 = 256;
@@ -24,7 +23,9 @@ fn given(right: bool, kind: u8) -> u16
 
 pub(crate) fn constant(program: &[u8], facts: Facts, c: Command) -> u16
     requires { ⌜ FactsOf (now program) facts ⌝ }
-    ensures { λ k. ⌜ ((before : ℕ → Scan) → Giving (now (program .entry)) (facts .reactor) before c (C.constant (c .x) (C.vOf c)) k) ⌝ }
+    ensures { λ k.
+        let p = now (program .entry) in
+        ⌜ ((before : ℕ → Scan) → Giving p (facts .reactor) before c (C.gives (C.constant (c .x) (C.vOf c))) k) ⌝ }
 {
     let v = c.v();
     let right = (c.a as u16 + c.b as u16 == 0)
@@ -35,7 +36,9 @@ pub(crate) fn constant(program: &[u8], facts: Facts, c: Command) -> u16
 
 pub(crate) fn global(program: &[u8], facts: Facts, c: Command) -> u16
     requires { ⌜ FactsOf (now program) facts ⌝ }
-    ensures { λ k. ⌜ ((before : ℕ → Scan) → Giving (now (program .entry)) (facts .reactor) before c (C.global (c .x)) k) ⌝ }
+    ensures { λ k.
+        let p = now (program .entry) in
+        ⌜ ((before : ℕ → Scan) → Giving p (facts .reactor) before c (C.gives (C.global (c .x))) k) ⌝ }
 {
     let rest = c.a as u64 + c.b as u64 + c.v() as u64;
     let k = global_kind(program, c.x);
@@ -45,12 +48,14 @@ pub(crate) fn global(program: &[u8], facts: Facts, c: Command) -> u16
 pub(crate) fn consume(
     program: &[u8],
     facts: Facts,
-    standing: &[u8; 174],
-    kind: &[u8; 174],
+    standing: &[u8; MOST_LOCATIONS],
+    kind: &[u8; MOST_LOCATIONS],
     c: Command,
 ) -> u16
     requires { ⌜ FactsOf (now program) facts ⌝ }
-    ensures { λ k. ⌜ Giving (now (program .entry)) (facts .reactor) (state (now (standing .entry)) (now (kind .entry))) c (C.consume (c .x) (c .b)) k ⌝ }
+    ensures { λ k.
+        let p = now (program .entry) in let before = state (now (standing .entry)) (now (kind .entry)) in
+        ⌜ Giving p (facts .reactor) before c (C.gives (C.consume (c .x) (c .b))) k ⌝ }
 {
     let rest = c.a as u64 + c.v() as u64;
     let from = seen(standing, kind, c.b);
@@ -62,8 +67,10 @@ pub(crate) fn consume(
     )
 }
 
-pub(crate) fn fetch(standing: &[u8; 174], kind: &[u8; 174], c: Command) -> u16
-    ensures { λ k. ⌜ ((p : List ℕ) (r : ℕ) → Giving p r (state (now (standing .entry)) (now (kind .entry))) c (C.fetch (c .b)) k) ⌝ }
+pub(crate) fn fetch(standing: &[u8; MOST_LOCATIONS], kind: &[u8; MOST_LOCATIONS], c: Command) -> u16
+    ensures { λ k.
+        let before = state (now (standing .entry)) (now (kind .entry)) in
+        ⌜ ((p : List ℕ) (r : ℕ) → Giving p r before c (C.gives (C.fetch (c .b))) k) ⌝ }
 {
     let rest = c.x as u64 + c.a as u64 + c.v() as u64;
     let from = seen(standing, kind, c.b);
@@ -72,8 +79,15 @@ pub(crate) fn fetch(standing: &[u8; 174], kind: &[u8; 174], c: Command) -> u16
 }
 
 // A primitive of one operand, which may be `any` value or must be a truth.
-fn of_one(standing: &[u8; 174], kind: &[u8; 174], c: Command, any: bool) -> u16
-    ensures right { λ k. ⌜ ((n : ℕ) → (k <? 256) ≡ oneRight (state (now (standing .entry)) (now (kind .entry)) n) c any) ⌝ }
+fn of_one(
+    standing: &[u8; MOST_LOCATIONS],
+    kind: &[u8; MOST_LOCATIONS],
+    c: Command,
+    any: bool,
+) -> u16
+    ensures right { λ k.
+        let before = state (now (standing .entry)) (now (kind .entry)) in
+        ⌜ ((n : ℕ) → (k <? 256) ≡ oneRight (before n) c any) ⌝ }
     ensures kind { λ k. ⌜ (k < 256 → k ≡ 1) ⌝ }
 {
     let rest = c.b as u64 + c.v() as u64;
@@ -85,8 +99,16 @@ fn of_one(standing: &[u8; 174], kind: &[u8; 174], c: Command, any: bool) -> u16
 }
 
 // A primitive of two operands of kind k.
-fn of_two(standing: &[u8; 174], kind: &[u8; 174], c: Command, k: u8, gives: u8) -> u16
-    ensures right { λ r. ⌜ ((n : ℕ) → (r <? 256) ≡ twoRight (state (now (standing .entry)) (now (kind .entry)) n) c k) ⌝ }
+fn of_two(
+    standing: &[u8; MOST_LOCATIONS],
+    kind: &[u8; MOST_LOCATIONS],
+    c: Command,
+    k: u8,
+    gives: u8,
+) -> u16
+    ensures right { λ r.
+        let before = state (now (standing .entry)) (now (kind .entry)) in
+        ⌜ ((n : ℕ) → (r <? 256) ≡ twoRight (before n) c k) ⌝ }
     ensures kind { λ r. ⌜ (r < 256 → r ≡ gives) ⌝ }
 {
     let v = c.v();
@@ -97,9 +119,13 @@ fn of_two(standing: &[u8; 174], kind: &[u8; 174], c: Command, k: u8, gives: u8) 
 }
 
 // A primitive of two operands of one kind.
-fn of_alike(standing: &[u8; 174], kind: &[u8; 174], c: Command) -> u16
-    ensures right { λ r. ⌜ ((n : ℕ) → (r <? 256) ≡ alikeRight (state (now (standing .entry)) (now (kind .entry)) n) c) ⌝ }
-    ensures kind { λ r. ⌜ (r < 256 → (n : ℕ) → r ≡ S.kindAt (state (now (standing .entry)) (now (kind .entry)) n) (c .b)) ⌝ }
+fn of_alike(standing: &[u8; MOST_LOCATIONS], kind: &[u8; MOST_LOCATIONS], c: Command) -> u16
+    ensures right { λ r.
+        let before = state (now (standing .entry)) (now (kind .entry)) in
+        ⌜ ((n : ℕ) → (r <? 256) ≡ alikeRight (before n) c) ⌝ }
+    ensures kind { λ r.
+        let before = state (now (standing .entry)) (now (kind .entry)) in
+        ⌜ (r < 256 → (n : ℕ) → r ≡ S.kindAt (before n) (c .b)) ⌝ }
 {
     let v = c.v();
     let a = seen(standing, kind, c.a);
@@ -109,9 +135,13 @@ fn of_alike(standing: &[u8; 174], kind: &[u8; 174], c: Command) -> u16
 }
 
 // A primitive of a truth and two operands of one kind.
-fn of_three(standing: &[u8; 174], kind: &[u8; 174], c: Command) -> u16
-    ensures right { λ r. ⌜ ((n : ℕ) → (r <? 256) ≡ threeRight (state (now (standing .entry)) (now (kind .entry)) n) c) ⌝ }
-    ensures kind { λ r. ⌜ (r < 256 → (n : ℕ) → r ≡ S.kindAt (state (now (standing .entry)) (now (kind .entry)) n) (c .b)) ⌝ }
+fn of_three(standing: &[u8; MOST_LOCATIONS], kind: &[u8; MOST_LOCATIONS], c: Command) -> u16
+    ensures right { λ r.
+        let before = state (now (standing .entry)) (now (kind .entry)) in
+        ⌜ ((n : ℕ) → (r <? 256) ≡ threeRight (before n) c) ⌝ }
+    ensures kind { λ r.
+        let before = state (now (standing .entry)) (now (kind .entry)) in
+        ⌜ (r < 256 → (n : ℕ) → r ≡ S.kindAt (before n) (c .b)) ⌝ }
 {
     let v = c.v();
     let a = seen(standing, kind, c.a);
@@ -126,8 +156,14 @@ fn of_three(standing: &[u8; 174], kind: &[u8; 174], c: Command) -> u16
     )
 }
 
-pub(crate) fn primitive(standing: &[u8; 174], kind: &[u8; 174], c: Command) -> u16
-    ensures { λ k. ⌜ ((p : List ℕ) (r : ℕ) → Giving p r (state (now (standing .entry)) (now (kind .entry))) c (C.primitive (c .x) (c .a) (c .b) (c .v0)) k) ⌝ }
+pub(crate) fn primitive(
+    standing: &[u8; MOST_LOCATIONS],
+    kind: &[u8; MOST_LOCATIONS],
+    c: Command,
+) -> u16
+    ensures { λ k.
+        let before = state (now (standing .entry)) (now (kind .entry)) in
+        ⌜ ((p : List ℕ) (r : ℕ) → Giving p r before c (C.gives (C.primitive (c .x) (c .a) (c .b) (c .v0))) k) ⌝ }
 {
     let x = c.x;
     match x {

@@ -5,12 +5,9 @@ use program::entry_at;
 use program::globals;
 use program::shape_at;
 use program::shapes;
-ghost use mathlib.Core.Path.{_≡_};
-ghost use lib.ListN.{length};
-ghost use Prim.Native.Nat.{_+_, _≤_, _<_};
+ghost use Rattle.value.specs.Prelude.{_+_, _≤_, _<_, _≡_, length};
 ghost use Rattle.program.specs.Bytes as B;
-ghost use Rattle.load.specs.Legal.{LegalTables};
-ghost use Rattle.load.specs.Lent.{FactsOf};
+ghost use Rattle.load.specs.Contracts.{LegalTables, FactsOf};
 
 // Reactor r, with what is read of it once.
 pub(crate) fn facts_of(program: &[u8], r: u8) -> Facts
@@ -46,7 +43,9 @@ impl Facts {
     // Byte k of shape s.
     pub(crate) fn port(self, program: &[u8], s: u8, k: u16) -> u8
         requires { ⌜ FactsOf (now program) self ⌝ }
-        ensures { λ b. ⌜ b ≡ B.byte (now (program .entry)) (B.shapeAt (now (program .entry)) s + k) ⌝ }
+        ensures { λ b.
+            let p = now (program .entry) in
+            ⌜ b ≡ B.byte p (B.shapeAt p s + k) ⌝ }
     {
         byte(
             program,

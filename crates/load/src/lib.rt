@@ -1,12 +1,14 @@
-// The load check: which programs are accepted, and why another is refused. Document 01, "Bytecode"
-// and the table of refusals.
+// The load check: which programs are accepted, and why another is refused. Sections 2 and 5 of the
+// manual.
 //
 // A program is at most 65,535 bytes. The check reads its header and tables as a whole, and looks for
 // the first byte that is not legal only where there is one; then its commands once, in order, and stops
 // at the first that is refused, whose number is sought only then. It is linear in the program's length;
 // what it knows of a reactor's locations is two tables of 174 bytes, which are lent to the scan and
 // changed in place.
-mod answer;
+use program::MOST_LOCATIONS;
+
+mod calls;
 mod giving;
 mod known;
 mod reactor;
@@ -14,16 +16,15 @@ mod refuse;
 mod standing;
 mod tables;
 mod take;
-mod verdict;
 
-pub use verdict::check;
-pub use verdict::judge;
+pub use calls::check;
+pub use calls::judge;
 
 // A standing and a kind for each of up to 174 locations, and the index of the next command, as one
 // value: for the number of a refusal. The definitions of specs/ speak of it.
 pub struct Scan {
-    pub standing: [u8; 174],
-    pub kind: [u8; 174],
+    pub standing: [u8; MOST_LOCATIONS],
+    pub kind: [u8; MOST_LOCATIONS],
     pub next: u8,
 }
 
@@ -52,40 +53,4 @@ pub struct Facts {
 pub struct Location {
     pub standing: u8,
     pub kind: u8,
-}
-
-// Why a call is refused: the rows of 01's table in its order, from 1 on, then those of 02, each with
-// its value.
-pub enum Refusal {
-    ProgramLength(usize),
-    TableByte(usize),
-    Command(usize),
-    Operand(usize),
-    PortOrKind(usize),
-    SetTwice(usize),
-    Missing(usize),
-    MemoryLength(usize),
-    UnsoundImage(usize),
-    ReadingsLength(usize),
-    Reading(usize),
-    SinkSpace(usize),
-    Clock,
-    NoRoom(usize),
-    TooDeep(usize),
-    TooEarly(usize),
-    TooLate(usize),
-    NotLower(usize),
-    Withdrawn(usize),
-}
-
-// Whether all is well, or why it is refused.
-pub enum Ruling {
-    Fine,
-    Refused(Refusal),
-}
-
-// Accepted, with the size of main; or refused.
-pub enum Checked {
-    Accepted(usize),
-    Refused(Refusal),
 }

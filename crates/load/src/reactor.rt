@@ -4,23 +4,27 @@ use crate::Progress;
 use crate::Scan;
 use crate::standing::settled;
 use crate::standing::stand;
+use program::MOST_LOCATIONS;
 use program::bytes_within;
 use program::source_kind;
-ghost use mathlib.Core.Path.{_≡_};
-ghost use mathlib.Core.Bool.{true, false};
-ghost use mathlib.Core.List.{List};
-ghost use lib.ListN.{length, getD, replicate};
-ghost use Prim.Native.Nat.{ℕ, _+_, _*_, _≤_, _<_};
+ghost use Rattle.value.specs.Prelude.{ℕ, _+_, _*_, _≤_, _<_, _≡_, true, false, List, length, getD, replicate};
 ghost use Rattle.program.specs.Bytes as B;
 ghost use Rattle.program.specs.Location as L;
-ghost use Rattle.load.specs.Legal.{LegalTables, Shaped, Within};
-ghost use Rattle.load.specs.Lent.{state, FactsOf, Sweeping, Ran};
+ghost use Rattle.load.specs.Contracts.{LegalTables, Shaped, Within, state, FactsOf, Sweeping, Ran};
 ghost use Rattle.load.specs.Scan as S;
 
 // Each source is a value.
-fn with_sources(program: &[u8], facts: Facts, standing: &mut [u8; 174], kind: &mut [u8; 174])
+fn with_sources(
+    program: &[u8],
+    facts: Facts,
+    standing: &mut [u8; MOST_LOCATIONS],
+    kind: &mut [u8; MOST_LOCATIONS],
+)
     requires { ⌜ FactsOf (now program) facts ⌝ }
-    ensures { λ _. ⌜ state (now (standing .exit)) (now (kind .exit)) 0 ≡ S.withSources (L.sources (now (program .entry)) (facts .reactor)) (now (program .entry)) (facts .reactor) (state (now (standing .entry)) (now (kind .entry)) 0) ⌝ }
+    ensures { λ _.
+        let p = now (program .entry) in let before = state (now (standing .entry)) (now (kind .entry)) in
+        let after = state (now (standing .exit)) (now (kind .exit)) in
+        ⌜ after 0 ≡ S.withSources (L.sourceCount p (facts .reactor)) p (facts .reactor) (before 0) ⌝ }
 {
     let mut x: u8 = 0;
     while x < facts.sources {
@@ -31,9 +35,17 @@ fn with_sources(program: &[u8], facts: Facts, standing: &mut [u8; 174], kind: &m
 }
 
 // No own sink is set.
-fn with_sinks(program: &[u8], facts: Facts, standing: &mut [u8; 174], kind: &mut [u8; 174])
+fn with_sinks(
+    program: &[u8],
+    facts: Facts,
+    standing: &mut [u8; MOST_LOCATIONS],
+    kind: &mut [u8; MOST_LOCATIONS],
+)
     requires { ⌜ FactsOf (now program) facts ⌝ }
-    ensures { λ _. ⌜ state (now (standing .exit)) (now (kind .exit)) 0 ≡ S.withSinks (L.sinks (now (program .entry)) (facts .reactor)) (now (program .entry)) (facts .reactor) (state (now (standing .entry)) (now (kind .entry)) 0) ⌝ }
+    ensures { λ _.
+        let p = now (program .entry) in let before = state (now (standing .entry)) (now (kind .entry)) in
+        let after = state (now (standing .exit)) (now (kind .exit)) in
+        ⌜ after 0 ≡ S.withSinks (L.sinkCount p (facts .reactor)) p (facts .reactor) (before 0) ⌝ }
 {
     let first = facts.first_sink();
     let mut x: u8 = 0;
@@ -46,26 +58,32 @@ fn with_sinks(program: &[u8], facts: Facts, standing: &mut [u8; 174], kind: &mut
 impl Progress {
     // Takes the D commands of the reactor, whose commands begin at byte `first`, up to one that is
     // refused.
-    fn run_declared(
+    fn run_d(
         self,
         program: &[u8],
         facts: Facts,
-        standing: &mut [u8; 174],
-        kind: &mut [u8; 174],
+        standing: &mut [u8; MOST_LOCATIONS],
+        kind: &mut [u8; MOST_LOCATIONS],
         first: u32,
     ) -> Progress
         requires tables { ⌜ LegalTables (now program) ⌝ }
         requires facts { ⌜ FactsOf (now program) facts ⌝ }
-        requires start { ⌜ (self .next ≡ 0) × Shaped (now program) (state (now standing) (now kind) (self .next)) × Within (now program) (facts .reactor) (state (now standing) (now kind) (self .next)) ⌝ }
-        requires here { ⌜ (first ≡ B.commandsAt (now program) (facts .reactor)) × (first + 8 * (facts .declared + facts .running) ≤ length (now program)) × (length (now program) ≤ 65535) ⌝ }
-        ensures { λ t. ⌜ Ran (now (program .entry)) (facts .reactor) (facts .declared) (state (now (standing .entry)) (now (kind .entry)) (self .next)) (state (now (standing .exit)) (now (kind .exit)) (t .next)) (t .refused) ⌝ }
+        requires start { ⌜ (self .next ≡ 0) × Shaped (now program) (state (now standing) (now kind) (self .next))
+            × Within (now program) (facts .reactor) (state (now standing) (now kind) (self .next)) ⌝ }
+        requires here { ⌜ (first ≡ B.commandsAt (now program) (facts .reactor))
+            × (first + 8 * (facts .declared + facts .running) ≤ length (now program))
+            × (length (now program) ≤ B.mostBytes) ⌝ }
+        ensures { λ t.
+            let p = now (program .entry) in let before = state (now (standing .entry)) (now (kind .entry)) in
+            let after = state (now (standing .exit)) (now (kind .exit)) in
+            ⌜ Ran p (facts .reactor) (facts .declared) (before (self .next)) (after (t .next)) (t .refused) ⌝ }
     {
         let mut s = self;
         let mut left = facts.declared;
         while 0 < left {
             let at = first + 8 * (s.next as u32);
             let c = bytes_within(program, at as usize);
-            s = s.take_declared(program, facts, standing, kind, c);
+            s = s.take_d(program, facts, standing, kind, c);
             if s.refused {
                 return s;
             }
@@ -79,12 +97,12 @@ impl Progress {
     }
 
     // Then its R commands.
-    fn run_running(
+    fn run_r(
         self,
         program: &[u8],
         facts: Facts,
-        standing: &mut [u8; 174],
-        kind: &mut [u8; 174],
+        standing: &mut [u8; MOST_LOCATIONS],
+        kind: &mut [u8; MOST_LOCATIONS],
         first: u32,
     ) -> Progress
         requires tables { ⌜ LegalTables (now program) ⌝ }
@@ -92,7 +110,9 @@ impl Progress {
         requires start { let p = now program in
             let s = state (now standing) (now kind) (self .next) in
             ⌜ (self .next ≡ facts .declared) × (self .results ≡ 0) × Shaped p s × Within p (facts .reactor) s ⌝ }
-        requires here { ⌜ (first ≡ B.commandsAt (now program) (facts .reactor)) × (first + 8 * (facts .declared + facts .running) ≤ length (now program)) × (length (now program) ≤ 65535) ⌝ }
+        requires here { ⌜ (first ≡ B.commandsAt (now program) (facts .reactor))
+            × (first + 8 * (facts .declared + facts .running) ≤ length (now program))
+            × (length (now program) ≤ B.mostBytes) ⌝ }
         ensures ran { λ t.
             let p = now (program .entry) in
             let before = state (now (standing .entry)) (now (kind .entry)) (self .next) in
@@ -107,7 +127,7 @@ impl Progress {
         while 0 < left {
             let at = first + 8 * (s.next as u32);
             let c = bytes_within(program, at as usize);
-            s = s.take_running(program, facts, standing, kind, c);
+            s = s.take_r(program, facts, standing, kind, c);
             if s.refused {
                 return s;
             }
@@ -126,17 +146,18 @@ impl Progress {
 pub(crate) fn scan(
     program: &[u8],
     facts: Facts,
-    standing: &mut [u8; 174],
-    kind: &mut [u8; 174],
+    standing: &mut [u8; MOST_LOCATIONS],
+    kind: &mut [u8; MOST_LOCATIONS],
     first: u32,
 ) -> Progress
     requires tables { ⌜ LegalTables (now program) ⌝ }
     requires facts { ⌜ FactsOf (now program) facts ⌝ }
-    requires zeros { ⌜ (now standing ≡ replicate 174 0) × (now kind ≡ replicate 174 0) ⌝ }
-    requires here { ⌜ (first ≡ B.commandsAt (now program) (facts .reactor)) × (first + 8 * (facts .declared + facts .running) ≤ length (now program)) × (length (now program) ≤ 65535) ⌝ }
+    requires zeros { ⌜ (now standing ≡ replicate L.mostLocations 0) × (now kind ≡ replicate L.mostLocations 0) ⌝ }
+    requires here { ⌜ (first ≡ B.commandsAt (now program) (facts .reactor))
+        × (first + 8 * (facts .declared + facts .running) ≤ length (now program))
+        × (length (now program) ≤ B.mostBytes) ⌝ }
     ensures ran { λ t.
-        let p = now (program .entry) in
-        let r = facts .reactor in
+        let p = now (program .entry) in let r = facts .reactor in
         let after = state (now (standing .exit)) (now (kind .exit)) (t .next) in
         ⌜ Ran p r (B.commandsIn p r) (S.beginOf p r) after (t .refused) ⌝ }
     ensures counted { λ t.
@@ -150,7 +171,7 @@ pub(crate) fn scan(
         results: 0,
         refused: false,
     };
-    let d = s.run_declared(program, facts, standing, kind, first);
+    let d = s.run_d(program, facts, standing, kind, first);
     if d.refused {
         return d;
     }
@@ -159,12 +180,12 @@ pub(crate) fn scan(
         results: 0,
         refused: false,
     };
-    r.run_running(program, facts, standing, kind, first)
+    r.run_r(program, facts, standing, kind, first)
 }
 
 // Whether the 16 locations from `at` on are settled. The loop has no way out, so that it can go many
 // locations at a time.
-fn settled_from(standing: &[u8; 174], at: usize) -> bool
+fn settled_from(standing: &[u8; MOST_LOCATIONS], at: usize) -> bool
     requires { ⌜ at ≤ 158 ⌝ }
     ensures { λ t. ⌜ Sweeping (now (standing .entry)) at 16 t ⌝ }
 {
@@ -179,7 +200,7 @@ fn settled_from(standing: &[u8; 174], at: usize) -> bool
 
 // Whether no React, AllocPoly, Keep or sink is missing at the end of a reactor of n locations. They are
 // looked at 16 at a time, the last 16 of the table some of them twice.
-pub(crate) fn complete(standing: &[u8; 174], n: usize) -> bool
+pub(crate) fn complete(standing: &[u8; MOST_LOCATIONS], n: usize) -> bool
     requires small { ⌜ n < 2000 ⌝ }
     requires within { ⌜ ((l : ℕ) → n ≤ l → getD (now standing) l 0 ≡ 0) ⌝ }
     ensures { λ t. ⌜ ((kind : List ℕ) (m : ℕ) → t ≡ S.complete (state (now (standing .entry)) kind m)) ⌝ }

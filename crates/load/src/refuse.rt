@@ -2,15 +2,15 @@
 use crate::Scan;
 use crate::standing::is_ready;
 use program::Command;
+use program::commands_d;
 use program::content_legal;
-use program::declared;
 use program::globals;
 use program::reactors;
 use program::shape_of;
 use program::shapes;
+use program::sink_count;
 use program::sink_kind;
 use program::sink_loc;
-use program::sinks;
 use program::sinks_in;
 use program::source_kind;
 use program::sources_in;
@@ -18,9 +18,7 @@ use value::is_primitive;
 use value::is_withdrawn;
 use value::kinds_fit;
 use value::operands;
-ghost use mathlib.Core.Path.{_≡_};
-ghost use mathlib.Core.List.{List};
-ghost use Prim.Native.Nat.{ℕ, _+_};
+ghost use Rattle.value.specs.Prelude.{ℕ, _+_, _≡_, List};
 ghost use Rattle.value.specs.Test.{_and_, _<?_, _=?_, need};
 ghost use Rattle.program.specs.Bytes as B;
 ghost use Rattle.program.specs.Command as C;
@@ -37,7 +35,7 @@ pub(crate) fn content_formed(program: &[u8], c: Command, allowed: bool) -> bool
 
 // 3: a primitive's number exists, and what it does not take is zero.
 fn primitive_formed(program: &[u8], c: Command) -> bool
-    ensures { λ r. ⌜ r ≡ S.formed (now (program .entry)) c (C.primitive (c .x) (c .a) (c .b) (c .v0)) ⌝ }
+    ensures { λ r. ⌜ r ≡ S.formed (now (program .entry)) c (C.gives (C.primitive (c .x) (c .a) (c .b) (c .v0))) ⌝ }
 {
     let n = operands(c.x);
     is_primitive(c.x)
@@ -93,9 +91,11 @@ fn unless(ok: bool, number: u8) -> u8
 impl Scan {
     // 3: AllocMono, MakePoly and Cell among the D commands, the others among the R commands.
     pub(crate) fn in_sequence(self, program: &[u8], r: u8, c: Command) -> bool
-        ensures { λ t. ⌜ t ≡ S.inSequence (C.sequenceOf (C.decode c)) (self .next <? B.declared (now (program .entry)) r) ⌝ }
+        ensures { λ t.
+            let p = now (program .entry) in
+            ⌜ t ≡ S.inSequence (C.sequenceOf (C.decode c)) (self .next <? B.commandsD p r) ⌝ }
     {
-        let in_d = self.next < declared(program, r as u32);
+        let in_d = self.next < commands_d(program, r as u32);
         let code = c.code;
         match code {
             Command::ALLOC_MONO..=Command::MAKE_POLY => in_d,
@@ -108,7 +108,7 @@ impl Scan {
 
     // 4 for a primitive: each operand that it takes is a value.
     fn operands_located(self, c: Command) -> bool
-        ensures { λ r. ⌜ r ≡ S.located self (C.primitive (c .x) (c .a) (c .b) (c .v0)) ⌝ }
+        ensures { λ r. ⌜ r ≡ S.located self (C.gives (C.primitive (c .x) (c .a) (c .b) (c .v0))) ⌝ }
     {
         let n = operands(c.x);
         self.is_value(c.a) & ((n < 2) | self.is_value(c.b)) & ((n < 3) | self.is_value(c.v0))
@@ -146,12 +146,12 @@ impl Scan {
     {
         let k = self.kind_at(c.a as usize);
         let s = shape_of(program, r as u32);
-        (c.x < sinks(program, r as u32)) & (k == sink_kind(program, s, c.x))
+        (c.x < sink_count(program, r as u32)) & (k == sink_kind(program, s, c.x))
     }
 
     // 5 for Consume: the deployment has sink x.
     fn port_agreed(self, program: &[u8], c: Command) -> bool
-        ensures { λ t. ⌜ ((r : ℕ) → t ≡ S.agreed (now (program .entry)) r self (C.consume (c .x) (c .b))) ⌝ }
+        ensures { λ t. ⌜ ((r : ℕ) → t ≡ S.agreed (now (program .entry)) r self (C.gives (C.consume (c .x) (c .b)))) ⌝ }
     {
         let s = self.kind_at(c.b as usize);
         c.x < sinks_in(program, s)
@@ -159,7 +159,8 @@ impl Scan {
 
     // 5 for a primitive: its operands have the kinds that its row of the table takes.
     fn operands_agreed(self, c: Command) -> bool
-        ensures { λ t. ⌜ ((p : List ℕ) (r : ℕ) → t ≡ S.agreed p r self (C.primitive (c .x) (c .a) (c .b) (c .v0))) ⌝ }
+        ensures { λ t.
+            ⌜ ((p : List ℕ) (r : ℕ) → t ≡ S.agreed p r self (C.gives (C.primitive (c .x) (c .a) (c .b) (c .v0)))) ⌝ }
     {
         let j = self.kind_at(c.a as usize);
         let k = self.kind_at(c.b as usize);

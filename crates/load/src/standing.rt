@@ -2,13 +2,11 @@
 // as nothing, and no change reaches it.
 use crate::Location;
 use crate::Scan;
+use program::MOST_LOCATIONS;
 use program::byte;
-ghost use mathlib.Core.Path.{_≡_};
-ghost use Prim.Native.Nat.{ℕ, _/_, _%_, _^_};
-ghost use lib.ListN.{getD, set};
+ghost use Rattle.value.specs.Prelude.{ℕ, _/_, _%_, _^_, _≡_, getD, set};
 ghost use Rattle.value.specs.Test.{_=?_};
-ghost use Rattle.load.specs.Bits.{byteBit};
-ghost use Rattle.load.specs.Lent.{state};
+ghost use Rattle.load.specs.Contracts.{byteBit, state};
 ghost use Rattle.load.specs.Scan as S;
 
 // A deployment that awaits its React has WAITING and a bit for each source that is supplied.
@@ -34,13 +32,17 @@ impl Scan {
     pub(crate) fn standing_at(self, l: usize) -> u8
         ensures { λ r. ⌜ r ≡ S.standingAt self l ⌝ }
     {
-        if l < 174 { self.standing[l] } else { 0 }
+        if l < MOST_LOCATIONS {
+            self.standing[l]
+        } else {
+            0
+        }
     }
 
     pub(crate) fn kind_at(self, l: usize) -> u8
         ensures { λ r. ⌜ r ≡ S.kindAt self l ⌝ }
     {
-        if l < 174 { self.kind[l] } else { 0 }
+        if l < MOST_LOCATIONS { self.kind[l] } else { 0 }
     }
 
     pub(crate) fn is_value(self, l: u8) -> bool
@@ -78,7 +80,7 @@ impl Scan {
 }
 
 // What the lent tables say of location l; past them nothing stands there.
-pub(crate) fn seen(standing: &[u8; 174], kind: &[u8; 174], l: u8) -> Location
+pub(crate) fn seen(standing: &[u8; MOST_LOCATIONS], kind: &[u8; MOST_LOCATIONS], l: u8) -> Location
     ensures standing { λ s. ⌜ s .standing ≡ getD (now (standing .entry)) l 0 ⌝ }
     ensures kind { λ s. ⌜ s .kind ≡ getD (now (kind .entry)) l 0 ⌝ }
 {
@@ -99,8 +101,17 @@ pub(crate) fn put(table: &mut [u8], l: usize, v: u8)
 }
 
 // Gives location l another standing and kind.
-pub(crate) fn stand(standing: &mut [u8; 174], kind: &mut [u8; 174], l: usize, s: u8, k: u8)
-    ensures { λ _. ⌜ ((n : ℕ) → state (now (standing .exit)) (now (kind .exit)) n ≡ S.stand (state (now (standing .entry)) (now (kind .entry)) n) l s k) ⌝ }
+pub(crate) fn stand(
+    standing: &mut [u8; MOST_LOCATIONS],
+    kind: &mut [u8; MOST_LOCATIONS],
+    l: usize,
+    s: u8,
+    k: u8,
+)
+    ensures { λ _.
+        let before = state (now (standing .entry)) (now (kind .entry)) in
+        let after = state (now (standing .exit)) (now (kind .exit)) in
+        ⌜ ((n : ℕ) → after n ≡ S.stand (before n) l s k) ⌝ }
 {
     put(standing, l, s);
     put(kind, l, k);

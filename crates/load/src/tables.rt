@@ -10,23 +10,21 @@ use program::shapes;
 use program::sinks_in;
 use program::sources_in;
 use program::tables_end;
-ghost use mathlib.Core.Path.{_≡_};
-ghost use mathlib.Core.Bool.{not};
-ghost use lib.ListN.{length};
-ghost use Prim.Native.Nat.{ℕ, _+_, _-_, _≤_, _<_};
+ghost use Rattle.value.specs.Prelude.{ℕ, _+_, _-_, _≤_, _<_, _≡_, not, length};
 ghost use Rattle.value.specs.Test.{sweep, _and_, _or_, _<?_, _=?_};
 ghost use Rattle.program.specs.Bytes as B;
-ghost use Rattle.load.specs.Tables as T;
+ghost use Rattle.load.specs.Tables.{between, headerLegal, portLegal, shapeLegal, mainLegal, entryLegal};
+ghost use Rattle.load.specs.Tables.{tableLegal};
 
 fn between(low: u8, high: u8, x: u8) -> bool
-    ensures { λ r. ⌜ r ≡ T.between low high x ⌝ }
+    ensures { λ r. ⌜ r ≡ between low high x ⌝ }
 {
     (low <= x) & (x <= high)
 }
 
 // Whether byte i of the header is legal.
 fn header_legal(program: &[u8], i: u8) -> bool
-    ensures { λ r. ⌜ r ≡ T.headerLegal (now (program .entry)) i ⌝ }
+    ensures { λ r. ⌜ r ≡ headerLegal (now (program .entry)) i ⌝ }
 {
     let h = Header::from_bytes(program);
     match i {
@@ -40,7 +38,7 @@ fn header_legal(program: &[u8], i: u8) -> bool
 
 // Whether every byte of the header is legal.
 pub(crate) fn header_passes(program: &[u8]) -> bool
-    ensures { λ t. ⌜ t ≡ (sweep (T.headerLegal (now (program .entry))) 0 8 =? 8) ⌝ }
+    ensures { λ t. ⌜ t ≡ (sweep (headerLegal (now (program .entry))) 0 8 =? 8) ⌝ }
 {
     let counts = header_legal(program, 0)
         & header_legal(program, 1)
@@ -55,7 +53,7 @@ pub(crate) fn header_passes(program: &[u8]) -> bool
 
 // The first byte of the header that is not legal; 8 if there is none.
 pub(crate) fn header_fault(program: &[u8]) -> u8
-    ensures { λ r. ⌜ r ≡ sweep (T.headerLegal (now (program .entry))) 0 8 ⌝ }
+    ensures { λ r. ⌜ r ≡ sweep (headerLegal (now (program .entry))) 0 8 ⌝ }
 {
     let mut i: u8 = 0;
     while i < Header::BYTES {
@@ -69,7 +67,7 @@ pub(crate) fn header_fault(program: &[u8]) -> u8
 
 // Whether k will do as kind byte j of the `count` ports of shape s: a lower kind, and zero past them.
 fn port_legal(s: u8, count: u8, j: u8, k: u8) -> bool
-    ensures { λ r. ⌜ r ≡ T.portLegal s count j k ⌝ }
+    ensures { λ r. ⌜ r ≡ portLegal s count j k ⌝ }
 {
     if j < count {
         return (k as u16) < 2 + s as u16;
@@ -79,7 +77,7 @@ fn port_legal(s: u8, count: u8, j: u8, k: u8) -> bool
 
 // Whether byte k of shape s is legal.
 fn shape_legal(program: &[u8], s: u8, k: u8) -> bool
-    ensures { λ r. ⌜ r ≡ T.shapeLegal (now (program .entry)) s k ⌝ }
+    ensures { λ r. ⌜ r ≡ shapeLegal (now (program .entry)) s k ⌝ }
 {
     let x = byte(program, shape_at(program, s) as usize + k as usize);
     if k == 0 {
@@ -98,7 +96,7 @@ fn shape_legal(program: &[u8], s: u8, k: u8) -> bool
 // below that answer a truth have no way out: where a program is accepted there is none to take.
 fn main_fits(program: &[u8], s: u8) -> bool
     requires { ⌜ B.shapeAt (now program) s + 16 ≤ length (now program) ⌝ }
-    ensures { λ t. ⌜ t ≡ T.mainLegal (now (program .entry)) s ⌝ }
+    ensures { λ t. ⌜ t ≡ mainLegal (now (program .entry)) s ⌝ }
 {
     let at = shape_at(program, s) as usize;
     let mut all = program[at] == 0;
@@ -113,7 +111,9 @@ fn main_fits(program: &[u8], s: u8) -> bool
 // Whether reactor r may have shape s.
 fn shape_fits(program: &[u8], r: u8, s: u8) -> bool
     requires { ⌜ B.entryAt (now program) 0 ≤ length (now program) ⌝ }
-    ensures { λ t. ⌜ t ≡ ((s <? B.shapes (now (program .entry))) and (not (r =? B.mainOf (now (program .entry))) or T.mainLegal (now (program .entry)) s)) ⌝ }
+    ensures { λ t.
+        let p = now (program .entry) in
+        ⌜ t ≡ ((s <? B.shapes p) and (not (r =? B.mainOf p) or mainLegal p s)) ⌝ }
 {
     if shapes(program) <= s {
         return false;
@@ -127,7 +127,7 @@ fn shape_fits(program: &[u8], r: u8, s: u8) -> bool
 // Whether byte k of the entry of reactor r is legal.
 fn entry_legal(program: &[u8], r: u8, k: u8) -> bool
     requires { ⌜ B.entryAt (now program) 0 ≤ length (now program) ⌝ }
-    ensures { λ t. ⌜ t ≡ T.entryLegal (now (program .entry)) r k ⌝ }
+    ensures { λ t. ⌜ t ≡ entryLegal (now (program .entry)) r k ⌝ }
 {
     let x = byte(program, entry_at(program, r as u32) + k as usize);
     if k == 0 {
@@ -146,7 +146,7 @@ fn entry_legal(program: &[u8], r: u8, k: u8) -> bool
 fn table_legal(program: &[u8], i: u16) -> bool
     requires here { ⌜ i < B.tablesEnd (now program) ⌝ }
     requires inside { ⌜ B.tablesEnd (now program) ≤ length (now program) ⌝ }
-    ensures { λ r. ⌜ r ≡ T.tableLegal (now (program .entry)) i ⌝ }
+    ensures { λ r. ⌜ r ≡ tableLegal (now (program .entry)) i ⌝ }
 {
     let s = shape_at(program, 0);
     if i < s {
@@ -164,7 +164,9 @@ fn table_legal(program: &[u8], i: u16) -> bool
 // Whether the kinds of all globals are legal.
 fn globals_pass(program: &[u8]) -> bool
     requires { ⌜ B.shapeAt (now program) 0 ≤ length (now program) ⌝ }
-    ensures { λ t. ⌜ t ≡ (sweep (λ (i : ℕ). B.byte (now (program .entry)) (8 + i) <? 2) 0 (B.globals (now (program .entry))) =? B.globals (now (program .entry))) ⌝ }
+    ensures { λ t.
+        let p = now (program .entry) in
+        ⌜ t ≡ (sweep (λ (i : ℕ). B.byte p (8 + i) <? 2) 0 (B.globals p) =? B.globals p) ⌝ }
 {
     let n = globals(program);
     let mut all = true;
@@ -179,7 +181,7 @@ fn globals_pass(program: &[u8]) -> bool
 // Whether the seven kinds from byte `at` on will do for the n ports of shape s.
 fn ports_pass(program: &[u8], at: usize, s: u8, n: u8) -> bool
     requires { ⌜ (at + 7 ≤ length (now program)) × (s < 255) ⌝ }
-    ensures { λ t. ⌜ t ≡ (sweep (λ (x : ℕ). T.portLegal s n x (B.byte (now (program .entry)) (at + x))) 0 7 =? 7) ⌝ }
+    ensures { λ t. ⌜ t ≡ (sweep (λ (x : ℕ). portLegal s n x (B.byte (now (program .entry)) (at + x))) 0 7 =? 7) ⌝ }
 {
     let mut all = true;
     let mut x: u8 = 0;
@@ -194,7 +196,7 @@ fn ports_pass(program: &[u8], at: usize, s: u8, n: u8) -> bool
 // Whether every byte of shape s is legal, which stands at byte `at`.
 fn shape_passes(program: &[u8], at: usize, s: u8) -> bool
     requires { ⌜ (at ≡ B.shapeAt (now program) s) × (at + 16 ≤ length (now program)) × (s < 255) ⌝ }
-    ensures { λ t. ⌜ t ≡ (sweep (T.shapeLegal (now (program .entry)) s) 0 16 =? 16) ⌝ }
+    ensures { λ t. ⌜ t ≡ (sweep (shapeLegal (now (program .entry)) s) 0 16 =? 16) ⌝ }
 {
     let n = program[at];
     let m = program[at + 1];
@@ -205,7 +207,9 @@ fn shape_passes(program: &[u8], at: usize, s: u8) -> bool
 
 fn shapes_pass(program: &[u8]) -> bool
     requires { ⌜ B.entryAt (now program) 0 ≤ length (now program) ⌝ }
-    ensures { λ t. ⌜ t ≡ (sweep (λ (s : ℕ). sweep (T.shapeLegal (now (program .entry)) s) 0 16 =? 16) 0 (B.shapes (now (program .entry))) =? B.shapes (now (program .entry))) ⌝ }
+    ensures { λ t.
+        let p = now (program .entry) in
+        ⌜ t ≡ (sweep (λ (s : ℕ). sweep (shapeLegal p s) 0 16 =? 16) 0 (B.shapes p) =? B.shapes p) ⌝ }
 {
     let n = shapes(program);
     let mut at = shape_at(program, 0) as usize;
@@ -222,7 +226,7 @@ fn shapes_pass(program: &[u8]) -> bool
 // Whether every byte of the entry of reactor r is legal, which stands at byte `at`.
 fn entry_passes(program: &[u8], at: usize, r: u8) -> bool
     requires { ⌜ (at ≡ B.entryAt (now program) r) × (at + 4 ≤ length (now program)) ⌝ }
-    ensures { λ t. ⌜ t ≡ (sweep (T.entryLegal (now (program .entry)) r) 0 4 =? 4) ⌝ }
+    ensures { λ t. ⌜ t ≡ (sweep (entryLegal (now (program .entry)) r) 0 4 =? 4) ⌝ }
 {
     shape_fits(program, r, program[at])
         & (program[at + 1] <= Header::MOST_DECLARED)
@@ -232,7 +236,9 @@ fn entry_passes(program: &[u8], at: usize, r: u8) -> bool
 
 fn entries_pass(program: &[u8]) -> bool
     requires { ⌜ B.tablesEnd (now program) ≤ length (now program) ⌝ }
-    ensures { λ t. ⌜ t ≡ (sweep (λ (r : ℕ). sweep (T.entryLegal (now (program .entry)) r) 0 4 =? 4) 0 (B.reactors (now (program .entry))) =? B.reactors (now (program .entry))) ⌝ }
+    ensures { λ t.
+        let p = now (program .entry) in
+        ⌜ t ≡ (sweep (λ (r : ℕ). sweep (entryLegal p r) 0 4 =? 4) 0 (B.reactors p) =? B.reactors p) ⌝ }
 {
     let n = reactors(program);
     let mut at = entry_at(program, 0);
@@ -249,7 +255,9 @@ fn entries_pass(program: &[u8]) -> bool
 // Whether every byte of the tables is legal.
 pub(crate) fn tables_pass(program: &[u8]) -> bool
     requires { ⌜ B.tablesEnd (now program) ≤ length (now program) ⌝ }
-    ensures { λ t. ⌜ t ≡ (sweep (T.tableLegal (now (program .entry))) 8 (B.tablesEnd (now (program .entry)) - 8) =? B.tablesEnd (now (program .entry))) ⌝ }
+    ensures { λ t.
+        let p = now (program .entry) in
+        ⌜ t ≡ (sweep (tableLegal p) 8 (B.tablesEnd p - 8) =? B.tablesEnd p) ⌝ }
 {
     globals_pass(program) & shapes_pass(program) & entries_pass(program)
 }
@@ -257,7 +265,9 @@ pub(crate) fn tables_pass(program: &[u8]) -> bool
 // The first byte of the tables that is not legal; the byte after them if there is none.
 pub(crate) fn table_fault(program: &[u8]) -> u16
     requires { ⌜ B.tablesEnd (now program) ≤ length (now program) ⌝ }
-    ensures { λ r. ⌜ r ≡ sweep (T.tableLegal (now (program .entry))) 8 (B.tablesEnd (now (program .entry)) - 8) ⌝ }
+    ensures { λ r.
+        let p = now (program .entry) in
+        ⌜ r ≡ sweep (tableLegal p) 8 (B.tablesEnd p - 8) ⌝ }
 {
     let end = tables_end(program);
     let mut i: u16 = 8;

@@ -18,31 +18,31 @@ use crate::standing::put;
 use crate::standing::seen;
 use crate::standing::stand;
 use program::Command;
+use program::MOST_LOCATIONS;
 use program::byte;
 use program::result_of;
 use program::shape_of;
-ghost use mathlib.Core.Path.{_≡_};
-ghost use mathlib.Core.Bool.{true, false};
-ghost use mathlib.Core.List.{List};
-ghost use Prim.Native.Nat.{ℕ, _+_, _≤_, _<_};
+ghost use Rattle.value.specs.Prelude.{ℕ, _+_, _≤_, _<_, _≡_, true, false, List};
 ghost use Rattle.value.specs.Test.{_<?_, pick};
 ghost use Rattle.program.specs.Command as C;
-ghost use Rattle.load.specs.Legal.{LegalTables, Shaped};
-ghost use Rattle.load.specs.Lent.{state, FactsOf, Taking, Making, Stepped, allowed};
+ghost use Rattle.load.specs.Contracts.{LegalTables, Shaped, state, FactsOf, Taking, Making, Stepped, allowed};
 ghost use Rattle.load.specs.Scan as S;
 
 // A value of the source's kind, once, before the React.
 fn supply(
     program: &[u8],
     facts: Facts,
-    standing: &mut [u8; 174],
-    kind: &[u8; 174],
+    standing: &mut [u8; MOST_LOCATIONS],
+    kind: &[u8; MOST_LOCATIONS],
     c: Command,
 ) -> bool
     requires facts { ⌜ FactsOf (now program) facts ⌝ }
     requires tables { ⌜ LegalTables (now program) ⌝ }
     requires shaped { ⌜ Shaped (now program) (state (now standing) (now kind) 0) ⌝ }
-    ensures { λ t. ⌜ ((here : ℕ) → Taking (now (program .entry)) (facts .reactor) here (state (now (standing .entry)) (now (kind .entry))) (state (now (standing .exit)) (now (kind .entry))) c (C.supply (c .x) (c .a) (c .b)) t) ⌝ }
+    ensures { λ t.
+        let p = now (program .entry) in let before = state (now (standing .entry)) (now (kind .entry)) in
+        ⌜ ((here : ℕ) → Taking p (facts .reactor) here before (state (now (standing .exit)) (now (kind .entry))) c
+        (C.supply (c .x) (c .a) (c .b)) t) ⌝ }
 {
     let v = c.v();
     let from = seen(standing, kind, c.a);
@@ -64,12 +64,15 @@ fn supply(
 fn react(
     program: &[u8],
     facts: Facts,
-    standing: &mut [u8; 174],
-    kind: &[u8; 174],
+    standing: &mut [u8; MOST_LOCATIONS],
+    kind: &[u8; MOST_LOCATIONS],
     c: Command,
 ) -> bool
     requires { ⌜ FactsOf (now program) facts ⌝ }
-    ensures { λ t. ⌜ ((here : ℕ) → Taking (now (program .entry)) (facts .reactor) here (state (now (standing .entry)) (now (kind .entry))) (state (now (standing .exit)) (now (kind .entry))) c (C.react (c .b)) t) ⌝ }
+    ensures { λ t.
+        let p = now (program .entry) in let before = state (now (standing .entry)) (now (kind .entry)) in
+        ⌜ ((here : ℕ) → Taking p (facts .reactor) here before (state (now (standing .exit)) (now (kind .entry))) c
+        (C.react (c .b)) t) ⌝ }
 {
     let rest = c.x as u64 + c.a as u64 + c.v() as u64;
     let to = seen(standing, kind, c.b);
@@ -85,12 +88,15 @@ fn react(
 fn sink(
     program: &[u8],
     facts: Facts,
-    standing: &mut [u8; 174],
-    kind: &mut [u8; 174],
+    standing: &mut [u8; MOST_LOCATIONS],
+    kind: &mut [u8; MOST_LOCATIONS],
     c: Command,
 ) -> bool
     requires { ⌜ FactsOf (now program) facts ⌝ }
-    ensures { λ t. ⌜ ((here : ℕ) → Taking (now (program .entry)) (facts .reactor) here (state (now (standing .entry)) (now (kind .entry))) (state (now (standing .exit)) (now (kind .exit))) c (C.sink (c .x) (c .a)) t) ⌝ }
+    ensures { λ t.
+        let p = now (program .entry) in let before = state (now (standing .entry)) (now (kind .entry)) in
+        let after = state (now (standing .exit)) (now (kind .exit)) in
+        ⌜ ((here : ℕ) → Taking p (facts .reactor) here before after c (C.sink (c .x) (c .a)) t) ⌝ }
 {
     let rest = c.b as u64 + c.v() as u64;
     let from = seen(standing, kind, c.a);
@@ -108,8 +114,16 @@ fn sink(
 }
 
 // By an operator of the branch point's kind, once: here is a new deployment of its shape.
-fn alloc_poly(standing: &mut [u8; 174], kind: &mut [u8; 174], here: usize, c: Command) -> bool
-    ensures { λ t. ⌜ ((p : List ℕ) (r : ℕ) → Taking p r here (state (now (standing .entry)) (now (kind .entry))) (state (now (standing .exit)) (now (kind .exit))) c (C.allocPoly (c .a) (c .b)) t) ⌝ }
+fn alloc_poly(
+    standing: &mut [u8; MOST_LOCATIONS],
+    kind: &mut [u8; MOST_LOCATIONS],
+    here: usize,
+    c: Command,
+) -> bool
+    ensures { λ t.
+        let before = state (now (standing .entry)) (now (kind .entry)) in
+        let after = state (now (standing .exit)) (now (kind .exit)) in
+        ⌜ ((p : List ℕ) (r : ℕ) → Taking p r here before after c (C.allocPoly (c .a) (c .b)) t) ⌝ }
 {
     let rest = c.x as u64 + c.v() as u64;
     let from = seen(standing, kind, c.a);
@@ -125,8 +139,11 @@ fn alloc_poly(standing: &mut [u8; 174], kind: &mut [u8; 174], here: usize, c: Co
 }
 
 // A value of the cell's kind, once.
-fn keep(standing: &mut [u8; 174], kind: &[u8; 174], c: Command) -> bool
-    ensures { λ t. ⌜ ((p : List ℕ) (r here : ℕ) → Taking p r here (state (now (standing .entry)) (now (kind .entry))) (state (now (standing .exit)) (now (kind .entry))) c (C.keep (c .a) (c .b)) t) ⌝ }
+fn keep(standing: &mut [u8; MOST_LOCATIONS], kind: &[u8; MOST_LOCATIONS], c: Command) -> bool
+    ensures { λ t.
+        let before = state (now (standing .entry)) (now (kind .entry)) in
+        ⌜ ((p : List ℕ) (r here : ℕ) →
+        Taking p r here before (state (now (standing .exit)) (now (kind .entry))) c (C.keep (c .a) (c .b)) t) ⌝ }
 {
     let rest = c.x as u64 + c.v() as u64;
     let from = seen(standing, kind, c.a);
@@ -141,9 +158,17 @@ fn keep(standing: &mut [u8; 174], kind: &[u8; 174], c: Command) -> bool
 }
 
 // Here is a value of kind k, unless k is REFUSED.
-fn value(k: u16, standing: &mut [u8; 174], kind: &mut [u8; 174], here: usize) -> bool
+fn value(
+    k: u16,
+    standing: &mut [u8; MOST_LOCATIONS],
+    kind: &mut [u8; MOST_LOCATIONS],
+    here: usize,
+) -> bool
     ensures right { λ t. ⌜ t ≡ (k <? 256) ⌝ }
-    ensures done { λ _. ⌜ ((n : ℕ) → state (now (standing .exit)) (now (kind .exit)) n ≡ pick (k <? 256) (S.stand (state (now (standing .entry)) (now (kind .entry)) n) here 1 k) (state (now (standing .entry)) (now (kind .entry)) n)) ⌝ }
+    ensures done { λ _.
+        let before = state (now (standing .entry)) (now (kind .entry)) in
+        let after = state (now (standing .exit)) (now (kind .exit)) in
+        ⌜ ((n : ℕ) → after n ≡ pick (k <? 256) (S.stand (before n) here 1 k) (before n)) ⌝ }
 {
     if k < REFUSED {
         stand(standing, kind, here, Scan::VALUE, k as u8);
@@ -153,19 +178,24 @@ fn value(k: u16, standing: &mut [u8; 174], kind: &mut [u8; 174], here: usize) ->
 }
 
 // Takes an R command, whose location is `here`; false if it is refused, and then nothing has changed.
-fn running(
+fn command_r(
     program: &[u8],
     facts: Facts,
-    standing: &mut [u8; 174],
-    kind: &mut [u8; 174],
+    standing: &mut [u8; MOST_LOCATIONS],
+    kind: &mut [u8; MOST_LOCATIONS],
     here: usize,
     c: Command,
 ) -> bool
     requires facts { ⌜ FactsOf (now program) facts ⌝ }
     requires tables { ⌜ LegalTables (now program) ⌝ }
     requires shaped { ⌜ Shaped (now program) (state (now standing) (now kind) 0) ⌝ }
-    ensures right { λ t. ⌜ ((n : ℕ) → t ≡ allowed false (now (program .entry)) (facts .reactor) (state (now (standing .entry)) (now (kind .entry)) n) c (C.decode c)) ⌝ }
-    ensures done { λ t. ⌜ ((n : ℕ) → state (now (standing .exit)) (now (kind .exit)) n ≡ pick t (S.standingAfter (now (program .entry)) (facts .reactor) (state (now (standing .entry)) (now (kind .entry)) n) here (C.decode c)) (state (now (standing .entry)) (now (kind .entry)) n)) ⌝ }
+    ensures right { λ t.
+        let p = now (program .entry) in let before = state (now (standing .entry)) (now (kind .entry)) in
+        ⌜ ((n : ℕ) → t ≡ allowed false p (facts .reactor) (before n) c (C.decode c)) ⌝ }
+    ensures done { λ t.
+        let p = now (program .entry) in let before = state (now (standing .entry)) (now (kind .entry)) in
+        let after = state (now (standing .exit)) (now (kind .exit)) in
+        ⌜ ((n : ℕ) → after n ≡ pick t (S.standingAfter p (facts .reactor) (before n) here (C.decode c)) (before n)) ⌝ }
 {
     let code = c.code;
     match code {
@@ -188,7 +218,8 @@ fn running(
 
 // A location's new standing and kind; nothing where a command is refused.
 fn placed(right: bool, standing: u8, kind: u8) -> Location
-    ensures { λ m. ⌜ m ≡ pick right (record { standing = standing; kind = kind }) (record { standing = 0; kind = 0 }) ⌝ }
+    ensures { λ m.
+        ⌜ m ≡ pick right (record { standing = standing; kind = kind }) (record { standing = 0; kind = 0 }) ⌝ }
 {
     if right {
         return Location { standing, kind };
@@ -202,7 +233,9 @@ fn placed(right: bool, standing: u8, kind: u8) -> Location
 // What a D command makes of its location; standing 0 where it is refused.
 fn made(program: &[u8], facts: Facts, c: Command) -> Location
     requires { ⌜ FactsOf (now program) facts ⌝ }
-    ensures { λ m. ⌜ ((s : Scan) (here : ℕ) → Making (now (program .entry)) (facts .reactor) s here c (C.decode c) m) ⌝ }
+    ensures { λ m.
+        let p = now (program .entry) in
+        ⌜ ((s : Scan) (here : ℕ) → Making p (facts .reactor) s here c (C.decode c) m) ⌝ }
 {
     let code = c.code;
     let rest = c.a as u64 + c.b as u64 + c.v() as u64;
@@ -220,17 +253,20 @@ fn made(program: &[u8], facts: Facts, c: Command) -> Location
 impl Progress {
     // Takes the next command of the reactor, a D command, and hands the next state back. One that is
     // refused changes no table.
-    pub(crate) fn take_declared(
+    pub(crate) fn take_d(
         self,
         program: &[u8],
         facts: Facts,
-        standing: &mut [u8; 174],
-        kind: &mut [u8; 174],
+        standing: &mut [u8; MOST_LOCATIONS],
+        kind: &mut [u8; MOST_LOCATIONS],
         c: Command,
     ) -> Progress
         requires facts { ⌜ FactsOf (now program) facts ⌝ }
         requires here { ⌜ self .next < facts .declared ⌝ }
-        ensures { λ t. ⌜ Stepped (now (program .entry)) (facts .reactor) (state (now (standing .entry)) (now (kind .entry)) (self .next)) (state (now (standing .exit)) (now (kind .exit)) (t .next)) c (t .refused) ⌝ }
+        ensures { λ t.
+            let p = now (program .entry) in let before = state (now (standing .entry)) (now (kind .entry)) in
+            let after = state (now (standing .exit)) (now (kind .exit)) in
+            ⌜ Stepped p (facts .reactor) (before (self .next)) (after (t .next)) c (t .refused) ⌝ }
     {
         let m = made(program, facts, c);
         if m.standing == 0 {
@@ -250,12 +286,12 @@ impl Progress {
     }
 
     // The same for an R command.
-    pub(crate) fn take_running(
+    pub(crate) fn take_r(
         self,
         program: &[u8],
         facts: Facts,
-        standing: &mut [u8; 174],
-        kind: &mut [u8; 174],
+        standing: &mut [u8; MOST_LOCATIONS],
+        kind: &mut [u8; MOST_LOCATIONS],
         c: Command,
     ) -> Progress
         requires facts { ⌜ FactsOf (now program) facts ⌝ }
@@ -263,15 +299,16 @@ impl Progress {
         requires shaped { ⌜ Shaped (now program) (state (now standing) (now kind) 0) ⌝ }
         requires here { ⌜ (facts .declared ≤ self .next) × (self .next < 255) × (self .results ≤ self .next) ⌝ }
         ensures step { λ t.
+            let p = now (program .entry) in
             let before = state (now (standing .entry)) (now (kind .entry)) (self .next) in
             let after = state (now (standing .exit)) (now (kind .exit)) (t .next) in
-            ⌜ Stepped (now (program .entry)) (facts .reactor) before after c (t .refused) ⌝ }
+            ⌜ Stepped p (facts .reactor) before after c (t .refused) ⌝ }
         ensures counted { λ t.
             let d = C.decode c in
             ⌜ (t .refused ≡ false → t .results ≡ self .results + pick (C.takesWords d) 1 0) ⌝ }
     {
         let here = facts.sources as usize + self.next as usize;
-        if !running(program, facts, standing, kind, here, c) {
+        if !command_r(program, facts, standing, kind, here, c) {
             return Progress {
                 next: self.next,
                 results: self.results,

@@ -1,21 +1,16 @@
 -- What a command's code leaves, as the definition of the command says it.
 -- Assumes nothing.
-use Prim.Native.Nat.{ℕ, zero, suc, _+_, _*_, _-_, _<_, _≤_}
-use mathlib.Core.Path.{_≡_, sym, ap, _∙_}
-use mathlib.Core.Bool.{true, false}
-use mathlib.Core.List.{List}
-use native.Mathlib.Omega.{arith}
-use lib.ListN.{set}
+use Rattle.value.specs.Prelude.{ℕ, zero, suc, _+_, _-_, _*_, _≤_, _<_, _≡_, sym, _∙_, ap, true, false, List, set, arith}
 use Rattle.value.specs.Value.{value, blankMark, deploymentMark, isBlank}
 use Rattle.value.specs.declared.Value.{Value}
 use Rattle.value.proofs.Tests.{eq!, eq×}
-use Rattle.program.specs.Location.{sources}
+use Rattle.program.specs.Location.{sourceCount}
 use Rattle.program.proofs.Slots.{slot-low}
 use Rattle.image.specs.Memory.{word, turns, reactor, slot, mark, content, valueAt, store}
 use Rattle.remus.specs.Exec.{there, globalValue}
 use Rattle.remus.specs.Turn.{readingAt}
 use Rattle.machine.specs.declared.Outcome.the-variants.{Given, Move}
-use Rattle.machine.specs.Act.{Acted, did}
+use Rattle.machine.specs.Contracts.{Acted, did}
 
 -- ---- a slot's two words, by their index
 module _ (p m : List ℕ) (o l i : ℕ) (e : i ≡ slot p m o l) where
@@ -32,7 +27,7 @@ module _ (p m : List ℕ) (o l i : ℕ) (e : i ≡ slot p m o l) where
   stored-at v h = rw e at h
 
 -- sources come first
-pub source-at : (p m : List ℕ) (d x : ℕ) → x < sources p (reactor m d) → d + 3 + 2 * x ≡ slot p m d x
+pub source-at : (p m : List ℕ) (d x : ℕ) → x < sourceCount p (reactor m d) → d + 3 + 2 * x ≡ slot p m d x
 unfolding slot
 source-at p m d x h = omega (arith, slot-low p (reactor m d) x (omega arith))
 

@@ -1,11 +1,6 @@
 -- What an allocation's code leaves, as the definition of the command says it.
 -- Assumes nothing.
-use Prim.Native.Nat.{ℕ, zero, suc, _+_, _-_, _<_, _≤_}
-use mathlib.Core.Path.{_≡_, sym, ap, _∙_}
-use mathlib.Core.Bool.{true, false}
-use mathlib.Core.List.{List}
-use native.Mathlib.Omega.{arith}
-use lib.ListN.{length}
+use Rattle.value.specs.Prelude.{ℕ, zero, suc, _+_, _-_, _≤_, _<_, _≡_, sym, _∙_, ap, true, false, List, length, arith}
 use Rattle.value.specs.Test.{pick, _≤?_}
 use Rattle.value.specs.Value.{value, deploymentMark}
 use Rattle.value.specs.declared.Value.{Value}
@@ -13,12 +8,12 @@ use Rattle.value.proofs.Tests.{le!, le×, le?, le×?}
 use Rattle.program.specs.Command.{takesWords, allocPoly}
 use Rattle.program.specs.Location.{commandLoc, sizeOf}
 use Rattle.program.proofs.Slots.{slot-least, size-least}
-use Rattle.image.specs.Memory.{word, used, reactor, withUsed, slot, store, place}
+use Rattle.image.specs.Memory.{word, used, reactor, withUsed, slot, store, deploy}
 use Rattle.image.proofs.Memory.Changes.{slot-kept}
 use Rattle.remus.specs.Exec.{chosen}
 use Rattle.remus.proofs.Undo.Back.{word-unset}
 use Rattle.machine.specs.declared.Outcome.the-variants.{Given}
-use Rattle.machine.specs.Act.{Acted, did, acted, Stands}
+use Rattle.machine.specs.Contracts.{Acted, did, acted, Stands}
 
 -- ---- whether there is room, by the size that the code goes by
 module _ (p m : List ℕ) (r s : ℕ) (e : s ≡ sizeOf p r) where
@@ -31,9 +26,9 @@ module _ (p m : List ℕ) (r s : ℕ) (e : s ≡ sizeOf p r) where
 -- ---- the slots of a deployment that stands keep their places
 
 -- where another deployment is placed
-pub slot-placed : (p m m₁ : List ℕ) (r old o l i : ℕ) → Stands m o → m₁ ≡ place p m r old
+pub slot-placed : (p m m₁ : List ℕ) (r old o l i : ℕ) → Stands m o → m₁ ≡ deploy p m r old
     → i ≡ slot p m o l → i ≡ slot p m₁ o l
-unfolding place withUsed reactor
+unfolding deploy withUsed reactor
 slot-placed p m m₁ r old o l i s e f =
     let u = used m in
     let a = s .above in

@@ -1,10 +1,6 @@
 -- A chain of deployments, one step further.
 -- Assumes nothing.
-use Prim.Native.Nat.{ℕ, zero, suc, _-_, _<_, _≤_}
-use mathlib.Core.Path.{_≡_, refl, ap}
-use mathlib.Core.Bool.{not}
-use mathlib.Core.List.{List}
-use native.Mathlib.Omega.{arith}
+use Rattle.value.specs.Prelude.{ℕ, zero, suc, _-_, _≤_, _<_, _≡_, refl, ap, not, List, arith}
 use Rattle.value.proofs.Tests.{lt!, lt×, le!, le×, eq!, eq×, goes, stops}
 use Rattle.image.specs.Memory.{reactor, next}
 use Rattle.remus.specs.Exec.{find}

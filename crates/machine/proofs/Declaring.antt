@@ -1,30 +1,27 @@
 -- D commands, one after the other.
 -- Assumes nothing.
-use Prim.Native.Nat.{ℕ, suc, _+_, _*_, _-_, _≤_, _<_}
-use mathlib.Core.Path.{_≡_, refl, sym, ap, _∙_}
-use mathlib.Core.List.{List}
-use native.Mathlib.Omega.{arith}
-use Rattle.program.specs.Bytes.{declared, commandsIn, commandsAt, commandAt}
+use Rattle.value.specs.Prelude.{ℕ, suc, _+_, _-_, _*_, _≤_, _<_, _≡_, refl, sym, _∙_, ap, List, arith}
+use Rattle.program.specs.Bytes.{commandsD, commandsIn, commandsAt, commandAt}
 use Rattle.program.specs.Command.{bytesAt, bytesOf, cmdOf}
 use Rattle.program.specs.declared.Command.{Command}
-use Rattle.program.specs.Location.{sources, commandLoc, slotAt}
+use Rattle.program.specs.Location.{sourceCount, commandLoc, slotAt}
 use Rattle.program.proofs.Slots.{slot-low}
 use Rattle.image.specs.Memory.{slot}
-use Rattle.load.specs.declared.Refusal.{Refusal}
+use Rattle.answer.specs.declared.Refusal.{Refusal}
 use Rattle.remus.specs.Run.{Ran, stopped}
 use Rattle.remus.specs.Steady.{Fits}
-use Rattle.machine.specs.Act.{Here, Declares, ranAs}
-use Rattle.machine.specs.declared.Ended.{Ended}
-use Rattle.machine.specs.declared.Ended.the-variants.{Whole, Stopped}
-use Rattle.machine.specs.Opened.{stepping, Left}
+use Rattle.machine.specs.Contracts.{Here, Declares, ranAs, stepping, Left}
+use Rattle.answer.specs.declared.Ruling.{Ruling}
+use Rattle.answer.specs.declared.Ruling.the-variants.{Fine, Against}
 use Rattle.machine.proofs.Running.{knows, ready-apart, steps, goes-on, breaks-off}
 use Rattle.machine.proofs.Opening.{left-at}
 
 -- the slots of D commands stand in a row
-pub row : (p : List ℕ) (r j : ℕ) → j ≤ declared p r → slotAt p r (sources p r + j) ≡ slotAt p r (sources p r) + 2 * j
+pub row : (p : List ℕ) (r j : ℕ) → j ≤ commandsD p r
+    → slotAt p r (sourceCount p r + j) ≡ slotAt p r (sourceCount p r) + 2 * j
 row p r j h =
-    let a = slot-low p r (sources p r + j) (omega arith) in
-    let b = slot-low p r (sources p r) (omega arith) in
+    let a = slot-low p r (sourceCount p r + j) (omega arith) in
+    let b = slot-low p r (sourceCount p r) (omega arith) in
     omega (arith, a, b)
 
 -- the bytes of command j, by where the commands begin
@@ -35,8 +32,8 @@ bytes-there p r at j c e a = e ∙ ap (λ (x : ℕ). bytesAt p (x + 8 * j)) a
 
 module _ (p rd : List ℕ) (f h o : ℕ) (x : Ran) (r n j : ℕ) (m : List ℕ) (l : Left p rd f h o x r (suc n) j m) where
   -- a D command, by what its code leaves
-  declares : j < declared p r → (here : ℕ) → here ≡ o + slotAt p r (sources p r) + 2 * j → (q : Ended) (m₁ : List ℕ)
-      → (Fits p r m o j → Here p m o j here → Declares p h m o j (cmdOf p r j) q m₁)
+  declares : j < commandsD p r → (here : ℕ) → here ≡ o + slotAt p r (sourceCount p r) + 2 * j
+      → (q : Ruling) (m₁ : List ℕ) → (Fits p r m o j → Here p m o j here → Declares p h m o j (cmdOf p r j) q m₁)
       → stepping p rd f h o j m ≡ ranAs q m₁
   unfolding slot commandLoc
   declares i here e q m₁ code =
@@ -46,8 +43,8 @@ module _ (p rd : List ℕ) (f h o : ℕ) (x : Ran) (r n j : ℕ) (m : List ℕ) 
       let at : Here p m o j here = rw (k .same) (let y = row p r j (omega arith) in omega arith) in
       steps p rd f h o j r m (k .same) set _ refl ∙ sym (code fits at _ rd)
 
-module _ (p rd : List ℕ) (f h o : ℕ) (x : Ran) (r : ℕ) (m m₁ : List ℕ) (j here : ℕ) (q : Ended)
-    (i : j < declared p r) (e : here ≡ o + slotAt p r (sources p r) + 2 * j)
+module _ (p rd : List ℕ) (f h o : ℕ) (x : Ran) (r : ℕ) (m m₁ : List ℕ) (j here : ℕ) (q : Ruling)
+    (i : j < commandsD p r) (e : here ≡ o + slotAt p r (sourceCount p r) + 2 * j)
     (code : Fits p r m o j → Here p m o j here → Declares p h m o j (cmdOf p r j) q m₁)
     (l : Left p rd f h o x r (commandsIn p r - j) j m) where
   abbrev rest : ℕ
@@ -57,13 +54,13 @@ module _ (p rd : List ℕ) (f h o : ℕ) (x : Ran) (r : ℕ) (m m₁ : List ℕ)
   unfolding commandsIn
   more = left-at p rd f h o (omega arith) refl l
 
-  pub declared-on : q ≡ Whole → Left p rd f h o x r rest (j + 1) m₁
+  pub declared-on : q ≡ Fine → Left p rd f h o x r rest (j + 1) m₁
   unfolding ranAs
   declared-on w = goes-on p rd f h o x r rest j m more m₁
-      (declares p rd f h o x r rest j m more i here e q m₁ code ∙ ap (λ (y : Ended). ranAs y m₁) w)
+      (declares p rd f h o x r rest j m more i here e q m₁ code ∙ ap (λ (y : Ruling). ranAs y m₁) w)
 
-  pub declared-off : (v : Refusal) → q ≡ Stopped v → x ≡ stopped v m₁
+  pub declared-off : (v : Refusal) → q ≡ Against v → x ≡ stopped v m₁
   unfolding ranAs
   declared-off v w =
       breaks-off p rd f h o x r rest j m more v m₁ (declares p rd f h o x r rest j m more i here e q m₁ code ∙ ap
-      (λ (y : Ended). ranAs y m₁) w)
+      (λ (y : Ruling). ranAs y m₁) w)

@@ -1,22 +1,17 @@
 -- A run's beginning: before D, past it, and once the deployment is wired.
 -- Assumes nothing.
-use Prim.Native.Nat.{ℕ, suc, _+_, _-_, _<_}
-use mathlib.Core.Path.{_≡_, refl, sym, ap, subst, _∙_}
-use mathlib.Core.Logic.{_≢_}
-use mathlib.Core.List.{List}
-use native.Mathlib.Omega.{arith}
+use Rattle.value.specs.Prelude.{ℕ, suc, _+_, _-_, _<_, _≡_, refl, sym, _∙_, ap, subst, _≢_, List, arith}
 use lib.Seq.{set-set}
 use Rattle.value.proofs.Tests.{yes, no, eq!, eq×}
-use Rattle.program.specs.Bytes.{reactors, declared, running, commandsIn}
+use Rattle.program.specs.Bytes.{reactors, commandsD, commandsR, commandsIn}
 use Rattle.image.specs.Memory.{reactor, wired, withWired}
 use Rattle.remus.specs.Exec.{opening, ready, eff}
 use Rattle.remus.specs.Run.{Ran, andThen, commands, stepOf, runOf}
 use Rattle.remus.specs.Steady.{Fits, Through, Steady}
-use Rattle.machine.specs.Act.{Workable}
-use Rattle.machine.specs.declared.Ended.{Ended}
-use Rattle.machine.specs.declared.Ended.the-variants.{Whole}
-use Rattle.machine.specs.Opened.{stepping, Knowing, Left, Declared, Opened}
-use Rattle.machine.proofs.Keeping.{keeps-wired}
+use Rattle.machine.specs.Contracts.{Workable, stepping, Knowing, Left, Declared, Opened}
+use Rattle.answer.specs.declared.Ruling.{Ruling}
+use Rattle.answer.specs.declared.Ruling.the-variants.{Fine}
+use Rattle.machine.proofs.WordsFit.{keeps-wired}
 use Rattle.machine.proofs.Running.{wired-reactor, ready-there}
 
 module _ (p rd : List ℕ) (f h o : ℕ) where
@@ -44,17 +39,17 @@ module _ (p rd : List ℕ) (f h o : ℕ) where
         let e : opening p m o ≡ 0 = sym (yes _ (eq! z) refl) in
         left-at (rw e (omega arith)) e from-opening
 
-    pub from-D : wired m o ≢ 0 → Left p rd f h o all (reactor m o) (running p (reactor m o)) (declared p (reactor m o))
-        m
+    pub from-D : wired m o ≢ 0
+        → Left p rd f h o all (reactor m o) (commandsR p (reactor m o)) (commandsD p (reactor m o)) m
     unfolding opening commandsIn
     from-D z =
-        let e : opening p m o ≡ declared p (reactor m o) = sym (no 0 (eq× z) refl) in
+        let e : opening p m o ≡ commandsD p (reactor m o) = sym (no 0 (eq× z) refl) in
         left-at (rw e (omega arith)) e from-opening
 
   -- the first R command finds the deployment wired, and so it may be wired before
-  module _ (x : Ran) (r n : ℕ) (m : List ℕ) (l : Left p rd f h o x r (suc n) (declared p r) m) where
+  module _ (x : Ran) (r n : ℕ) (m : List ℕ) (l : Left p rd f h o x r (suc n) (commandsD p r) m) where
     abbrev d : ℕ
-    d = declared p r
+    d = commandsD p r
 
     abbrev m₁ : List ℕ
     m₁ = withWired m o 1
@@ -99,22 +94,22 @@ module _ (p rd : List ℕ) (f h o : ℕ) where
         )
 
   -- as the code leaves it, q and m₂ the end and the words
-  pub opened : (m₀ m : List ℕ) → 0 < running p (reactor m₀ o) → (q : Ended) (m₂ : List ℕ) → q ≡ Whole → m₂ ≡ withWired
+  pub opened : (m₀ m : List ℕ) → 0 < commandsR p (reactor m₀ o) → (q : Ruling) (m₂ : List ℕ) → q ≡ Fine → m₂ ≡ withWired
       m o 1
-      → Declared p rd f h o m₀ Whole m → Opened p rd f h o m₀ q m₂
+      → Declared p rd f h o m₀ Fine m → Opened p rd f h o m₀ q m₂
   opened m₀ m some q m₂ e k l =
-      let n : running p (reactor m₀ o) ≡ suc (running p (reactor m₀ o) - 1) = omega arith in
-      let g = wires _ _ (running p (reactor m₀ o) - 1) m (left-at n refl l) in
+      let n : commandsR p (reactor m₀ o) ≡ suc (commandsR p (reactor m₀ o) - 1) = omega arith in
+      let g = wires _ _ (commandsR p (reactor m₀ o) - 1) m (left-at n refl l) in
       rw (e, k) (left-at (sym n) refl (g .0), g .1)
 
   -- the same from the words m on
-  pub starts : (m₀ m : List ℕ) → 0 < running p (reactor m₀ o) → Opened p rd f h o m₀ Whole m
+  pub starts : (m₀ m : List ℕ) → 0 < commandsR p (reactor m₀ o) → Opened p rd f h o m₀ Fine m
       → (reactor m o ≡ reactor m₀ o)
-      × Left p rd f h o (commands (stepping p rd f h o) (running p (reactor m o)) (declared p (reactor m o)) m)
+      × Left p rd f h o (commands (stepping p rd f h o) (commandsR p (reactor m o)) (commandsD p (reactor m o)) m)
       (reactor m o)
-      (running p (reactor m o)) (declared p (reactor m o)) m
+      (commandsR p (reactor m o)) (commandsD p (reactor m o)) m
   unfolding Through
   starts m₀ m some g =
-      let n : running p (reactor m₀ o) ≡ suc (running p (reactor m₀ o) - 1) = omega arith in
+      let n : commandsR p (reactor m₀ o) ≡ suc (commandsR p (reactor m₀ o) - 1) = omega arith in
       let same = left-at n refl (g .0) .steady .0 .same in
       (same, rw same (record { run = refl; steady = g .0 .steady; workable = g .0 .workable }))

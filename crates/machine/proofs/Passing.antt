@@ -1,28 +1,25 @@
 -- A pass over the deployments that changes each in its own words, and the loops over D slots, R commands and
 -- sinks, one step further.
 -- Assumes nothing.
-use Prim.Native.Nat.{ℕ, zero, suc, _+_, _*_, _-_, _≤_, _<_}
-use mathlib.Core.Path.{_≡_, refl, sym, ap, _∙_}
-use mathlib.Core.Bool.{Bool, true, false}
-use mathlib.Core.List.{List, [], _∷_}
-use native.Mathlib.Omega.{arith}
-use lib.ListN.{length, set, length-set}
+use Rattle.value.specs.Prelude.{ℕ, zero, suc, _+_, _-_, _*_, _≤_, _<_, _≡_, refl, sym, _∙_, ap, Bool, true, false, List}
+use Rattle.value.specs.Prelude.{[], _∷_, length, set, arith}
+use lib.ListN.{length-set}
 use Rattle.value.specs.Test.{_<?_, _=?_, guard}
 use Rattle.value.specs.Value.{value}
 use Rattle.value.specs.declared.Value.{Value}
-use Rattle.program.specs.Bytes.{reactors, declared, running, mainOf, commandsIn}
+use Rattle.program.specs.Bytes.{reactors, commandsD, commandsR, mainOf, commandsIn}
 use Rattle.program.specs.Command.{Cmd, decode, point, madeBy, cmdOf}
 use Rattle.program.specs.declared.Command.{Command}
 use Rattle.program.proofs.Decode.{as-make, by-code}
 use Rattle.program.specs.Location.{commandLoc, sinkLoc, sizeOf}
 use Rattle.image.specs.Memory.{mainAt, word, reactor, slot, mark, content, sizeAt, startsFrom, patch}
 use Rattle.image.specs.Passes.{over, tilesFrom}
-use Rattle.image.specs.Cut.{Tiling, Follows, startsOn}
+use Rattle.image.specs.Contracts.{Tiling, Follows, startsOn}
 use Rattle.image.proofs.Tiles.{starts-done, follows}
 use Rattle.remus.specs.Cells.{keepBy, keepFrom, keepOne}
 use Rattle.remus.specs.Clear.{pairsFrom}
 use Rattle.remus.specs.Undo.{slotBack, slotsBack}
-use Rattle.machine.specs.Cells.{Remembering}
+use Rattle.machine.specs.Contracts.{Remembering}
 use Rattle.machine.proofs.Clears.{Local, local-by, local-slot}
 use Rattle.machine.proofs.Stretch.{patch-cons, patch-none}
 
@@ -36,15 +33,16 @@ module _ (p m m′ : List ℕ) (b : ℕ) (same : (i : ℕ) → b ≤ i → word 
   starts-same : (n u a : ℕ) → b ≤ a → startsFrom p n m′ u a ≡ startsFrom p n m u a
   unfolding startsFrom
   starts-same zero u a h = refl
-  starts-same (suc n) u a h =
-      rw (same-size a h) (ap (λ (l : List ℕ). guard (a <? u) [] (λ _. a ∷ l)) (starts-same n u (a + sizeAt p m a) (omega arith)))
+  starts-same (suc n) u a h = rw (same-size a h)
+      (ap (λ (l : List ℕ). guard (a <? u) [] (λ _. a ∷ l)) (starts-same n u (a + sizeAt p m a) (omega arith)))
 
   tiles-same : (n u a : ℕ) → b ≤ a → tilesFrom p m′ n u a ≡ tilesFrom p m n u a
   unfolding tilesFrom reactor
   tiles-same zero u a h = refl
   tiles-same (suc n) u a h =
       rw (same-size a h, same a h)
-      (ap (λ (t : Bool). guard (a <? u) (a =? u) (λ _. guard (word m a <? reactors p) false (λ _. t))) (tiles-same n u (a + sizeAt p m a) (omega arith)))
+      (ap (λ (t : Bool). guard (a <? u) (a =? u) (λ _. guard (word m a <? reactors p) false (λ _. t)))
+      (tiles-same n u (a + sizeAt p m a) (omega arith)))
 
 module _ (p : List ℕ) (m : List ℕ) (u a : ℕ) where
   module _ (t : Tiling p m u a) (l : a < u) (n : ℕ) (e : n ≡ sizeAt p m a) where
@@ -58,14 +56,15 @@ module _ (p : List ℕ) (m : List ℕ) (u a : ℕ) where
     pass-rises = omega (arith, next .rises)
 
     -- the pass f goes on from the words m′ that it leaves of m
-    pub pass-next : (f : List ℕ → ℕ → List ℕ) (m′ : List ℕ) (k : ℕ) (x : List ℕ) → m′ ≡ f m a → Local p m a (f m a) → length m ≡ k
-        → over f m (startsOn p m u a) ≡ x
+    pub pass-next : (f : List ℕ → ℕ → List ℕ) (m′ : List ℕ) (k : ℕ) (x : List ℕ)
+        → m′ ≡ f m a → Local p m a (f m a) → length m ≡ k → over f m (startsOn p m u a) ≡ x
         → (length m′ ≡ k) × Tiling p m′ u (a + n) × (over f m′ (startsOn p m′ u (a + n)) ≡ x)
     unfolding over
     pass-next f m′ k x q c h g =
         let same : (i : ℕ) → a + n ≤ i → word (f m a) i ≡ word m i = (λ i d. c .rest i (omega arith)) in
         let d : length (f m a) ≡ length m = c .long in
-        let tiled : tilesFrom p (f m a) (length m) u (a + n) ≡ true = tiles-same p m (f m a) (a + n) same (length m) u (a + n) (omega arith) ∙ next .tiling .tiled in
+        let tiled : tilesFrom p (f m a) (length m) u (a + n) ≡ true =
+        tiles-same p m (f m a) (a + n) same (length m) u (a + n) (omega arith) ∙ next .tiling .tiled in
         let rest : over f (f m a) (startsOn p (f m a) u (a + n)) ≡ over f m (startsOn p m u a) =
         rw (next .here, d, starts-same p m (f m a) (a + n) same (length m) u (a + n) (omega arith)) in
         rw q (d ∙ h, record { fits = rw d (t .fits); tiled = rw d tiled }, rest ∙ g)
@@ -84,13 +83,13 @@ module _ (p : List ℕ) (m : List ℕ) (u a : ℕ) where
 
 module _ (p : List ℕ) (u n j : ℕ) (m : List ℕ) (o : ℕ) where
   -- z are the words once slot j is brought back
-  pub slots-next : (z : List ℕ) (r : ℕ) (x : List ℕ) → j < n → n ≡ declared p r → reactor m o ≡ r
+  pub slots-next : (z : List ℕ) (r : ℕ) (x : List ℕ) → j < n → n ≡ commandsD p r → reactor m o ≡ r
       → z ≡ slotBack p u m o (commandLoc p (reactor m o) j) (madeBy (cmdOf p (reactor m o) j))
       → slotsBack p u (n - j) j m o ≡ x → (reactor z o ≡ r) × (slotsBack p u (n - (j + 1)) (j + 1) z o ≡ x)
   unfolding slotsBack
   slots-next z r x h d e f g =
       let k : n - j ≡ suc (n - (j + 1)) = omega arith in
-      let low : j < declared p (reactor m o) = rw e (omega arith) in
+      let low : j < commandsD p (reactor m o) = rw e (omega arith) in
       let same : reactor z o ≡ reactor m o = rw f (local-slot p u o m j _ low .same) in
       (same ∙ e, rw f (rw k at g))
 
@@ -101,11 +100,12 @@ module _ (p : List ℕ) (u n j : ℕ) (m : List ℕ) (o : ℕ) where
 -- ---- the R commands of one
 
 module _ (p : List ℕ) (m : List ℕ) (o n : ℕ) where
-  pub keeps-first : n ≡ running p (reactor m o) → keepFrom p (n - 0) (declared p (reactor m o) + 0) m o ≡ keepOne p m o
+  pub keeps-first : n ≡ commandsR p (reactor m o)
+      → keepFrom p (n - 0) (commandsD p (reactor m o) + 0) m o ≡ keepOne p m o
   unfolding keepOne
   keeps-first e =
-      let k : n - 0 ≡ running p (reactor m o) = omega arith in
-      let i : declared p (reactor m o) + 0 ≡ declared p (reactor m o) = omega arith in
+      let k : n - 0 ≡ commandsR p (reactor m o) = omega arith in
+      let i : commandsD p (reactor m o) + 0 ≡ commandsD p (reactor m o) = omega arith in
       rw (k, i)
 
   pub keeps-done : (i j : ℕ) → n ≤ j → m ≡ keepFrom p (n - j) i m o
@@ -113,16 +113,16 @@ module _ (p : List ℕ) (m : List ℕ) (o n : ℕ) where
   keeps-done i j h = let e : n - j ≡ 0 = omega arith in rw e
 
   -- z are the words once what R command j kept is in its cell
-  module _ (known : Remembering p) (r j : ℕ) (low : r < reactors p) (count : n ≡ running p r) where
+  module _ (known : Remembering p) (r j : ℕ) (low : r < reactors p) (count : n ≡ commandsR p r) where
     pub keeps-next : reactor m o ≡ r → (z x : List ℕ) → j < n
-        → z ≡ keepBy p m o (commandLoc p (reactor m o) (declared p r + j)) (cmdOf p r (declared p r + j))
-        → keepFrom p (n - j) (declared p r + j) m o ≡ x
-        → (reactor z o ≡ r) × (keepFrom p (n - (j + 1)) (declared p r + (j + 1)) z o ≡ x)
+        → z ≡ keepBy p m o (commandLoc p (reactor m o) (commandsD p r + j)) (cmdOf p r (commandsD p r + j))
+        → keepFrom p (n - j) (commandsD p r + j) m o ≡ x
+        → (reactor z o ≡ r) × (keepFrom p (n - (j + 1)) (commandsD p r + (j + 1)) z o ≡ x)
     unfolding keepFrom commandsIn
     keeps-next same z x h e g =
         let k : n - j ≡ suc (n - (j + 1)) = omega arith in
-        let i : declared p r + (j + 1) ≡ declared p r + j + 1 = omega arith in
-        let c = declared p r + j in
+        let i : commandsD p r + (j + 1) ≡ commandsD p r + j + 1 = omega arith in
+        let c = commandsD p r + j in
         let step : z ≡ keepBy p m o (commandLoc p (reactor m o) c) (cmdOf p (reactor m o) c) = rw same (rw same at e) in
         let kept = local-by p o known m c _ (rw same low) (rw same (omega arith)) in
         (rw step (kept .same) ∙ same, rw (i, step) (rw k at g))

@@ -1,25 +1,19 @@
 -- How a run goes on, by what the present command comes to.
 -- Assumes nothing.
-use Prim.Native.Nat.{ℕ, suc, _+_, _-_}
-use mathlib.Core.Path.{_≡_, refl, sym, ap, _∙_}
-use mathlib.Core.Bool.{Bool, true, false}
-use mathlib.Core.Logic.{_≢_}
-use mathlib.Core.List.{List}
-use native.Mathlib.Omega.{arith}
+use Rattle.value.specs.Prelude.{ℕ, suc, _+_, _-_, _≡_, refl, sym, _∙_, ap, _≢_, Bool, true, false, List, arith}
 use lib.Seq.{getD-set-other}
 use Rattle.value.specs.Test.{pick}
 use Rattle.value.proofs.Tests.{yes, no, eq!, eq×}
-use Rattle.program.specs.Bytes.{declared}
+use Rattle.program.specs.Bytes.{commandsD}
 use Rattle.program.specs.Command.{Cmd, cmdOf, takesWords}
-use Rattle.load.specs.declared.Refusal.{Refusal}
-use Rattle.image.specs.Memory.{word, reactor, wired, withWired}
+use Rattle.answer.specs.declared.Refusal.{Refusal}
+use Rattle.image.specs.Memory.{word, reactor, withWired}
 use Rattle.remus.specs.Exec.{Eff, move, call, fail, exec, ready, eff}
 use Rattle.remus.specs.Run.{Ran, ran, stopped, andThen, entered, commands, stepOf, runOf}
 use Rattle.remus.specs.Steady.{Through}
 use Rattle.machine.specs.declared.Outcome.the-variants.{Given, Move, Call, Fail}
-use Rattle.machine.specs.Act.{did, acted, ranAs}
-use Rattle.machine.specs.Opened.{stepping, Knowing, Left}
-use Rattle.machine.proofs.Keeping.{workable-after}
+use Rattle.machine.specs.Contracts.{did, acted, ranAs, stepping, Knowing, Left}
+use Rattle.machine.proofs.WordsFit.{workable-after}
 
 -- ---- a command's effect, by its outcome
 
@@ -77,14 +71,14 @@ wired-reactor m o = getD-set-other m (o + 1) o 1 0 (omega arith)
 
 module _ (p m : List ℕ) (o r : ℕ) (same : reactor m o ≡ r) where
   -- the words are ready: before D's end, past it, and at it once the deployment is wired
-  pub ready-apart : (i : ℕ) → i ≢ declared p r → ready p m o i ≡ m
+  pub ready-apart : (i : ℕ) → i ≢ commandsD p r → ready p m o i ≡ m
   unfolding ready
-  ready-apart i n = sym (no (withWired m o 1) (eq× {a = i} {b = declared p (reactor m o)}
-      (λ e. n (e ∙ ap (declared p) same))) refl)
+  ready-apart i n = sym (no (withWired m o 1) (eq× {a = i} {b = commandsD p (reactor m o)}
+      (λ e. n (e ∙ ap (commandsD p) same))) refl)
 
-  pub ready-there : ready p m o (declared p r) ≡ withWired m o 1
+  pub ready-there : ready p m o (commandsD p r) ≡ withWired m o 1
   unfolding ready
-  ready-there = sym (yes m (eq! {a = declared p r} {b = declared p (reactor m o)} (ap (declared p) (sym same))) refl)
+  ready-there = sym (yes m (eq! {a = commandsD p r} {b = commandsD p (reactor m o)} (ap (commandsD p) (sym same))) refl)
 
 -- ---- what is left of a run
 

@@ -1,40 +1,35 @@
 -- A sound image of an accepted program is safe for the turn's code, whatever the readings.
 -- Assumes nothing.
-use Prim.Native.Nat.{ℕ, _≤_}
-use mathlib.Core.Path.{_≡_, _∙_, subst, sym, ap}
-use mathlib.Core.List.{List}
-use native.Mathlib.Omega.{arith}
-use lib.ListN.{length}
+use Rattle.value.specs.Prelude.{ℕ, _≤_, _≡_, sym, _∙_, ap, subst, List, length, arith}
 use Rattle.program.specs.Bytes.{mainOf, commandsIn}
-use Rattle.program.specs.Counts.{Facts}
-use Rattle.program.specs.Location.{sources}
+use Rattle.program.specs.Contracts.{Facts}
+use Rattle.program.specs.Location.{sourceCount}
 use Rattle.program.specs.Kind.{kindOf}
 use Rattle.program.proofs.Places.{commands-within}
-use Rattle.load.specs.Check.{accepted, numberOf, checkOf}
+use Rattle.load.specs.Check.{accepted, checkOf}
+use Rattle.answer.specs.Answer.{numberOf}
 use Rattle.load.specs.Rules.{Rules}
-use Rattle.load.specs.declared.Refusal.{Refusal}
+use Rattle.answer.specs.declared.Refusal.{Refusal}
 use Rattle.load.proofs.Exact.{exact}
-use Rattle.load.proofs.Exact.Deduced.{all-static}
+use Rattle.load.proofs.Exact.StaticFromRules.{all-static}
 use Rattle.image.specs.Memory.{mostDepth, mostWords, mainAt, used}
-use Rattle.image.specs.Sound.{Tiles, Sound}
-use Rattle.image.specs.Cut.{Tiling}
+use Rattle.image.specs.Sound.{Tiles, SoundImage}
+use Rattle.image.specs.Contracts.{Tiling}
 use Rattle.image.proofs.Exact.{exact-soundness}
 use Rattle.image.proofs.Exact.Tiling.{tiles! }
 use Rattle.image.proofs.Memory.Tiles.{in-to, tiles-kept}
 use Rattle.remus.specs.Run.{ran, stopped, mainRun}
-use Rattle.remus.proofs.Keeping.{kept-all}
+use Rattle.remus.proofs.CellsFilled.{kept-all}
 use Rattle.remus.proofs.Undo.Entry.{entry-firm}
 use Rattle.remus.proofs.Undo.Runs.{After, run-keeps}
 use Rattle.remus.proofs.Undo.Undoing.{undoes}
-use Rattle.machine.specs.Answer.{Ending, Safe, Sure}
-use Rattle.machine.specs.Cells.{Remembering}
-use Rattle.machine.specs.Places.{Loaded}
+use Rattle.machine.specs.Contracts.{Ending, Safe, Sure, Remembering, Loaded}
 use Rattle.remus.proofs.Steady.{steady}
 
 tiling : (p m : List ℕ) (u : ℕ) → u ≤ length m → Tiles p m u mainAt → Tiling p m u mainAt
 tiling p m u h t = record { fits = h; tiled = tiles! p m (length m) u mainAt (omega arith) t }
 
-module _ (p : List ℕ) (rules : Rules p) (m rd : List ℕ) (few : length m ≤ mostWords) (s : Sound p m) where
+module _ (p : List ℕ) (rules : Rules p) (m rd : List ℕ) (few : length m ≤ mostWords) (s : SoundImage p m) where
   after-run : After p m (λ (x : List ℕ). Unit {0}) (mainRun p rd m)
   unfolding mainRun
   after-run = run-keeps p rules rd mostDepth 1 m mainAt (entry-firm p rules m s) (s .main)
@@ -83,11 +78,10 @@ module _ (p : List ℕ) (rules : Rules p) (m rd : List ℕ) (few : length m ≤ 
 
 -- an accepted program, by its rules
 loads : (p : List ℕ) → Rules p → (t : List ℕ) → Facts p t → Loaded p t
-unfolding commandsIn sources mainOf
+unfolding commandsIn sourceCount mainOf
 loads p rules t f =
     record {
       facts = f;
-      few = rules .tables .header .few-reactors;
       inside = λ r l. omega (arith, commands-within p r l, rules .tables .whole);
       short = λ r l.
           let e = rules .tables .entries r l in

@@ -1,9 +1,6 @@
 -- A command of D, and one of R, by its code: code that carries out one sequence has no way for the other's.
 -- Assumes nothing.
-use mathlib.Core.Path.{_≡_, ap, _∙_}
-use mathlib.Core.List.{List}
-use Prim.Native.Nat.{ℕ}
-use native.Mathlib.Omega.{arith}
+use Rattle.value.specs.Prelude.{ℕ, _≡_, _∙_, ap, List, arith}
 use Rattle.program.specs.Bytes.{commandAt}
 use Rattle.program.specs.Command.{Cmd, D, R, neither, sequenceOf, decode, bytesAt, bytesOf, cmdOf}
 use Rattle.program.specs.declared.Command.{Command}

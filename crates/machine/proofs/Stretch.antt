@@ -1,11 +1,9 @@
 -- Stretches of a list that are lent on and come back, as the definitions put them.
 -- Assumes nothing.
-use Prim.Native.Nat.{ℕ, suc, _+_, _-_, _≤_, _<_}
-use mathlib.Core.Path.{_≡_, sym, ap, _∙_}
-use mathlib.Core.List.{List, [], _∷_, _++_, append-assoc, append-nil}
-use native.Mathlib.Omega.{arith}
+use Rattle.value.specs.Prelude.{ℕ, suc, _+_, _-_, _≤_, _<_, _≡_, sym, _∙_, ap, List, [], _∷_, _++_, append-assoc}
+use Rattle.value.specs.Prelude.{append-nil, length, set, take, drop, replicate, arith}
 use native.Mathlib.Numerals.{add-one}
-use lib.ListN.{length, set, take, drop, replicate, length-replicate, take-append-drop}
+use lib.ListN.{length-replicate, take-append-drop}
 use lib.Seq.{drop-length, take-suc-set, drop-set-lt}
 use borrow.Rule.Slice.PartMut.{midOf, putMid, mid-len, post-is}
 use Rattle.image.specs.Memory.{patch}
@@ -48,7 +46,8 @@ patch-cons m i w ws h =
 pub zero-rest : (m l : List ℕ) (i n : ℕ) → n ≡ length m → i < n → l ≡ replicate (length (midOf i (n - i) m)) 0
     → putMid i (n - i) m l ≡ patch m i (replicate (length m - i) 0)
 zero-rest m l i n e h f =
-    let q : l ≡ replicate (length m - i) 0 = f ∙ ap (λ (k : ℕ). replicate k 0) (mid-len i n m (omega arith) ∙ ap (λ (k : ℕ). k - i) e) in
+    let q : l ≡ replicate (length m - i) 0 =
+    f ∙ ap (λ (k : ℕ). replicate k 0) (mid-len i n m (omega arith) ∙ ap (λ (k : ℕ). k - i) e) in
     let g : length l ≡ n - i = ap length q ∙ length-replicate (length m - i) 0 ∙ sym (ap (λ (k : ℕ). k - i) e) in
     put-part m l i n (omega arith) g ∙ ap (patch m i) q
 

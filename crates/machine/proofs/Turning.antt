@@ -1,24 +1,19 @@
 -- The turn's own steps: how main's run ended, and what the questions say of what is brought.
 -- Assumes nothing.
-use Prim.Native.Nat.{ℕ, _*_, _≤_, _<_}
-use mathlib.Core.Path.{_≡_, sym, subst}
-use mathlib.Core.List.{List}
-use native.Mathlib.Omega.{arith}
-use lib.ListN.{length}
+use Rattle.value.specs.Prelude.{ℕ, _*_, _≤_, _<_, _≡_, sym, subst, List, length, arith}
 use Rattle.program.specs.Bytes.{mainOf}
-use Rattle.program.specs.Location.{sinks}
-use Rattle.load.specs.declared.Refusal.{Refusal}
+use Rattle.program.specs.Location.{sinkCount}
+use Rattle.answer.specs.declared.Refusal.{Refusal}
 use Rattle.image.specs.Memory.{mostTurns, mainAt, used, turns}
 use Rattle.remus.specs.Run.{ran, stopped, runOf, mainRun}
-use Rattle.remus.specs.Turn.{fine, askedOf}
+use Rattle.remus.specs.Turn.{askedOf}
+use Rattle.answer.specs.declared.Ruling.the-variants.{Fine, Against}
 use Rattle.remus.specs.Claim.{Fit}
 use Rattle.remus.proofs.Fits.{fits}
 use Rattle.remus.specs.Undo.{undoOf}
-use Rattle.remus.specs.declared.Turned.{Turned}
-use Rattle.machine.specs.declared.Ended.the-variants.{Whole, Stopped}
-use Rattle.machine.specs.Act.{Workable, ranAs}
-use Rattle.machine.specs.Answer.{turned, Safe}
-use Rattle.machine.proofs.Keeping.{run-keeps, Worked}
+use Rattle.answer.specs.declared.Answer.{Answer}
+use Rattle.machine.specs.Contracts.{Workable, ranAs, turned, Safe}
+use Rattle.machine.proofs.WordsFit.{run-keeps, Worked}
 
 -- ---- main's run
 
@@ -26,19 +21,19 @@ pub workable : {p rd m : List ℕ} → Safe p rd m → turns m < mostTurns → W
 workable s h = record { few = s .few; past = s .past; clock = omega arith }
 
 module _ (p rd m m′ : List ℕ) where
-  pub run-whole : ranAs Whole m′ ≡ runOf 64 p rd 1 m mainAt → mainRun p rd m ≡ ran m′
+  pub run-whole : ranAs Fine m′ ≡ runOf 64 p rd 1 m mainAt → mainRun p rd m ≡ ran m′
   unfolding ranAs mainRun
   run-whole e = sym e
 
-  pub run-stopped : (w : Refusal) → ranAs (Stopped w) m′ ≡ runOf 64 p rd 1 m mainAt → mainRun p rd m ≡ stopped w m′
+  pub run-stopped : (w : Refusal) → ranAs (Against w) m′ ≡ runOf 64 p rd 1 m mainAt → mainRun p rd m ≡ stopped w m′
   unfolding ranAs mainRun
   run-stopped w e = sym e
 
-  pub clock-after : Workable m → ranAs Whole m′ ≡ runOf 64 p rd 1 m mainAt → turns m′ < 4294967295
+  pub clock-after : Workable m → ranAs Fine m′ ≡ runOf 64 p rd 1 m mainAt → turns m′ < 4294967295
   unfolding ranAs
   clock-after w e = subst Worked (sym e) (run-keeps p rd 64 1 m mainAt w) .clock
 
-pub same-turned : {r s : Turned} {a b : List ℕ} (sk : List ℕ) → r ≡ s → a ≡ b → turned r a sk ≡ turned s b sk
+pub same-turned : {r s : Answer} {a b : List ℕ} (sk : List ℕ) → r ≡ s → a ≡ b → turned r a sk ≡ turned s b sk
 same-turned sk e f = simp (e, f)
 
 pub undone : (p m m′ : List ℕ) (u : ℕ) → u ≡ used m → undoOf p (used m) m′ ≡ m → undoOf p u m′ ≡ m
@@ -46,11 +41,11 @@ undone p m m′ u e h = rw e h
 
 -- ---- what is brought
 
-module _ (p m rd sk : List ℕ) (e : askedOf p m rd sk ≡ fine) where
+module _ (p m rd sk : List ℕ) (e : askedOf p m rd sk ≡ Fine) where
   fit : Fit p m (record { readings = rd; sinkSpace = sk })
   fit = fits p m _ .1 e
 
-  pub sinks-fit : 2 * sinks p (mainOf p) ≤ length sk
+  pub sinks-fit : 2 * sinkCount p (mainOf p) ≤ length sk
   sinks-fit = fit .room
 
   pub clock-left : turns m < mostTurns

@@ -1,5 +1,1 @@
-pub mod Act
-pub mod Cells
-pub mod Places
-pub mod Opened
-pub mod Answer
+pub mod Contracts

@@ -1,9 +1,10 @@
 // The commands that allocate: AllocMono and AllocPoly. A new deployment stands one deeper than its
 // owner: past the limit of depths the turn ends with 15, and else, where it does not fit the words that
 // are left, with 14.
-use crate::Ended;
 use crate::Outcome;
 use crate::command::give;
+use answer::Refusal;
+use answer::Ruling;
 use image::MOST_DEPTH;
 use image::next;
 use image::pair_within;
@@ -13,28 +14,25 @@ use image::reactor;
 use image::set_used;
 use image::used;
 use image::word;
-use load::Refusal;
 use program::fact;
 use program::reactors;
 use value::Value;
-ghost use mathlib.Core.Path.{_≡_};
-ghost use mathlib.Core.Bool.{true, false};
-ghost use mathlib.Core.List.{List};
-ghost use Prim.Native.Nat.{ℕ, _+_, _<_, _≤_};
-ghost use lib.ListN.{length};
+ghost use Rattle.value.specs.Prelude.{ℕ, _+_, _≤_, _<_, _≡_, true, false, List, length};
 ghost use Rattle.value.specs.Test.{_≤?_};
 ghost use Rattle.value.specs.Value as W;
 ghost use Rattle.program.specs.Bytes as B;
 ghost use Rattle.program.specs.Command as C;
-ghost use Rattle.program.specs.Counts.{Facts};
+ghost use Rattle.program.specs.Contracts.{Facts};
 ghost use Rattle.program.specs.Location as L;
 ghost use Rattle.image.specs.Memory as M;
 ghost use Rattle.remus.specs.Exec as X;
-ghost use Rattle.machine.specs.Act.{did, acted, Acts, Declares, Here, Stands};
+ghost use Rattle.machine.specs.Contracts.{did, acted, Acts, Declares, Here, Stands};
 
 // Whether so many words are left behind u.
 fn room(memory: &[u32], size: u32) -> bool
-    ensures { λ t. ⌜ t ≡ (M.used (now (memory .entry)) + size ≤? length (now (memory .entry))) ⌝ }
+    ensures { λ t.
+        let m = now (memory .entry) in
+        ⌜ t ≡ (M.used m + size ≤? length m) ⌝ }
 {
     used(memory) as usize + size as usize <= memory.len()
 }
@@ -44,7 +42,8 @@ fn place_new(memory: &mut [u32], r: u32, old: u32, size: u32)
     requires { ⌜ length (now memory) ≤ M.mostWords ⌝ }
     requires { ⌜ M.used (now memory) + size ≤ length (now memory) ⌝ }
     ensures { λ _.
-        ⌜ ((p : List ℕ) → size ≡ L.sizeOf p r → now (memory .exit) ≡ M.place p (now (memory .entry)) r old) ⌝ }
+        let m = now (memory .entry) in
+        ⌜ ((p : List ℕ) → size ≡ L.sizeOf p r → now (memory .exit) ≡ M.deploy p m r old) ⌝ }
 {
     let u = used(memory);
     put(memory, u as usize, r);
@@ -54,20 +53,20 @@ fn place_new(memory: &mut [u32], r: u32, old: u32, size: u32)
 }
 
 // 1 AllocMono: a new deployment of reactor x.
-pub(crate) fn alloc_mono(facts: &[u64; 64], memory: &mut [u32], h: u8, here: usize, x: u8) -> Ended
+pub(crate) fn alloc_mono(facts: &[u64; 64], memory: &mut [u32], h: u8, here: usize, x: u8) -> Ruling
     requires { ⌜ here < 8589934592 ⌝ }
     requires { ⌜ length (now memory) ≤ M.mostWords ⌝ }
     ensures { λ r.
         let m = now (memory .entry) in
-        ⌜ ((p : List ℕ) (o i : ℕ) → Facts p (now (facts .entry)) → B.reactors p ≤ 64 → x < B.reactors p
+        ⌜ ((p : List ℕ) (o i : ℕ) → Facts p (now (facts .entry)) → x < B.reactors p
         → Stands m o → Here p m o i here → Declares p h m o i (C.allocMono x) r (now (memory .exit))) ⌝ }
 {
     if MOST_DEPTH <= h {
-        return Ended::Stopped(Refusal::TooDeep(x as usize));
+        return Ruling::Against(Refusal::TooDeep(x as usize));
     }
     let size = fact(facts, x as u32).size();
     if !room(memory, size) {
-        return Ended::Stopped(Refusal::NoRoom(x as usize));
+        return Ruling::Against(Refusal::NoRoom(x as usize));
     }
     let u = used(memory);
     place_new(memory, x as u32, 0, size);
@@ -79,7 +78,7 @@ pub(crate) fn alloc_mono(facts: &[u64; 64], memory: &mut [u32], h: u8, here: usi
             content: u,
         },
     );
-    Ended::Whole
+    Ruling::Fine
 }
 
 // The deployment of reactor q on the chain from `head`; 0 if there is none.
@@ -140,7 +139,8 @@ fn make(facts: &[u64; 64], memory: &mut [u32], h: u8, here: usize, q: u32, b: us
     requires { ⌜ length (now memory) ≤ M.mostWords ⌝ }
     ensures { λ r.
         let m = now (memory .entry) in
-        ⌜ ((p rd : List ℕ) (o i j k : ℕ) → Facts p (now (facts .entry)) → B.reactors p ≤ 64 → q < B.reactors p
+        ⌜ ((p rd : List ℕ) (o i j k : ℕ) → Facts p (now (facts .entry))
+        → q < B.reactors p
         → Stands m o → b ≡ M.slot p m o k → Here p m o i here
         → did r (now (memory .exit)) ≡ acted m (C.allocPoly j k) (X.chosen p rd h m o i 0 q k)) ⌝ }
 {
@@ -168,9 +168,8 @@ fn choose(
     requires { ⌜ b ≤ here ⌝ }
     requires { ⌜ length (now memory) ≤ M.mostWords ⌝ }
     ensures { λ r.
-        let p = now (program .entry) in
-        let m = now (memory .entry) in
-        ⌜ ((rd : List ℕ) (o i j k : ℕ) → Facts p (now (facts .entry)) → B.reactors p ≤ 64 → q < B.reactors p
+        let p = now (program .entry) in let m = now (memory .entry) in
+        ⌜ ((rd : List ℕ) (o i j k : ℕ) → Facts p (now (facts .entry)) → q < B.reactors p
         → Stands m o → b ≡ M.slot p m o k → Here p m o i here
         → did r (now (memory .exit)) ≡ acted m (C.allocPoly j k) (X.operated p rd h m o i false q k)) ⌝ }
 {
@@ -204,9 +203,8 @@ pub(crate) fn alloc_poly(
     requires { ⌜ (a ≤ here) × (b ≤ here) ⌝ }
     requires { ⌜ length (now memory) ≤ M.mostWords ⌝ }
     ensures { λ r.
-        let p = now (program .entry) in
-        let m = now (memory .entry) in
-        ⌜ ((o i j k : ℕ) → Facts p (now (facts .entry)) → B.reactors p ≤ 64 → Stands m o
+        let p = now (program .entry) in let m = now (memory .entry) in
+        ⌜ ((o i j k : ℕ) → Facts p (now (facts .entry)) → Stands m o
         → a ≡ M.slot p m o j → b ≡ M.slot p m o k → Here p m o i here
         → (W.isBlank (M.valueAt p m o j) ≡ false → M.content p m o j < B.reactors p)
         → Acts p h m o i (C.allocPoly j k) r (now (memory .exit))) ⌝ }

@@ -10,15 +10,13 @@ use program::byte;
 use program::fact;
 use program::reactors;
 use value::Value;
-ghost use mathlib.Core.Path.{_≡_};
-ghost use Prim.Native.Nat.{ℕ, _+_, _≤_, _<_};
-ghost use lib.ListN.{length};
+ghost use Rattle.value.specs.Prelude.{ℕ, _+_, _≤_, _<_, _≡_, length};
 ghost use Rattle.program.specs.Bytes as B;
 ghost use Rattle.program.specs.Command as C;
 ghost use Rattle.program.specs.declared.Command.{Command};
 ghost use Rattle.image.specs.Memory as M;
 ghost use Rattle.remus.specs.Undo as U;
-ghost use Rattle.machine.specs.Places.{Loaded};
+ghost use Rattle.machine.specs.Contracts.{Loaded};
 
 // The first of the chain from `head` that lies below u.
 fn first_below(program: &[u8], memory: &[u32], u: u32, head: u32) -> u32
@@ -40,8 +38,7 @@ fn first_below(program: &[u8], memory: &[u32], u: u32, head: u32) -> u32
 fn point_back(program: &[u8], memory: &mut [u32], u: u32, i: usize)
     requires { ⌜ i < 8589934592 ⌝ }
     ensures { λ _.
-        let p = now (program .entry) in
-        let m = now (memory .entry) in
+        let p = now (program .entry) in let m = now (memory .entry) in
         ⌜ ((o l x : ℕ) → i ≡ M.slot p m o l → now (memory .exit) ≡ U.slotBack p u m o l (C.point x)) ⌝ }
 {
     let head = word(memory, i + 1);
@@ -60,8 +57,7 @@ fn point_back(program: &[u8], memory: &mut [u32], u: u32, i: usize)
 fn slot_back(program: &[u8], memory: &mut [u32], u: u32, code: u8, i: usize)
     requires { ⌜ i < 8589934592 ⌝ }
     ensures { λ _.
-        let p = now (program .entry) in
-        let m = now (memory .entry) in
+        let p = now (program .entry) in let m = now (memory .entry) in
         ⌜ ((o l : ℕ) (c : Command) → c .code ≡ code → i ≡ M.slot p m o l
         → now (memory .exit) ≡ U.slotBack p u m o l (C.madeBy (C.decode c))) ⌝ }
 {
@@ -75,14 +71,13 @@ fn slots_back(program: &[u8], facts: &[u64; 64], memory: &mut [u32], u: u32, o: 
     requires { ⌜ Loaded (now program) (now facts) ⌝ }
     requires { ⌜ M.reactor (now memory) o < B.reactors (now program) ⌝ }
     ensures { λ _.
-        let p = now (program .entry) in
-        let m = now (memory .entry) in
-        ⌜ now (memory .exit) ≡ U.slotsBack p u (B.declared p (M.reactor m o)) 0 m o ⌝ }
+        let p = now (program .entry) in let m = now (memory .entry) in
+        ⌜ now (memory .exit) ≡ U.slotsBack p u (B.commandsD p (M.reactor m o)) 0 m o ⌝ }
 {
     let counts = fact(facts, reactor(memory, o));
     let at = counts.at() as usize;
     let first = o as usize + counts.slots_d() as usize;
-    let n = counts.declared();
+    let n = counts.commands_d();
     let mut j: u8 = 0;
     while j < n {
         let k = j as usize;

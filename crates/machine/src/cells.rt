@@ -1,21 +1,18 @@
-// The commands of cells, one function each: 02 (v). What is kept waits in the Keep's own slot until
+// 6.18 to 6.20 The commands of cells, one function each. What is kept waits in the Keep's own slot until
 // the turn completes: Fetch reads a cell as the turn found it, and a refused turn leaves every cell.
 use crate::Outcome;
 use crate::command::give;
 use image::pair_within;
 use value::Value;
-ghost use mathlib.Core.Path.{_≡_};
-ghost use mathlib.Core.List.{List};
-ghost use Prim.Native.Nat.{ℕ, _+_, _<_, _≤_};
-ghost use lib.ListN.{length};
+ghost use Rattle.value.specs.Prelude.{ℕ, _+_, _≤_, _<_, _≡_, List, length};
 ghost use Rattle.program.specs.Command as C;
 ghost use Rattle.image.specs.Memory as M;
-ghost use Rattle.remus.specs.Cells as S;
-ghost use Rattle.machine.specs.Act.{Acts, Here};
+ghost use Rattle.remus.specs.Cells as Cells;
+ghost use Rattle.machine.specs.Contracts.{Acts, Here};
 
 // A value as the slot of a Keep that has run holds it. A blank slot is that of one that has not.
 fn pending(v: Value) -> Value
-    ensures { λ w. ⌜ w ≡ S.pending v ⌝ }
+    ensures { λ w. ⌜ w ≡ Cells.pending v ⌝ }
 {
     if v.mark == Value::BLANK {
         return Value {
@@ -28,7 +25,7 @@ fn pending(v: Value) -> Value
 
 // The value again.
 pub(crate) fn kept(v: Value) -> Value
-    ensures { λ w. ⌜ w ≡ S.kept v ⌝ }
+    ensures { λ w. ⌜ w ≡ Cells.kept v ⌝ }
 {
     if v.mark == Value::KEPT {
         return Value::blank();
@@ -43,7 +40,7 @@ pub(crate) fn fetch(memory: &mut [u32], here: usize, b: usize) -> Outcome
     ensures { λ r.
         let m = now (memory .entry) in
         ⌜ ((p : List ℕ) (h o i k : ℕ) → b ≡ M.slot p m o k → Here p m o i here
-        → Acts p h m o i (C.fetch k) r (now (memory .exit))) ⌝ }
+        → Acts p h m o i (C.gives (C.fetch k)) r (now (memory .exit))) ⌝ }
 {
     let v = pair_within(memory, b);
     give(memory, here, v)

@@ -2,15 +2,12 @@
 use image::reactor;
 use image::wipe;
 use program::fact;
-ghost use mathlib.Core.Path.{_≡_};
-ghost use mathlib.Core.List.{List};
-ghost use Prim.Native.Nat.{ℕ, _+_, _≤_, _<_};
-ghost use lib.ListN.{length};
+ghost use Rattle.value.specs.Prelude.{ℕ, _+_, _≤_, _<_, _≡_, List, length};
 ghost use Rattle.program.specs.Bytes as B;
 ghost use Rattle.program.specs.Location as L;
 ghost use Rattle.image.specs.Memory as M;
 ghost use Rattle.remus.specs.Clear as E;
-ghost use Rattle.machine.specs.Places.{Loaded};
+ghost use Rattle.machine.specs.Contracts.{Loaded};
 
 const HEADER: usize = 3;
 

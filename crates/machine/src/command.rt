@@ -1,8 +1,9 @@
-// The commands that neither allocate nor have to do with cells, one function each: 01, the command
-// table. They are given the index of each slot's words: `here` is the command's own, a and b those of
-// its operands. Where a command has a result, its own words are in memory, and no operand's lie past them.
+// 2.32 The commands that neither allocate nor have to do with cells, one function each. They are given
+// the index of each slot's words: `here` is the command's own, a and b those of its operands. Where a
+// command has a result, its own words are in memory, and no operand's lie past them.
 use crate::Outcome;
 use crate::places::operand;
+use image::SLOTS_AT;
 use image::pair;
 use image::pair_within;
 use image::put_pair;
@@ -12,23 +13,18 @@ use image::turns;
 use program::fact;
 use program::mark_of;
 use value::Value;
-ghost use mathlib.Core.Path.{_≡_};
-ghost use mathlib.Core.Bool.{true};
-ghost use mathlib.Core.List.{List};
-ghost use Prim.Native.Nat.{ℕ, _+_, _<_, _≤_};
-ghost use lib.ListN.{length};
+ghost use Rattle.value.specs.Prelude.{ℕ, _+_, _≤_, _<_, _≡_, true, List, length};
 ghost use Rattle.value.specs.Value as W;
 ghost use Rattle.program.specs.Bytes as B;
 ghost use Rattle.program.specs.Command as C;
-ghost use Rattle.program.specs.Counts.{Facts};
+ghost use Rattle.program.specs.Contracts.{Facts};
 ghost use Rattle.program.specs.Location as L;
 ghost use Rattle.image.specs.Memory as M;
 ghost use Rattle.remus.specs.Exec as X;
 ghost use Rattle.remus.specs.Turn as T;
-ghost use Rattle.value.specs.Primitive as P;
+ghost use Rattle.value.specs.Primitive as Op;
 ghost use Rattle.value.specs.declared.Value.{Value};
-ghost use Rattle.machine.specs.Act.{did, doing, Acts, Here};
-ghost use Rattle.machine.specs.Places.{Placed};
+ghost use Rattle.machine.specs.Contracts.{did, doing, Acts, Here, Placed, TimeFits};
 ghost use Rattle.machine.specs.declared.Outcome.the-variants.{Given};
 
 // The primitive that takes a third operand.
@@ -61,7 +57,8 @@ pub(crate) fn constant(memory: &mut [u32], here: usize, x: u8, v: u32) -> Outcom
     requires { ⌜ here + 1 < length (now memory) ⌝ }
     ensures { λ r.
         let m = now (memory .entry) in
-        ⌜ ((p : List ℕ) (h o i : ℕ) → Here p m o i here → Acts p h m o i (C.constant x v) r (now (memory .exit))) ⌝ }
+        ⌜ ((p : List ℕ) (h o i : ℕ) → Here p m o i here
+        → Acts p h m o i (C.gives (C.constant x v)) r (now (memory .exit))) ⌝ }
 {
     let given = of_kind(x, v);
     give(memory, here, given)
@@ -76,7 +73,7 @@ pub(crate) fn reading_at(readings: &[u32], k: u8) -> Value
 
 // Global x: the time, or a reading.
 fn global_value(readings: &[u32], memory: &[u32], x: u8) -> Value
-    requires { ⌜ M.turns (now memory) < 4294967295 ⌝ }
+    requires { ⌜ TimeFits (now memory) ⌝ }
     ensures { λ v. ⌜ v ≡ X.globalValue (now (readings .entry)) (now (memory .entry)) x ⌝ }
 {
     if x < 1 {
@@ -92,12 +89,11 @@ fn global_value(readings: &[u32], memory: &[u32], x: u8) -> Value
 // 4 Global: global x.
 pub(crate) fn global(readings: &[u32], memory: &mut [u32], here: usize, x: u8) -> Outcome
     requires { ⌜ here + 1 < length (now memory) ⌝ }
-    requires { ⌜ M.turns (now memory) < 4294967295 ⌝ }
+    requires { ⌜ TimeFits (now memory) ⌝ }
     ensures { λ r.
-        let m = now (memory .entry) in
-        let rd = now (readings .entry) in
+        let m = now (memory .entry) in let rd = now (readings .entry) in
         ⌜ ((p : List ℕ) (h o i : ℕ) → Here p m o i here
-        → did r (now (memory .exit)) ≡ doing p rd h m o i (C.global x)) ⌝ }
+        → did r (now (memory .exit)) ≡ doing p rd h m o i (C.gives (C.global x))) ⌝ }
 {
     let v = global_value(readings, memory, x);
     give(memory, here, v)
@@ -110,7 +106,7 @@ pub(crate) fn supply(memory: &mut [u32], x: u8, a: usize, b: usize) -> Outcome
     ensures { λ r.
         let m = now (memory .entry) in
         ⌜ ((p : List ℕ) (h o i j k : ℕ) → a ≡ M.slot p m o j → b ≡ M.slot p m o k
-        → (X.there p m o k ≡ true → x < L.sources p (M.reactor m (M.content p m o k)))
+        → (X.there p m o k ≡ true → x < L.sourceCount p (M.reactor m (M.content p m o k)))
         → Acts p h m o i (C.supply x j k) r (now (memory .exit))) ⌝ }
 {
     let d = pair(memory, b);
@@ -118,7 +114,7 @@ pub(crate) fn supply(memory: &mut [u32], x: u8, a: usize, b: usize) -> Outcome
         return Outcome::Move;
     }
     let v = pair(memory, a);
-    put_pair(memory, d.content as usize + 3 + 2 * (x as usize), v);
+    put_pair(memory, d.content as usize + SLOTS_AT + 2 * (x as usize), v);
     Outcome::Move
 }
 
@@ -137,10 +133,10 @@ pub(crate) fn react(memory: &[u32], b: usize) -> Outcome
 }
 
 // The index of sink x's words in the deployment at d.
-pub(crate) fn sink_place(facts: &[u64; 64], memory: &[u32], d: u32, x: u8) -> usize
+pub(crate) fn sink_index(facts: &[u64; 64], memory: &[u32], d: u32, x: u8) -> usize
     ensures is { λ i.
         let m = now (memory .entry) in
-        ⌜ ((p : List ℕ) → Facts p (now (facts .entry)) → B.reactors p ≤ 64 → M.reactor m d < B.reactors p
+        ⌜ ((p : List ℕ) → Facts p (now (facts .entry)) → M.reactor m d < B.reactors p
         → i ≡ M.slot p m d (L.sinkLoc p (M.reactor m d) x)) ⌝ }
     ensures small { λ i. ⌜ i < 8589934592 ⌝ }
 {
@@ -160,16 +156,15 @@ pub(crate) fn consume(
     requires { ⌜ b ≤ here ⌝ }
     ensures { λ r.
         let m = now (memory .entry) in
-        ⌜ ((p : List ℕ) (h o i k : ℕ) → Facts p (now (facts .entry)) → B.reactors p ≤ 64
-        → b ≡ M.slot p m o k → Here p m o i here
+        ⌜ ((p : List ℕ) (h o i k : ℕ) → Facts p (now (facts .entry)) → b ≡ M.slot p m o k → Here p m o i here
         → (X.there p m o k ≡ true → M.reactor m (M.content p m o k) < B.reactors p)
-        → Acts p h m o i (C.consume x k) r (now (memory .exit))) ⌝ }
+        → Acts p h m o i (C.gives (C.consume x k)) r (now (memory .exit))) ⌝ }
 {
     let d = pair_within(memory, b);
     if d.mark != Value::DEPLOYMENT {
         return give(memory, here, Value::blank());
     }
-    let i = sink_place(facts, memory, d.content, x);
+    let i = sink_index(facts, memory, d.content, x);
     let v = pair(memory, i);
     give(memory, here, v)
 }
@@ -179,11 +174,11 @@ pub(crate) fn sink(facts: &[u64; 64], memory: &mut [u32], o: u32, x: u8, a: usiz
     requires { ⌜ a < 8589934592 ⌝ }
     ensures { λ r.
         let m = now (memory .entry) in
-        ⌜ ((p : List ℕ) (h i j : ℕ) → Facts p (now (facts .entry)) → B.reactors p ≤ 64 → M.reactor m o < B.reactors p
+        ⌜ ((p : List ℕ) (h i j : ℕ) → Facts p (now (facts .entry)) → M.reactor m o < B.reactors p
         → a ≡ M.slot p m o j → Acts p h m o i (C.sink x j) r (now (memory .exit))) ⌝ }
 {
     let v = pair(memory, a);
-    let i = sink_place(facts, memory, o, x);
+    let i = sink_index(facts, memory, o, x);
     put_pair(memory, i, v);
     Outcome::Move
 }
@@ -193,7 +188,7 @@ fn third(memory: &[u32], slots: &[u8; 256], o: u32, x: u8, l: u8) -> Value
     ensures { λ v.
         let m = now (memory .entry) in
         ⌜ ((p : List ℕ) (a b : Value) → Placed p (M.reactor m o) (now (slots .entry)) l
-        → P.primitive x a b v ≡ P.primitive x a b (M.valueAt p m o l)) ⌝ }
+        → Op.primitive x a b v ≡ Op.primitive x a b (M.valueAt p m o l)) ⌝ }
 {
     if x != CHOOSE {
         return Value::blank();
@@ -215,10 +210,9 @@ pub(crate) fn primitive(
     requires { ⌜ here + 1 < length (now memory) ⌝ }
     requires { ⌜ (a ≤ here) × (b ≤ here) ⌝ }
     ensures { λ r.
-        let m = now (memory .entry) in
-        let t = now (slots .entry) in
+        let m = now (memory .entry) in let t = now (slots .entry) in
         ⌜ ((p : List ℕ) (h i j k : ℕ) → a ≡ M.slot p m o j → b ≡ M.slot p m o k → Placed p (M.reactor m o) t l
-        → Here p m o i here → Acts p h m o i (C.primitive x j k l) r (now (memory .exit))) ⌝ }
+        → Here p m o i here → Acts p h m o i (C.gives (C.primitive x j k l)) r (now (memory .exit))) ⌝ }
 {
     let first = pair_within(memory, a);
     let second = pair_within(memory, b);

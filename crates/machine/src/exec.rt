@@ -1,5 +1,4 @@
 // A command, decoded once and carried out: those of D, and those of R.
-use crate::Ended;
 use crate::Outcome;
 use crate::allocate::alloc_mono;
 use crate::allocate::alloc_poly;
@@ -13,26 +12,23 @@ use crate::command::primitive;
 use crate::command::react;
 use crate::command::sink;
 use crate::command::supply;
-use crate::places::place;
+use crate::places::slot_index;
+use answer::Ruling;
 use image::put_pair;
 use program::Command;
 use program::bytes_within;
 use value::Value;
-ghost use mathlib.Core.Path.{_≡_};
-ghost use mathlib.Core.List.{List};
-ghost use Prim.Native.Nat.{ℕ, _+_, _<_, _≤_};
-ghost use lib.ListN.{length};
+ghost use Rattle.value.specs.Prelude.{ℕ, _+_, _≤_, _<_, _≡_, List, length};
 ghost use Rattle.program.specs.Bytes as B;
 ghost use Rattle.program.specs.Command as C;
-ghost use Rattle.program.specs.Counts.{Facts};
+ghost use Rattle.program.specs.Contracts.{Facts};
 ghost use Rattle.program.specs.Location as L;
 ghost use Rattle.image.specs.Memory as M;
 ghost use Rattle.remus.specs.Steady.{Fits};
-ghost use Rattle.machine.specs.Act.{did, doing, Declares, Here, Workable};
-ghost use Rattle.machine.specs.Places.{PlacedTo, Reaches};
+ghost use Rattle.machine.specs.Contracts.{did, doing, Declares, Here, Workable, PlacedTo, Reaches};
 
 // 2 MakePoly: an empty branch point.
-fn make_poly(memory: &mut [u32], here: usize) -> Ended
+fn make_poly(memory: &mut [u32], here: usize) -> Ruling
     requires { ⌜ here < 8589934592 ⌝ }
     ensures { λ r.
         let m = now (memory .entry) in
@@ -47,11 +43,11 @@ fn make_poly(memory: &mut [u32], here: usize) -> Ended
             content: 0,
         },
     );
-    Ended::Whole
+    Ruling::Fine
 }
 
 // 11 Cell: its first content, v of kind x.
-fn cell(memory: &mut [u32], here: usize, x: u8, v: u32) -> Ended
+fn cell(memory: &mut [u32], here: usize, x: u8, v: u32) -> Ruling
     requires { ⌜ here < 8589934592 ⌝ }
     ensures { λ r.
         let m = now (memory .entry) in
@@ -60,7 +56,7 @@ fn cell(memory: &mut [u32], here: usize, x: u8, v: u32) -> Ended
 {
     let first = of_kind(x, v);
     put_pair(memory, here, first);
-    Ended::Whole
+    Ruling::Fine
 }
 
 // Carries out the D command c, whose words lie at `here`.
@@ -70,13 +66,13 @@ pub(crate) fn declare(
     h: u8,
     here: usize,
     c: Command,
-) -> Ended
+) -> Ruling
     requires { ⌜ here < 8589934592 ⌝ }
     requires { ⌜ length (now memory) ≤ M.mostWords ⌝ }
     ensures { λ q.
         let m = now (memory .entry) in
-        ⌜ ((p : List ℕ) (r o i : ℕ) → Facts p (now (facts .entry)) → B.reactors p ≤ 64 → c ≡ C.bytesOf p r i
-        → i < B.declared p r → Fits p r m o i → Here p m o i here
+        ⌜ ((p : List ℕ) (r o i : ℕ) → Facts p (now (facts .entry)) → c ≡ C.bytesOf p r i
+        → i < B.commandsD p r → Fits p r m o i → Here p m o i here
         → Declares p h m o i (C.cmdOf p r i) q (now (memory .exit))) ⌝ }
 {
     let code = c.code;
@@ -84,7 +80,7 @@ pub(crate) fn declare(
         Command::ALLOC_MONO => alloc_mono(facts, memory, h, here, c.x),
         Command::MAKE_POLY => make_poly(memory, here),
         Command::CELL => cell(memory, here, c.x, c.v()),
-        _ => Ended::Whole,
+        _ => Ruling::Fine,
     }
 }
 
@@ -104,18 +100,17 @@ pub(crate) fn exec(
     requires { ⌜ Reaches (now slots) o here (length (now memory)) (C.decode (C.bytesAt (now program) at)) ⌝ }
     requires { ⌜ Workable (now memory) ⌝ }
     ensures { λ q.
-        let p = now (program .entry) in
-        let m = now (memory .entry) in
-        let rd = now (readings .entry) in
-        ⌜ ((r i : ℕ) → Facts p (now (facts .entry)) → B.reactors p ≤ 64 → r < B.reactors p → at ≡ B.commandAt p r i
-        → B.declared p r ≤ i → Fits p r m o i → Here p m o i here
+        let p = now (program .entry) in let m = now (memory .entry) in let rd = now (readings .entry) in
+        ⌜ ((r i : ℕ) → Facts p (now (facts .entry)) → r < B.reactors p
+        → at ≡ B.commandAt p r i
+        → B.commandsD p r ≤ i → Fits p r m o i → Here p m o i here
         → PlacedTo p r (now (slots .entry)) (L.commandLoc p r i + 1)
         → did q (now (memory .exit)) ≡ doing p rd h m o i (C.cmdOf p r i)) ⌝ }
 {
     let c = bytes_within(program, at);
     let code = c.code;
-    let a = place(slots, o, c.a);
-    let b = place(slots, o, c.b);
+    let a = slot_index(slots, o, c.a);
+    let b = slot_index(slots, o, c.b);
     match code {
         Command::CONSTANT => constant(memory, here, c.x, c.v()),
         Command::GLOBAL => global(readings, memory, here, c.x),

@@ -1,7 +1,7 @@
-// What was kept becomes the content of the cells, deployment by deployment: 02 (v). A deployment that
-// has not run keeps its cells. Where a reactor has no cell it has no Keep: its R commands are not looked
-// at.
+// 6.22 What was kept becomes the content of the cells, deployment by deployment. A deployment that has
+// not run keeps its cells. Where a reactor has no cell it has no Keep: its R commands are not looked at.
 use crate::cells::kept;
+use image::SLOTS_AT;
 use image::pair;
 use image::put_pair;
 use image::reactor;
@@ -13,17 +13,13 @@ use program::fact;
 use program::reactors;
 use program::result_of;
 use value::Value;
-ghost use mathlib.Core.Path.{_≡_};
-ghost use mathlib.Core.List.{List};
-ghost use Prim.Native.Nat.{ℕ, _+_, _*_, _≤_, _<_};
-ghost use lib.ListN.{length};
+ghost use Rattle.value.specs.Prelude.{ℕ, _+_, _*_, _≤_, _<_, _≡_, List, length};
 ghost use Rattle.program.specs.Bytes as B;
 ghost use Rattle.program.specs.Command as C;
-ghost use Rattle.program.specs.Counts.{Tells};
+ghost use Rattle.program.specs.Contracts.{Tells};
 ghost use Rattle.image.specs.Memory as M;
-ghost use Rattle.remus.specs.Cells as S;
-ghost use Rattle.machine.specs.Cells.{hasCell, hasCells, Remembering};
-ghost use Rattle.machine.specs.Places.{Loaded};
+ghost use Rattle.remus.specs.Cells as Cells;
+ghost use Rattle.machine.specs.Contracts.{hasCell, hasCells, Remembering, Loaded};
 
 // Whether one of a reactor's D commands is a Cell.
 fn has_cell(program: &[u8], counts: Counts) -> bool
@@ -31,7 +27,7 @@ fn has_cell(program: &[u8], counts: Counts) -> bool
         let p = now (program .entry) in
         ⌜ ((r : ℕ) → Tells p r (counts .word) → t ≡ hasCell p r) ⌝ }
 {
-    let n = counts.declared();
+    let n = counts.commands_d();
     let at = counts.at() as usize;
     let mut j: u8 = 0;
     while j < n {
@@ -65,7 +61,7 @@ fn fill(memory: &mut [u32], i: usize, b: usize)
     ensures { λ _.
         let m = now (memory .entry) in
         ⌜ ((p : List ℕ) (o l a k : ℕ) → i ≡ M.slot p m o l → b ≡ M.slot p m o k
-        → now (memory .exit) ≡ S.keepBy p m o l (C.keep a k)) ⌝ }
+        → now (memory .exit) ≡ Cells.keepBy p m o l (C.keep a k)) ⌝ }
 {
     let v = pair(memory, i);
     if v.mark != Value::BLANK {
@@ -82,10 +78,10 @@ fn keep_each(program: &[u8], memory: &mut [u32], counts: Counts, o: u32)
         let r = M.reactor (now memory) o in
         ⌜ B.commandsAt p r + 8 * B.commandsIn p r ≤ length p ⌝ }
     requires { ⌜ Tells (now program) (M.reactor (now memory) o) (counts .word) ⌝ }
-    ensures { λ _. ⌜ now (memory .exit) ≡ S.keepOne (now (program .entry)) (now (memory .entry)) o ⌝ }
+    ensures { λ _. ⌜ now (memory .exit) ≡ Cells.keepOne (now (program .entry)) (now (memory .entry)) o ⌝ }
 {
-    let at = counts.at() as usize + 8 * (counts.declared() as usize);
-    let n = counts.running();
+    let at = counts.at() as usize + 8 * (counts.commands_d() as usize);
+    let n = counts.commands_r();
     let mut i = o as usize + counts.slots_r() as usize;
     let mut j: u8 = 0;
     while j < n {
@@ -94,7 +90,7 @@ fn keep_each(program: &[u8], memory: &mut [u32], counts: Counts, o: u32)
         j += 1;
         i += 2 * (result_of(c.code) as usize);
         if c.code == Command::KEEP {
-            fill(memory, here, o as usize + 3 + 2 * (c.b as usize));
+            fill(memory, here, o as usize + SLOTS_AT + 2 * (c.b as usize));
         }
     }
 }
@@ -104,7 +100,7 @@ pub(crate) fn keep_one(program: &[u8], facts: &[u64; 64], memory: &mut [u32], o:
     requires { ⌜ Loaded (now program) (now facts) ⌝ }
     requires { ⌜ Remembering (now program) ⌝ }
     requires { ⌜ M.reactor (now memory) o < B.reactors (now program) ⌝ }
-    ensures { λ _. ⌜ now (memory .exit) ≡ S.keepOne (now (program .entry)) (now (memory .entry)) o ⌝ }
+    ensures { λ _. ⌜ now (memory .exit) ≡ Cells.keepOne (now (program .entry)) (now (memory .entry)) o ⌝ }
 {
     let counts = fact(facts, reactor(memory, o));
     if has_cell(program, counts) {

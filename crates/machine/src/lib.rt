@@ -1,6 +1,5 @@
-// The machine: the calls of document 01. Check and start are those of load and image; the turn is here.
-// Their answers are Checked, Started and Turned, each with its number and place; Refusal says why a call
-// is refused.
+// 4.1 The machine's calls. Check and start are those of load and image; the turn is here.
+// Each answers with an Answer, which has a number and a place.
 //
 // A turn sums up the facts of each reactor once, for the test of the image and for the run. A command is
 // decoded once (exec) and carried out by a function of its own on the indices of its slots (command,
@@ -23,13 +22,11 @@ mod places;
 mod run;
 mod undo;
 
+pub use answer::Answer;
+pub use answer::Refusal;
 pub use calls::turn;
-pub use image::Started;
 pub use image::start;
-pub use load::Checked;
-pub use load::Refusal;
 pub use load::check;
-pub use remus::Turned;
 
 // What a command comes to: it has given its result, or has none, and the next one follows; first the
 // deployment named runs; or the turn ends.
@@ -38,12 +35,6 @@ pub enum Outcome {
     Move,
     Call(u32),
     Fail(Refusal),
-}
-
-// How a run ends.
-pub enum Ended {
-    Whole,
-    Stopped(Refusal),
 }
 
 // What a pass does to each deployment: fills its cells with what was kept, clears it, or brings it back

@@ -6,17 +6,13 @@ use crate::keeps::keep_one;
 use image::MAIN_AT;
 use image::reactor;
 use program::fact;
-ghost use mathlib.Core.Path.{_≡_};
-ghost use Prim.Native.Nat.{_+_, _<_, _≤_};
-ghost use lib.ListN.{length};
+ghost use Rattle.value.specs.Prelude.{_+_, _≤_, _<_, _≡_, length};
 ghost use Rattle.program.specs.Bytes as B;
 ghost use Rattle.image.specs.Memory as M;
 ghost use Rattle.image.specs.Passes as P;
-ghost use Rattle.image.specs.Cut.{Tiling};
-ghost use Rattle.machine.specs.Act.{eachOf};
-ghost use Rattle.machine.specs.Cells.{Remembering};
+ghost use Rattle.image.specs.Contracts.{Tiling};
+ghost use Rattle.machine.specs.Contracts.{eachOf, Remembering, Loaded};
 ghost use Rattle.machine.specs.declared.Each.the-variants.{Keep};
-ghost use Rattle.machine.specs.Places.{Loaded};
 
 // The deployment at o.
 fn pass_one(program: &[u8], facts: &[u64; 64], memory: &mut [u32], s: Each, u: u32, o: u32)
@@ -39,8 +35,7 @@ pub(crate) fn pass_over(program: &[u8], facts: &[u64; 64], memory: &mut [u32], s
     requires { ⌜ Tiling (now program) (now memory) u M.mainAt ⌝ }
     requires { ⌜ (s ≡ Keep → Remembering (now program)) ⌝ }
     ensures { λ _.
-        let p = now (program .entry) in
-        let m = now (memory .entry) in
+        let p = now (program .entry) in let m = now (memory .entry) in
         ⌜ now (memory .exit) ≡ P.over (eachOf s p u) m (M.startsBelow p m u) ⌝ }
 {
     let mut a = MAIN_AT;

@@ -1,32 +1,31 @@
 // Where the words of a running deployment's locations lie: a table of its reactor, lent from run to
 // run. Entry l is how many of the locations before l have words.
+use image::SLOTS_AT;
 use image::pair;
 use program::result_of;
 use value::Value;
-ghost use mathlib.Core.Path.{_≡_};
-ghost use mathlib.Core.List.{List};
-ghost use Prim.Native.Nat.{ℕ, _+_, _*_, _<_, _≤_};
-ghost use lib.ListN.{length, getD, set};
+ghost use Rattle.value.specs.Prelude.{ℕ, _+_, _*_, _≤_, _<_, _≡_, List, length, getD, set};
 ghost use Rattle.program.specs.Bytes as B;
 ghost use Rattle.program.specs.Location as L;
 ghost use Rattle.image.specs.Memory as M;
-ghost use Rattle.machine.specs.Places.{Placed, PlacedTo};
+ghost use Rattle.machine.specs.Contracts.{Placed, PlacedTo};
 
 // The index of the words of a location in the deployment at o, where n before it have words.
 pub(crate) fn after(o: u32, n: u8) -> usize
-    ensures is { λ i. ⌜ ((p m : List ℕ) (l : ℕ) → 3 + 2 * n ≡ L.slotAt p (M.reactor m o) l → i ≡ M.slot p m o l) ⌝ }
-    ensures at { λ i. ⌜ i ≡ o + 3 + 2 * n ⌝ }
+    ensures is { λ i.
+        ⌜ ((p m : List ℕ) (l : ℕ) → L.headWords + 2 * n ≡ L.slotAt p (M.reactor m o) l → i ≡ M.slot p m o l) ⌝ }
+    ensures at { λ i. ⌜ i ≡ o + L.headWords + 2 * n ⌝ }
     ensures small { λ i. ⌜ i < 8589934592 ⌝ }
 {
-    o as usize + 3 + 2 * (n as usize)
+    o as usize + SLOTS_AT + 2 * (n as usize)
 }
 
 // The index of location l's words.
-pub(crate) fn place(slots: &[u8; 256], o: u32, l: u8) -> usize
+pub(crate) fn slot_index(slots: &[u8; 256], o: u32, l: u8) -> usize
     ensures is { λ i.
         let t = now (slots .entry) in
         ⌜ ((p m : List ℕ) → Placed p (M.reactor m o) t l → i ≡ M.slot p m o l) ⌝ }
-    ensures at { λ i. ⌜ i ≡ o + 3 + 2 * getD (now (slots .entry)) l 0 ⌝ }
+    ensures at { λ i. ⌜ i ≡ o + L.headWords + 2 * getD (now (slots .entry)) l 0 ⌝ }
     ensures small { λ i. ⌜ i < 8589934592 ⌝ }
 {
     after(o, slots[l as usize])
@@ -35,11 +34,10 @@ pub(crate) fn place(slots: &[u8; 256], o: u32, l: u8) -> usize
 // The value there.
 pub(crate) fn operand(memory: &[u32], slots: &[u8; 256], o: u32, l: u8) -> Value
     ensures { λ v.
-        let m = now (memory .entry) in
-        let t = now (slots .entry) in
+        let m = now (memory .entry) in let t = now (slots .entry) in
         ⌜ ((p : List ℕ) → Placed p (M.reactor m o) t l → v ≡ M.valueAt p m o l) ⌝ }
 {
-    let i = place(slots, o, l);
+    let i = slot_index(slots, o, l);
     pair(memory, i)
 }
 
@@ -56,7 +54,7 @@ fn lay_first(slots: &mut [u8; 256], n: u8)
     ensures { λ _. ⌜ length (now (slots .exit)) ≡ 256 ⌝ }
     ensures { λ _.
         let t = now (slots .exit) in
-        ⌜ ((p : List ℕ) (r : ℕ) → n ≤ L.sources p r + B.declared p r → PlacedTo p r t n) ⌝ }
+        ⌜ ((p : List ℕ) (r : ℕ) → n ≤ L.sourceCount p r + B.commandsD p r → PlacedTo p r t n) ⌝ }
 {
     let mut l: u8 = 0;
     while l < n {
@@ -74,7 +72,8 @@ fn lay_rest(program: &[u8], slots: &mut [u8; 256], at: usize, first: u8, n: u8)
     ensures { λ _. ⌜ length (now (slots .exit)) ≡ 256 ⌝ }
     ensures { λ _.
         let p = now (program .entry) in
-        ⌜ ((r : ℕ) → at ≡ B.commandAt p r (B.declared p r) → first ≡ L.sources p r + B.declared p r → n ≤ B.running p r
+        ⌜ ((r : ℕ) → at ≡ B.commandAt p r (B.commandsD p r)
+        → first ≡ L.sourceCount p r + B.commandsD p r → n ≤ B.commandsR p r
         → PlacedTo p r (now (slots .entry)) first → PlacedTo p r (now (slots .exit)) (first + n)) ⌝ }
 {
     let mut m = first;
@@ -95,7 +94,8 @@ pub(crate) fn lay(program: &[u8], slots: &mut [u8; 256], at: usize, first: u8, n
     ensures { λ _. ⌜ length (now (slots .exit)) ≡ 256 ⌝ }
     ensures { λ _.
         let p = now (program .entry) in
-        ⌜ ((r : ℕ) → at ≡ B.commandAt p r (B.declared p r) → first ≡ L.sources p r + B.declared p r → n ≤ B.running p r
+        ⌜ ((r : ℕ) → at ≡ B.commandAt p r (B.commandsD p r)
+        → first ≡ L.sourceCount p r + B.commandsD p r → n ≤ B.commandsR p r
         → PlacedTo p r (now (slots .exit)) (first + n)) ⌝ }
 {
     lay_first(slots, first);

@@ -1,32 +1,26 @@
-// The run of a deployment: 01, "Check, start, turn". One that is not wired carries out D first; React
-// runs a nested one to its end before the next command. The run calls itself for the nested one, and 64
-// less the depth falls.
-use crate::Ended;
+// 6.3 to 6.6 The run of a deployment. One that is not wired carries out D first; at a React a nested one
+// runs whole. The run calls itself for the nested one, and 64 less the depth falls.
 use crate::Outcome;
 use crate::exec::declare;
 use crate::exec::exec;
 use crate::places::after;
 use crate::places::lay;
 use crate::places::note;
+use answer::Ruling;
 use image::reactor;
 use image::set_wired;
 use image::wired;
 use program::Counts;
 use program::bytes_within;
 use program::fact;
-ghost use mathlib.Core.Path.{_≡_};
-ghost use mathlib.Core.List.{List};
-ghost use Prim.Native.Nat.{ℕ, suc, _+_, _-_, _<_};
-ghost use lib.ListN.{length};
+ghost use Rattle.value.specs.Prelude.{ℕ, suc, _+_, _-_, _<_, _≡_, List, length};
 ghost use Rattle.program.specs.Bytes as B;
-ghost use Rattle.program.specs.Counts.{Tells};
+ghost use Rattle.program.specs.Contracts.{Tells};
 ghost use Rattle.image.specs.Memory as M;
 ghost use Rattle.remus.specs.Run as R;
 ghost use Rattle.remus.specs.Steady.{Steady};
-ghost use Rattle.machine.specs.Act.{ranAs, Workable};
-ghost use Rattle.machine.specs.declared.Ended.the-variants.{Whole};
-ghost use Rattle.machine.specs.Opened.{Declared, Opened};
-ghost use Rattle.machine.specs.Places.{Loaded};
+ghost use Rattle.machine.specs.Contracts.{ranAs, Workable, Declared, Opened, Loaded};
+ghost use Rattle.answer.specs.declared.Ruling.the-variants.{Fine};
 
 // Carries out the D commands of the deployment at o, by the facts of its reactor.
 fn wire(
@@ -36,18 +30,17 @@ fn wire(
     counts: Counts,
     h: u8,
     o: u32,
-) -> Ended
+) -> Ruling
     requires { ⌜ Loaded (now program) (now facts) ⌝ }
     requires { ⌜ M.reactor (now memory) o < B.reactors (now program) ⌝ }
     requires { ⌜ Tells (now program) (M.reactor (now memory) o) (counts .word) ⌝ }
     requires { ⌜ Workable (now memory) ⌝ }
     ensures { λ q.
-        let p = now (program .entry) in
-        let m = now (memory .entry) in
+        let p = now (program .entry) in let m = now (memory .entry) in
         ⌜ ((rd : List ℕ) (f : ℕ) → Steady p rd (suc f) h m o → M.wired m o ≡ 0
         → Declared p rd f h o m q (now (memory .exit))) ⌝ }
 {
-    let n = counts.declared();
+    let n = counts.commands_d();
     let at = counts.at() as usize;
     let first = o as usize + counts.slots_d() as usize;
     let mut j: u8 = 0;
@@ -56,20 +49,20 @@ fn wire(
         j += 1;
         let c = bytes_within(program, at + 8 * k);
         match declare(facts, memory, h, first + 2 * k, c) {
-            Ended::Whole => {}
-            Ended::Stopped(w) => return Ended::Stopped(w),
+            Ruling::Fine => {}
+            Ruling::Against(w) => return Ruling::Against(w),
         }
     }
-    Ended::Whole
+    Ruling::Fine
 }
 
 // D has ended: the deployment is wired.
-fn make_wired(memory: &mut [u32], o: u32) -> Ended
-    ensures is { λ q. ⌜ q ≡ Whole ⌝ }
+fn make_wired(memory: &mut [u32], o: u32) -> Ruling
+    ensures is { λ q. ⌜ q ≡ Fine ⌝ }
     ensures words { λ _. ⌜ now (memory .exit) ≡ M.withWired (now (memory .entry)) o 1 ⌝ }
 {
     set_wired(memory, o, 1);
-    Ended::Whole
+    Ruling::Fine
 }
 
 // Carries them out where that is still to be done.
@@ -80,22 +73,21 @@ fn enter(
     counts: Counts,
     h: u8,
     o: u32,
-) -> Ended
+) -> Ruling
     requires { ⌜ Loaded (now program) (now facts) ⌝ }
     requires { ⌜ M.reactor (now memory) o < B.reactors (now program) ⌝ }
     requires { ⌜ Tells (now program) (M.reactor (now memory) o) (counts .word) ⌝ }
     requires { ⌜ Workable (now memory) ⌝ }
     ensures { λ q.
-        let p = now (program .entry) in
-        let m = now (memory .entry) in
+        let p = now (program .entry) in let m = now (memory .entry) in
         ⌜ ((rd : List ℕ) (f : ℕ) → Steady p rd (suc f) h m o → Opened p rd f h o m q (now (memory .exit))) ⌝ }
 {
     if wired(memory, o) != 0 {
         return make_wired(memory, o);
     }
     match wire(program, facts, memory, counts, h, o) {
-        Ended::Whole => make_wired(memory, o),
-        Ended::Stopped(w) => Ended::Stopped(w),
+        Ruling::Fine => make_wired(memory, o),
+        Ruling::Against(w) => Ruling::Against(w),
     }
 }
 
@@ -109,25 +101,24 @@ pub(crate) fn run(
     slots: &mut [u8; 256],
     h: u8,
     o: u32,
-) -> Ended
+) -> Ruling
     requires { ⌜ Loaded (now program) (now facts) ⌝ }
     requires { ⌜ Workable (now memory) ⌝ }
     requires { ⌜ Steady (now program) (now readings) (65 - h) h (now memory) o ⌝ }
     requires { ⌜ length (now slots) ≡ 256 ⌝ }
     ensures { λ _. ⌜ length (now (slots .exit)) ≡ 256 ⌝ }
     ensures { λ q.
-        let p = now (program .entry) in
-        let rd = now (readings .entry) in
-        ⌜ ranAs q (now (memory .exit)) ≡ R.runOf (65 - h) p rd h (now (memory .entry)) o ⌝ }
+        let p = now (program .entry) in let m = now (memory .entry) in let rd = now (readings .entry) in
+        ⌜ ranAs q (now (memory .exit)) ≡ R.runOf (65 - h) p rd h m o ⌝ }
 {
     let counts = fact(facts, reactor(memory, o));
     match enter(program, facts, memory, counts, h, o) {
-        Ended::Whole => {}
-        Ended::Stopped(w) => return Ended::Stopped(w),
+        Ruling::Fine => {}
+        Ruling::Against(w) => return Ruling::Against(w),
     }
     let first = counts.first() as u8;
-    let at = counts.at() as usize + 8 * (counts.declared() as usize);
-    let end = counts.running();
+    let at = counts.at() as usize + 8 * (counts.commands_d() as usize);
+    let end = counts.commands_r();
     lay(program, slots, at, first, 0);
     let mut n = first;
     let mut j: u8 = 0;
@@ -140,11 +131,11 @@ pub(crate) fn run(
             Outcome::Given => n += 1,
             Outcome::Move => {}
             Outcome::Call(d) => match run(program, facts, readings, memory, slots, h + 1, d) {
-                Ended::Whole => lay(program, slots, at, first, j),
-                Ended::Stopped(w) => return Ended::Stopped(w),
+                Ruling::Fine => lay(program, slots, at, first, j),
+                Ruling::Against(w) => return Ruling::Against(w),
             },
-            Outcome::Fail(w) => return Ended::Stopped(w),
+            Outcome::Fail(w) => return Ruling::Against(w),
         }
     }
-    Ended::Whole
+    Ruling::Fine
 }

@@ -1,23 +1,20 @@
-// How a refused turn's words are brought back in place, with u as it was. 01: "A refused call leaves
-// memory and sink space as at entry."
+// 6.27 How a refused turn's words are brought back in place, with u as it was.
 use crate::Each;
 use crate::passes::pass_over;
 use image::MAIN_AT;
+use image::SLOTS_AT;
 use image::set_used;
 use image::set_wired;
 use image::turns;
 use image::wipe;
-ghost use mathlib.Core.Path.{_≡_};
-ghost use mathlib.Core.Bool.{true, false};
-ghost use Prim.Native.Nat.{_-_};
-ghost use lib.ListN.{length, replicate};
+ghost use Rattle.value.specs.Prelude.{_-_, _≡_, true, false, length, replicate};
 ghost use Rattle.value.specs.Test.{_=?_};
 ghost use Rattle.image.specs.Memory as M;
-ghost use Rattle.image.specs.Cut.{Tiling};
+ghost use Rattle.image.specs.Contracts.{Tiling};
 ghost use Rattle.remus.specs.Undo as U;
-ghost use Rattle.machine.specs.Places.{Loaded};
+ghost use Rattle.machine.specs.Contracts.{Loaded};
 
-const MAIN_SLOTS: usize = 5;
+const MAIN_SLOTS: usize = MAIN_AT as usize + SLOTS_AT;
 
 // Zeroes all words from i on.
 fn zero_from(memory: &mut [u32], i: usize)
@@ -54,8 +51,8 @@ fn back(program: &[u8], facts: &[u64; 64], memory: &mut [u32], u: u32)
     requires { ⌜ Loaded (now program) (now facts) ⌝ }
     requires { ⌜ Tiling (now program) (now memory) u M.mainAt ⌝ }
     ensures { λ _.
-        let m = now (memory .entry) in
-        ⌜ now (memory .exit) ≡ U.back (now (program .entry)) u (M.turns m =? 0) m ⌝ }
+        let p = now (program .entry) in let m = now (memory .entry) in
+        ⌜ now (memory .exit) ≡ U.back p u (M.turns m =? 0) m ⌝ }
 {
     if turns(memory) == 0 {
         first_back(program, memory, u)

@@ -1,10 +1,6 @@
 -- Which contents are legal, and which mark a value has, by the kind's number.
 -- Assumes nothing.
-use Prim.Native.Nat.{ℕ, zero, suc, _-_, _≤_, _<_}
-use mathlib.Core.Path.{_≡_, refl, sym, ap, _∙_}
-use mathlib.Core.Bool.{true, false}
-use mathlib.Core.List.{List}
-use native.Mathlib.Omega.{arith}
+use Rattle.value.specs.Prelude.{ℕ, zero, suc, _-_, _≤_, _<_, _≡_, refl, sym, _∙_, ap, true, false, List, arith}
 use Rattle.value.specs.Test.{_and_, _<?_, _=?_}
 use Rattle.value.specs.Value.{markOf}
 use Rattle.value.proofs.Tests.{lt!, lt×, left×, true-and}

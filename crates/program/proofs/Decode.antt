@@ -1,12 +1,10 @@
 -- A command by its code: what holds of each row of the command table holds of what the bytes say.
 -- Assumes nothing.
-use Prim.Native.Nat.{ℕ, zero, suc, _<_, _≤_}
-use mathlib.Core.Path.{_≡_}
-use mathlib.Core.Logic.{_⊎_, inl, inr, ⊎-elim}
-use native.Mathlib.Omega.{arith}
+use Rattle.value.specs.Prelude.{ℕ, zero, suc, _≤_, _<_, _≡_, _⊎_, inl, inr, ⊎-elim, arith}
 use Rattle.value.specs.Test.{pick, _=?_}
 use Rattle.value.proofs.Tests.{pick-any, eq?, eq×?, below}
-use Rattle.program.specs.Command.{Cmd, decode, allocMono, makePoly, constant, global, supply, react, consume, sink, allocPoly, primitive, cell, fetch, keep, none, vOf}
+use Rattle.program.specs.Command.{Cmd, decode, allocMono, makePoly, constant, global, supply, react, consume}
+use Rattle.program.specs.Command.{sink, allocPoly, primitive, cell, fetch, keep, none, vOf, gives}
 use Rattle.program.specs.declared.Command.{Command}
 
 -- no code from 1 to 13
@@ -20,21 +18,22 @@ from-zero (suc n) = inr (omega arith)
 -- no code up to k, and not k + 1
 beyond : {k n : ℕ} → (n < 1) ⊎ (k < n) → (n ≡ suc k → ⊥) → (n < 1) ⊎ (suc k < n)
 beyond (inl h) d = inl h
-beyond {k} {n} (inr h) d = ⊎-elim (λ (q : suc k < n). inr q) (λ (q : n ≤ suc k). absurd (d (omega arith))) (below (suc k) n)
+beyond {k} {n} (inr h) d =
+    ⊎-elim (λ (q : suc k < n). inr q) (λ (q : n ≤ suc k). absurd (d (omega arith))) (below (suc k) n)
 
 pub by-code : (P : Cmd → Type 0) (c : Command) →
     (c .code ≡ 1 → P (allocMono (c .x))) →
     (c .code ≡ 2 → P (makePoly (c .x))) →
-    (c .code ≡ 3 → P (constant (c .x) (vOf c))) →
-    (c .code ≡ 4 → P (global (c .x))) →
+    (c .code ≡ 3 → P (gives (constant (c .x) (vOf c)))) →
+    (c .code ≡ 4 → P (gives (global (c .x)))) →
     (c .code ≡ 5 → P (supply (c .x) (c .a) (c .b))) →
     (c .code ≡ 6 → P (react (c .b))) →
-    (c .code ≡ 7 → P (consume (c .x) (c .b))) →
+    (c .code ≡ 7 → P (gives (consume (c .x) (c .b)))) →
     (c .code ≡ 8 → P (sink (c .x) (c .a))) →
     (c .code ≡ 9 → P (allocPoly (c .a) (c .b))) →
-    (c .code ≡ 10 → P (primitive (c .x) (c .a) (c .b) (c .v0))) →
+    (c .code ≡ 10 → P (gives (primitive (c .x) (c .a) (c .b) (c .v0)))) →
     (c .code ≡ 11 → P (cell (c .x) (vOf c))) →
-    (c .code ≡ 12 → P (fetch (c .b))) →
+    (c .code ≡ 12 → P (gives (fetch (c .b)))) →
     (c .code ≡ 13 → P (keep (c .a) (c .b))) →
     (NoCode (c .code) → P none) →
     P (decode c)
@@ -68,11 +67,11 @@ module _ {A : Type 0} (F : Cmd → A) (c : Command) {z : A} where
   unfolding decode pick _=?_
   as-make e h = rw e h
 
-  pub as-constant : c .code ≡ 3 → z ≡ F (constant (c .x) (vOf c)) → z ≡ F (decode c)
+  pub as-constant : c .code ≡ 3 → z ≡ F (gives (constant (c .x) (vOf c))) → z ≡ F (decode c)
   unfolding decode pick _=?_
   as-constant e h = rw e h
 
-  pub as-global : c .code ≡ 4 → z ≡ F (global (c .x)) → z ≡ F (decode c)
+  pub as-global : c .code ≡ 4 → z ≡ F (gives (global (c .x))) → z ≡ F (decode c)
   unfolding decode pick _=?_
   as-global e h = rw e h
 
@@ -84,7 +83,7 @@ module _ {A : Type 0} (F : Cmd → A) (c : Command) {z : A} where
   unfolding decode pick _=?_
   as-react e h = rw e h
 
-  pub as-consume : c .code ≡ 7 → z ≡ F (consume (c .x) (c .b)) → z ≡ F (decode c)
+  pub as-consume : c .code ≡ 7 → z ≡ F (gives (consume (c .x) (c .b))) → z ≡ F (decode c)
   unfolding decode pick _=?_
   as-consume e h = rw e h
 
@@ -96,7 +95,7 @@ module _ {A : Type 0} (F : Cmd → A) (c : Command) {z : A} where
   unfolding decode pick _=?_
   as-poly e h = rw e h
 
-  pub as-primitive : c .code ≡ 10 → z ≡ F (primitive (c .x) (c .a) (c .b) (c .v0)) → z ≡ F (decode c)
+  pub as-primitive : c .code ≡ 10 → z ≡ F (gives (primitive (c .x) (c .a) (c .b) (c .v0))) → z ≡ F (decode c)
   unfolding decode pick _=?_
   as-primitive e h = rw e h
 
@@ -104,7 +103,7 @@ module _ {A : Type 0} (F : Cmd → A) (c : Command) {z : A} where
   unfolding decode pick _=?_
   as-cell e h = rw e h
 
-  pub as-fetch : c .code ≡ 12 → z ≡ F (fetch (c .b)) → z ≡ F (decode c)
+  pub as-fetch : c .code ≡ 12 → z ≡ F (gives (fetch (c .b))) → z ≡ F (decode c)
   unfolding decode pick _=?_
   as-fetch e h = rw e h
 
@@ -125,8 +124,10 @@ module _ {A : Type 0} (F : Cmd → A) (c : Command) {z : A} where
   pub as-none : NoCode (c .code) → z ≡ F none → z ≡ F (decode c)
   as-none n h =
       by-code (λ (d : Cmd). z ≡ F d) c
-      (no 1 (omega arith) (omega arith)) (no 2 (omega arith) (omega arith)) (no 3 (omega arith) (omega arith)) (no 4 (omega arith) (omega arith))
-      (no 5 (omega arith) (omega arith)) (no 6 (omega arith) (omega arith)) (no 7 (omega arith) (omega arith)) (no 8 (omega arith) (omega arith))
+      (no 1 (omega arith) (omega arith)) (no 2 (omega arith) (omega arith)) (no 3 (omega arith) (omega arith))
+      (no 4 (omega arith) (omega arith))
+      (no 5 (omega arith) (omega arith)) (no 6 (omega arith) (omega arith)) (no 7 (omega arith) (omega arith))
+      (no 8 (omega arith) (omega arith))
       (no 9 (omega arith) (omega arith)) (no 10 (omega arith) (omega arith)) (no 11 (omega arith) (omega arith))
       (no 12 (omega arith) (omega arith)) (no 13 (omega arith) (omega arith))
       (λ w. h)

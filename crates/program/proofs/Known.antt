@@ -1,16 +1,13 @@
 -- A table of reactors' numbers: the empty one, one reactor more, and the whole.
 -- Assumes nothing.
-use Prim.Native.Nat.{ℕ, _+_, _≤_, _<_}
-use mathlib.Core.Path.{_≡_, sym, ap, _∙_, subst}
-use mathlib.Core.List.{List}
-use mathlib.Core.Logic.{⊎-elim, _≢_}
-use native.Mathlib.Omega.{arith}
-use lib.ListN.{length, getD, set, replicate, length-set, length-replicate}
+use Rattle.value.specs.Prelude.{ℕ, _+_, _≤_, _<_, _≡_, sym, _∙_, ap, subst, ⊎-elim, _≢_, List, length, getD, set}
+use Rattle.value.specs.Prelude.{replicate, arith}
+use lib.ListN.{length-set, length-replicate}
 use lib.Seq.{getD-set-same, getD-set-other}
 use Rattle.value.proofs.Tests.{same?}
 use Rattle.value.proofs.Zeros.{zeros-at}
-use Rattle.program.specs.Bytes.{reactors}
-use Rattle.program.specs.Counts.{Facts, Tells}
+use Rattle.program.specs.Bytes.{mostReactors, reactors}
+use Rattle.program.specs.Contracts.{Facts, Tells}
 
 -- the table of p so far: the first n reactors
 pub record Upto (p t : List ℕ) (n : ℕ) : Type 0 where
@@ -18,6 +15,7 @@ pub record Upto (p t : List ℕ) (n : ℕ) : Type 0 where
   pub legal : (r : ℕ) → getD t r 0 ≢ 0 → r < n
   pub known : (r : ℕ) → r < n → Tells p r (getD t r 0)
   pub long : length t ≡ 64
+  pub few : n ≤ mostReactors
 
 pub upto-none : (p t : List ℕ) → t ≡ replicate 64 0 → Upto p t 0
 upto-none p t e = record {
@@ -25,6 +23,7 @@ upto-none p t e = record {
   legal = λ r d. absurd (d (ap (λ (s : List ℕ). getD s r 0) e ∙ zeros-at 64 r));
   known = λ r h. absurd (omega arith);
   long = ap length e ∙ length-replicate {A = ℕ} 64 0;
+  few = omega arith;
 }
 
 pub upto-next : (p t : List ℕ) (n w : ℕ) → n < 64 → Tells p n w → Upto p t n → (t₁ : List ℕ) → t₁ ≡ set t n w
@@ -37,6 +36,7 @@ upto-next p t n w l holds f t₁ e = record {
   known = λ r h. ⊎-elim (here r) (λ (o : r ≢ n). subst (Tells p r) (sym (other r o)) (f .known r (omega (arith, o))))
       (same? r n);
   long = ap length e ∙ length-set t n w ∙ f .long;
+  few = omega arith;
 }
   where
     other : (r : ℕ) → r ≢ n → getD t₁ r 0 ≡ getD t r 0
@@ -51,5 +51,6 @@ pub upto-all : (p t : List ℕ) (n : ℕ) → Upto p t n → n ≡ reactors p �
 upto-all p t n f e = record {
   right = f .right;
   legal = λ r d. (let l = f .legal r d in omega arith);
-  known = λ r a b. f .known r (omega arith);
+  known = λ r a. f .known r (omega arith);
+  few = let h = f .few in omega arith;
 }

@@ -1,10 +1,6 @@
 -- The tests on values of a kind say what the propositions do: `content-legal` and `legal-kind`.
 -- Assumes nothing.
-use Prim.Native.Nat.{ℕ, zero, suc}
-use mathlib.Core.Path.{_≡_, refl}
-use mathlib.Core.Bool.{true}
-use mathlib.Core.Logic.{_↔_, _⊎_, inl, inr}
-use mathlib.Core.List.{List}
+use Rattle.value.specs.Prelude.{ℕ, zero, suc, _≡_, refl, _⊎_, inl, inr, _↔_, true, List}
 use Rattle.value.specs.Test.{_and_, _=?_}
 use Rattle.value.specs.Value.{markOf, value}
 use Rattle.value.specs.declared.Value.{Value}

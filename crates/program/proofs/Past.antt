@@ -1,13 +1,10 @@
 -- All bytes from the program's end on are 0, so the eight from there are the eight from any later place.
 -- Assumes nothing.
-use Prim.Native.Nat.{ℕ, _+_, _≤_}
-use mathlib.Core.Path.{_≡_, _∙_, sym}
-use mathlib.Core.List.{List}
-use lib.ListN.{length, List·getD-eq-default}
-use native.Mathlib.Omega.{arith}
+use Rattle.value.specs.Prelude.{ℕ, _+_, _≤_, _≡_, sym, _∙_, List, length, arith}
+use lib.ListN.{List·getD-eq-default}
 use Rattle.program.specs.Bytes.{byte}
 use Rattle.program.specs.Command.{bytesAt}
-use Rattle.program.proofs.Same.{same-command}
+use Rattle.program.proofs.EqualByBytes.{same-command}
 
 module _ (p : List ℕ) where
   same-byte : {i j : ℕ} → length p ≤ i → length p ≤ j → byte p i ≡ byte p j

@@ -1,11 +1,9 @@
 -- The entries, and the running sum of the reactors' commands, one reactor further and up to the program's end.
 -- Assumes nothing.
-use Prim.Native.Nat.{ℕ, zero, suc, _+_, _*_, _-_, _≤_, _<_}
-use mathlib.Core.Path.{_≡_, refl, _∙_, ap}
-use mathlib.Core.List.{List}
+use Rattle.value.specs.Prelude.{ℕ, zero, suc, _+_, _-_, _*_, _≤_, _<_, _≡_, refl, _∙_, ap, List, arith}
 use native.Mathlib.Numerals.{add-one}
-use native.Mathlib.Omega.{arith}
-use Rattle.program.specs.Bytes.{shapes, shapeAt, entryAt, tablesEnd, commandsIn, commandsAt, reactors, mainOf, wholeLength}
+use Rattle.program.specs.Bytes.{shapes, shapeAt, entryAt, tablesEnd, commandsIn, commandsAt, reactors, mainOf}
+use Rattle.program.specs.Bytes.{wholeLength}
 
 pub commands-first : (p : List ℕ) → commandsAt p 0 ≡ tablesEnd p
 unfolding commandsAt

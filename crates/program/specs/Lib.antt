@@ -1,7 +1,6 @@
 pub mod Bytes
-pub mod Header
 pub mod Command
 pub mod Location
 pub mod Kind
 pub mod Open
-pub mod Counts
+pub mod Contracts

@@ -1,9 +1,9 @@
 // The header, 8 bytes (format, shapes, reactors, globals, four zeros), and the kinds of the globals,
 // which follow it.
 use crate::Header;
-ghost use mathlib.Core.Path.{_≡_};
+ghost use Rattle.value.specs.Prelude.{_≡_};
 ghost use Rattle.program.specs.Bytes as B;
-ghost use Rattle.program.specs.Header.{headerOf};
+ghost use Rattle.program.specs.Contracts.{headerOf};
 
 // The byte at `i`, and 0 past the end.
 pub fn byte(program: &[u8], i: usize) -> u8

@@ -17,9 +17,7 @@
 //     13 Keep        R  a value, b cell
 use crate::Command;
 use crate::bytes::byte;
-ghost use mathlib.Core.Path.{_≡_};
-ghost use Prim.Native.Nat.{_+_, _≤_};
-ghost use lib.ListN.{length};
+ghost use Rattle.value.specs.Prelude.{_+_, _≤_, _≡_, length};
 ghost use Rattle.program.specs.Command as C;
 
 impl Command {
@@ -61,8 +59,10 @@ impl Command {
 }
 
 // The place `at`, or the program's end if it lies past it: the bytes from there on are the same.
-fn place(program: &[u8], at: u64) -> usize
-    ensures same { λ i. ⌜ C.bytesAt (now (program .entry)) i ≡ C.bytesAt (now (program .entry)) at ⌝ }
+fn at_or_end(program: &[u8], at: u64) -> usize
+    ensures same { λ i.
+        let p = now (program .entry) in
+        ⌜ C.bytesAt p i ≡ C.bytesAt p at ⌝ }
     ensures inside { λ i. ⌜ i ≤ length (now (program .entry)) ⌝ }
 {
     if at < program.len() as u64 {
@@ -116,7 +116,7 @@ pub fn bytes_within(program: &[u8], i: usize) -> Command
 fn bytes_near_end(program: &[u8], at: u64) -> Command
     ensures { λ c. ⌜ c ≡ C.bytesAt (now (program .entry)) at ⌝ }
 {
-    let i = place(program, at);
+    let i = at_or_end(program, at);
     Command {
         code: byte(program, i),
         x: byte(program, i + 1),

@@ -7,8 +7,7 @@ use crate::bytes::byte;
 use crate::bytes::reactors;
 use crate::bytes::shapes;
 use crate::shape::shape_at;
-ghost use mathlib.Core.Path.{_≡_};
-ghost use Prim.Native.Nat.{_+_, _*_, _<_};
+ghost use Rattle.value.specs.Prelude.{_+_, _*_, _≤_, _<_, _≡_};
 ghost use Rattle.program.specs.Bytes as B;
 
 // The byte at which the entry of reactor r stands.
@@ -22,7 +21,9 @@ pub fn entry_at(program: &[u8], r: u32) -> usize
 
 // Byte k of the entry.
 fn entry_byte(program: &[u8], r: u32, k: u8) -> u8
-    ensures { λ b. ⌜ b ≡ B.byte (now (program .entry)) (B.entryAt (now (program .entry)) r + k) ⌝ }
+    ensures { λ b.
+        let p = now (program .entry) in
+        ⌜ b ≡ B.byte p (B.entryAt p r + k) ⌝ }
 {
     byte(program, entry_at(program, r) + k as usize)
 }
@@ -34,24 +35,24 @@ pub fn shape_of(program: &[u8], r: u32) -> u8
 }
 
 // How many D commands reactor r has.
-pub fn declared(program: &[u8], r: u32) -> u8
-    ensures { λ n. ⌜ n ≡ B.declared (now (program .entry)) r ⌝ }
+pub fn commands_d(program: &[u8], r: u32) -> u8
+    ensures { λ n. ⌜ n ≡ B.commandsD (now (program .entry)) r ⌝ }
 {
     entry_byte(program, r, 1)
 }
 
 // How many R commands.
-pub fn running(program: &[u8], r: u32) -> u8
-    ensures { λ n. ⌜ n ≡ B.running (now (program .entry)) r ⌝ }
+pub fn commands_r(program: &[u8], r: u32) -> u8
+    ensures { λ n. ⌜ n ≡ B.commandsR (now (program .entry)) r ⌝ }
 {
     entry_byte(program, r, 2)
 }
 
 pub fn commands_in(program: &[u8], r: u32) -> u16
     ensures is { λ n. ⌜ n ≡ B.commandsIn (now (program .entry)) r ⌝ }
-    ensures few { λ n. ⌜ n < 511 ⌝ }
+    ensures few { λ n. ⌜ n ≤ 255 + 255 ⌝ }
 {
-    declared(program, r) as u16 + running(program, r) as u16
+    commands_d(program, r) as u16 + commands_r(program, r) as u16
 }
 
 // The last reactor.

@@ -2,7 +2,7 @@
 use crate::bytes::reactors;
 use crate::entry::shape_of;
 use value::Value;
-ghost use mathlib.Core.Path.{_≡_};
+ghost use Rattle.value.specs.Prelude.{_≡_};
 ghost use Rattle.value.specs.Value as W;
 ghost use Rattle.program.specs.Kind as K;
 

@@ -1,5 +1,5 @@
 // The bytecode of a program: its header, its tables and its commands, read straight off the bytes.
-// Document 01, "Bytecode".
+// Section 2 of the manual.
 //
 // Every function is total: a byte past the end is 0, so no caller has to know that a program is
 // accepted. Result types are as narrow as the counts allow, so that sums of them cannot wrap.
@@ -19,11 +19,11 @@ pub use bytes::shapes;
 pub use commands::bytes_at;
 pub use commands::bytes_within;
 pub use entry::commands_at;
+pub use entry::commands_d;
 pub use entry::commands_in;
-pub use entry::declared;
+pub use entry::commands_r;
 pub use entry::entry_at;
 pub use entry::main_of;
-pub use entry::running;
 pub use entry::shape_of;
 pub use entry::tables_end;
 pub use entry::whole_length;
@@ -31,12 +31,14 @@ pub use facts::fact;
 pub use kind::content_legal;
 pub use kind::legal;
 pub use kind::mark_of;
+pub use location::HEAD_WORDS;
+pub use location::MOST_LOCATIONS;
 pub use location::result_of;
+pub use location::sink_count;
 pub use location::sink_loc;
-pub use location::sinks;
 pub use location::size_of;
 pub use location::slot_at;
-pub use location::sources;
+pub use location::source_count;
 pub use shape::shape_at;
 pub use shape::sink_kind;
 pub use shape::sinks_in;

@@ -1,33 +1,37 @@
-// Locations of a reactor, from 0: sources, D commands, R commands, sinks; and the words that a
-// deployment takes.
+// 2.14, 2.46 to 2.48 Locations of a reactor, and the words that a deployment takes.
 use crate::Command;
 use crate::bytes::byte;
 use crate::entry::commands_at;
+use crate::entry::commands_d;
 use crate::entry::commands_in;
-use crate::entry::declared;
-use crate::entry::running;
+use crate::entry::commands_r;
 use crate::entry::shape_of;
 use crate::shape::sinks_in;
 use crate::shape::sources_in;
-ghost use mathlib.Core.Path.{_≡_};
-ghost use Prim.Native.Nat.{ℕ, _≤_, _<_};
+ghost use Rattle.value.specs.Prelude.{ℕ, _≤_, _<_, _≡_};
 ghost use Rattle.value.specs.Test.{pick};
 ghost use Rattle.program.specs.Bytes as B;
 ghost use Rattle.program.specs.Command as C;
 ghost use Rattle.program.specs.Location as L;
 ghost use Rattle.program.specs.declared.Command.{Command};
 
+// The most locations that a reactor has.
+pub const MOST_LOCATIONS: usize = 174;
+
+// The words of a deployment before its slots: reactor, wired, next.
+pub const HEAD_WORDS: u32 = 3;
+
 // How many sources reactor r has.
-pub fn sources(program: &[u8], r: u32) -> u8
-    ensures { λ n. ⌜ n ≡ L.sources (now (program .entry)) r ⌝ }
+pub fn source_count(program: &[u8], r: u32) -> u8
+    ensures { λ n. ⌜ n ≡ L.sourceCount (now (program .entry)) r ⌝ }
 {
     let s = shape_of(program, r);
     sources_in(program, s)
 }
 
 // How many sinks.
-pub fn sinks(program: &[u8], r: u32) -> u8
-    ensures { λ n. ⌜ n ≡ L.sinks (now (program .entry)) r ⌝ }
+pub fn sink_count(program: &[u8], r: u32) -> u8
+    ensures { λ n. ⌜ n ≡ L.sinkCount (now (program .entry)) r ⌝ }
 {
     let s = shape_of(program, r);
     sinks_in(program, s)
@@ -37,7 +41,7 @@ pub fn sinks(program: &[u8], r: u32) -> u8
 pub fn sink_loc(program: &[u8], r: u32, x: u8) -> u16
     ensures { λ l. ⌜ l ≡ L.sinkLoc (now (program .entry)) r x ⌝ }
 {
-    sources(program, r) as u16 + commands_in(program, r) + x as u16
+    source_count(program, r) as u16 + commands_in(program, r) + x as u16
 }
 
 // 1 for a command that has a result, and so takes words in memory; 0 for Supply, React and Sink.
@@ -58,7 +62,7 @@ fn results_from(program: &[u8], at: u64, n: u8) -> u8
     requires { ⌜ at < 30000000000000 ⌝ }
     ensures is { λ m.
         let p = now (program .entry) in
-        ⌜ ((r : ℕ) → at ≡ B.commandAt p r (B.declared p r) → m ≡ L.results p r n) ⌝ }
+        ⌜ ((r : ℕ) → at ≡ B.commandAt p r (B.commandsD p r) → m ≡ L.results p r n) ⌝ }
     ensures few { λ m. ⌜ m ≤ n ⌝ }
 {
     let i = at as usize;
@@ -76,7 +80,7 @@ fn results(program: &[u8], r: u32, n: u8) -> u8
     ensures is { λ m. ⌜ m ≡ L.results (now (program .entry)) r n ⌝ }
     ensures few { λ m. ⌜ m ≤ n ⌝ }
 {
-    let at = commands_at(program, r) + 8 * (declared(program, r) as u64);
+    let at = commands_at(program, r) + 8 * (commands_d(program, r) as u64);
     results_from(program, at, n)
 }
 
@@ -86,16 +90,16 @@ pub fn slot_at(program: &[u8], r: u32, l: u16) -> u32
     ensures is { λ i. ⌜ i ≡ L.slotAt (now (program .entry)) r l ⌝ }
     ensures small { λ i. ⌜ i < 131074 ⌝ }
 {
-    let first = sources(program, r) as u16 + declared(program, r) as u16;
+    let first = source_count(program, r) as u16 + commands_d(program, r) as u16;
     if l <= first {
-        return 3 + 2 * (l as u32);
+        return HEAD_WORDS + 2 * (l as u32);
     }
     let past = l - first;
-    let run = running(program, r);
+    let run = commands_r(program, r);
     if past <= run as u16 {
-        return 3 + 2 * (first as u32 + results(program, r, past as u8) as u32);
+        return HEAD_WORDS + 2 * (first as u32 + results(program, r, past as u8) as u32);
     }
-    3 + 2 * (first as u32 + results(program, r, run) as u32 + (past - run as u16) as u32)
+    HEAD_WORDS + 2 * (first as u32 + results(program, r, run) as u32 + (past - run as u16) as u32)
 }
 
 // The words that a deployment of reactor r takes.
@@ -103,7 +107,7 @@ pub fn size_of(program: &[u8], r: u32) -> u32
     ensures is { λ n. ⌜ n ≡ L.sizeOf (now (program .entry)) r ⌝ }
     ensures small { λ n. ⌜ n < 131074 ⌝ }
 {
-    let ports = sources(program, r) as u32 + sinks(program, r) as u32;
-    let run = running(program, r);
-    3 + 2 * (ports + declared(program, r) as u32 + results(program, r, run) as u32)
+    let ports = source_count(program, r) as u32 + sink_count(program, r) as u32;
+    let run = commands_r(program, r);
+    HEAD_WORDS + 2 * (ports + commands_d(program, r) as u32 + results(program, r, run) as u32)
 }

@@ -1,8 +1,7 @@
 // The shapes, 16 bytes each: source count, sink count, seven source kinds, seven sink kinds.
 use crate::bytes::byte;
 use crate::bytes::globals;
-ghost use mathlib.Core.Path.{_≡_};
-ghost use Prim.Native.Nat.{_+_, _<_};
+ghost use Rattle.value.specs.Prelude.{_+_, _<_, _≡_};
 ghost use Rattle.program.specs.Bytes as B;
 
 // The byte at which shape s stands; with s the count of shapes, the byte after them.
@@ -15,7 +14,9 @@ pub fn shape_at(program: &[u8], s: u8) -> u16
 
 // Byte k of shape s.
 fn shape_byte(program: &[u8], s: u8, k: u16) -> u8
-    ensures { λ r. ⌜ r ≡ B.byte (now (program .entry)) (B.shapeAt (now (program .entry)) s + k) ⌝ }
+    ensures { λ r.
+        let p = now (program .entry) in
+        ⌜ r ≡ B.byte p (B.shapeAt p s + k) ⌝ }
 {
     byte(program, shape_at(program, s) as usize + k as usize)
 }

@@ -1,37 +1,33 @@
 -- A turn is refused before its first step exactly for its first fault: `first-fault`, and with it `turn-numbers`.
-use Prim.Native.Nat.{ℕ}
-use mathlib.Core.Path.{_≡_, refl, sym, _∙_, ap, subst}
-use mathlib.Core.Bool.{false}
-use mathlib.Core.Logic.{_↔_, _≢_, inl, inr, ⊎-elim}
-use mathlib.Core.List.{List}
-use native.Mathlib.Omega.{arith}
-use lib.ListN.{length}
+use Rattle.value.specs.Prelude.{ℕ, _≡_, refl, sym, _∙_, ap, subst, inl, inr, ⊎-elim, _↔_, _≢_, false, List, length}
+use Rattle.value.specs.Prelude.{arith}
 use Rattle.value.proofs.Tests.{cases, same?, goes, stops, says×}
 use Rattle.load.specs.Check.{checkOf, IsAccepted}
-use Rattle.load.specs.Refusal.{refusalNumber, refusalPlace}
-use Rattle.load.specs.declared.Checked.{Checked}
-use Rattle.load.specs.declared.Checked.the-variants.{Accepted, Refused as CheckRefused}
-use Rattle.load.specs.declared.Refusal.{Refusal}
-use Rattle.load.specs.declared.Refusal.the-variants.{MemoryLength, UnsoundImage, NoRoom, TooDeep}
+use Rattle.answer.specs.Answer.{refusalNumber, refusalPlace, numberOf}
+use Rattle.answer.specs.declared.Answer.{Answer}
+use Rattle.answer.specs.declared.Answer.the-variants.{Done, Refused}
+use Rattle.answer.specs.declared.Refusal.{Refusal}
+use Rattle.answer.specs.declared.Refusal.the-variants.{MemoryLength, UnsoundImage, NoRoom, TooDeep}
 use Rattle.load.proofs.Exact.{exact}
 use Rattle.load.proofs.Exact.Ladder.{accepted-size}
 use Rattle.load.proofs.Exact.Faults.{first-fault as check-fault, fault-given, fault-number}
-use Rattle.load.proofs.Refusals.{Told, told}
-use Rattle.image.specs.Sound.{Sound}
-use Rattle.image.specs.Passes.{Judged, sound, unsound, soundOf}
+use Rattle.answer.proofs.Refusals.{Told, told}
+use Rattle.image.specs.Sound.{SoundImage}
+use Rattle.image.specs.Passes.{soundOf}
+use Rattle.image.specs.declared.Judged.{Judged}
+use Rattle.image.specs.declared.Judged.the-variants.{Sound, Unsound}
 use Rattle.image.specs.Fault.{FaultAt}
 use Rattle.image.specs.Start.{wordsLegal}
 use Rattle.image.specs.Starting.{Words}
 use Rattle.image.proofs.Exact.{rules-soundness}
 use Rattle.image.proofs.Exact.Place.{exact-place}
 use Rattle.image.proofs.Starts.{words-legal}
-use Rattle.remus.specs.Turn.{Turn, numberOf, Asked, fine, asked, askedOf, refused, byAsked, bySound, byCheck}
-use Rattle.remus.specs.Turn.{turnOf}
+use Rattle.remus.specs.Turn.{Turn, askedOf, turnRefused, byAsked, bySound, byCheck, turnOf}
+use Rattle.answer.specs.declared.Ruling.{Ruling}
+use Rattle.answer.specs.declared.Ruling.the-variants.{Fine, Against}
 use Rattle.remus.specs.Walk.{Input}
 use Rattle.remus.specs.Claim.{Ends, completed, too-deep, no-room}
 use Rattle.remus.specs.Fault.{Fault, program, words, image, brought, FirstFault, TurnNumber, TurnNumbers}
-use Rattle.remus.specs.declared.Turned.{Turned}
-use Rattle.remus.specs.declared.Turned.the-variants.{Done, Refused}
 use Rattle.remus.proofs.Fits.{given-asking, asking, asking-number, fits}
 use Rattle.remus.proofs.OneTurn.{turn-is}
 use Rattle.remus.proofs.Demand.{demand-once}
@@ -43,9 +39,9 @@ module _ (p m rd sk : List ℕ) where
   -- ---- the turn's ladder, fault by fault
 
   abbrev Refuses : Refusal → Type 0
-  Refuses v = turnOf p m rd sk ≡ refused p m rd sk v
+  Refuses v = turnOf p m rd sk ≡ turnRefused p m rd sk v
 
-  at-program : (v : Refusal) → checkOf p ≡ CheckRefused v → Refuses v
+  at-program : (v : Refusal) → checkOf p ≡ Refused v → Refuses v
   unfolding turnOf byCheck
   at-program v e = rw e refl
 
@@ -54,22 +50,22 @@ module _ (p m rd sk : List ℕ) where
   at-words a e = rw (accepted-size p a) (sym (stops _ e refl))
 
   module _ (a : IsAccepted p) (l : Words m) where
-    at-image : (q : ℕ) → soundOf p m ≡ unsound q → Refuses (UnsoundImage q)
+    at-image : (q : ℕ) → soundOf p m ≡ Unsound q → Refuses (UnsoundImage q)
     unfolding turnOf byCheck bySound
     at-image q e = rw (accepted-size p a) (sym (goes _ _ (words-legal _ .1 l) (rw e refl)))
 
-    judged : (soundOf p m ≡ sound) ↔ Sound p m
+    judged : (soundOf p m ≡ Sound) ↔ SoundImage p m
     judged = rules-soundness p (exact p .0 a) m (l .1)
 
-    placed : (q : ℕ) → (soundOf p m ≡ unsound q) ↔ FaultAt p m q
+    placed : (q : ℕ) → (soundOf p m ≡ Unsound q) ↔ FaultAt p m q
     placed = exact-place p (exact p .0 a .tables .header .few-reactors) m (l .1)
 
-    at-asked : Sound p m → (v : Refusal) → askedOf p m rd sk ≡ asked v → Refuses v
+    at-asked : SoundImage p m → (v : Refusal) → askedOf p m rd sk ≡ Against v → Refuses v
     unfolding byAsked
     at-asked s v e = turn-is p m t a (l .1) s (judged .1 s) ∙ rw e refl
 
   answers : (v : Refusal) → Refuses v → turnOf p m rd sk .answer ≡ Refused v
-  unfolding refused
+  unfolding turnRefused
   answers v e = ap (λ (x : Turn). x .answer) e
 
   -- ---- both ways
@@ -100,18 +96,18 @@ module _ (p m rd sk : List ℕ) where
     no-end (no-room q d) = let z : w ≡ NoRoom q = cc in absurd (not-14 (ap refusalNumber z))
 
     module _ (a : IsAccepted p) (l : Words m) where
-      by-asked : Sound p m → (x : Asked) → askedOf p m rd sk ≡ x → FaultOf w
-      by-asked s fine q =
+      by-asked : SoundImage p m → (x : Ruling) → askedOf p m rd sk ≡ x → FaultOf w
+      by-asked s Fine q =
           let c = demand-once p m t a (l .1) s in no-end (c .ends (turnOf p m rd sk) (fits p m t .1 q) (c .result))
-      by-asked s (asked v) q = same v (at-asked a l s v q) (brought a l s (asking p m rd sk v .0 q))
+      by-asked s (Against v) q = same v (at-asked a l s v q) (brought a l s (asking p m rd sk v .0 q))
 
       by-image : (j : Judged) → soundOf p m ≡ j → FaultOf w
-      by-image sound q = by-asked (judged a l .0 q) (askedOf p m rd sk) refl
-      by-image (unsound k) q = same (UnsoundImage k) (at-image a l k q) (image a l (placed a l k .0 q))
+      by-image Sound q = by-asked (judged a l .0 q) (askedOf p m rd sk) refl
+      by-image (Unsound k) q = same (UnsoundImage k) (at-image a l k q) (image a l (placed a l k .0 q))
 
-    by-check : (c : Checked) → checkOf p ≡ c → FaultOf w
-    by-check (CheckRefused v) q = same v (at-program v q) (program (check-fault p v .0 q))
-    by-check (Accepted size) q =
+    by-check : (c : Answer) → checkOf p ≡ c → FaultOf w
+    by-check (Refused v) q = same v (at-program v q) (program (check-fault p v .0 q))
+    by-check (Done size) q =
         let a : IsAccepted p = rw q refl in
         cases (wordsLegal (length m)) (λ x. by-image a (words-legal _ .0 x) (soundOf p m) refl)
         (λ x. same (MemoryLength (length m)) (at-words a x) (words a (says× (words-legal _) .0 x)))
@@ -141,6 +137,6 @@ turn-numbers p m rd sk = by (turnOf p m rd sk .answer) refl
         (same? (refusalNumber w) 15))
         (same? (refusalNumber w) 14)
 
-    by : (a : Turned) → turnOf p m rd sk .answer ≡ a → TurnNumber (numberOf (turnOf p m rd sk .answer))
+    by : (a : Answer) → turnOf p m rd sk .answer ≡ a → TurnNumber (numberOf (turnOf p m rd sk .answer))
     by (Done u) e = rw e (inl (inl (omega arith)))
     by (Refused w) e = rw e (told w e)

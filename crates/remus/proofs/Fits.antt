@@ -1,25 +1,22 @@
 -- What a turn brings: 10 to 13 refuse it exactly for its first fault (`asking`), and not at all just where it is as it
 -- should be (`fits`).
-use Prim.Native.Nat.{ℕ, _+_, _*_, _<_}
-use mathlib.Core.Path.{_≡_, refl, sym, subst}
-use mathlib.Core.Bool.{Bool}
-use mathlib.Core.Logic.{_↔_, inl, inr, _≢_}
-use mathlib.Core.List.{List}
-use native.Mathlib.Omega.{arith}
-use lib.ListN.{length}
+use Rattle.value.specs.Prelude.{ℕ, _+_, _*_, _<_, _≡_, refl, sym, subst, inl, inr, _↔_, _≢_, Bool, List, length, arith}
 use Rattle.value.specs.Test.{_<?_, _=?_}
-use Rattle.value.proofs.Tests.{cases, clash, lt!, lt×, lt?, lt×?, le!, le×, le?, eq!, eq×, eq?, goes, stops, guards, Says, says-lt, says-le, says-eq, says×, says-guard}
+use Rattle.value.proofs.Tests.{cases, clash, lt!, lt×, lt?, lt×?, le!, le×, le?, eq!, eq×, eq?, goes, stops, guards}
+use Rattle.value.proofs.Tests.{Says, says-lt, says-le, says-eq, says×, says-guard}
 use Rattle.value.proofs.Sweeps.{Swept, swept, sweeps?}
 use Rattle.program.specs.Bytes.{globals, globalKind, mainOf}
-use Rattle.program.specs.Location.{sinks}
+use Rattle.program.specs.Location.{sinkCount}
 use Rattle.program.specs.Kind.{legal}
 use Rattle.program.proofs.OfKind.{legal-kind}
-use Rattle.load.specs.Refusal.{refusalNumber, refusalPlace}
+use Rattle.answer.specs.Answer.{refusalNumber, refusalPlace}
 use Rattle.load.specs.Fault.{Between}
-use Rattle.load.specs.declared.Refusal.{Refusal}
-use Rattle.load.specs.declared.Refusal.the-variants.{ReadingsLength, Reading, SinkSpace, Clock}
-use Rattle.load.proofs.Refusals.{Told, told}
-use Rattle.remus.specs.Turn.{Asked, fine, asked, askedOf, badReading, readingAt}
+use Rattle.answer.specs.declared.Refusal.{Refusal}
+use Rattle.answer.specs.declared.Refusal.the-variants.{ReadingsLength, Reading, SinkSpace, Clock}
+use Rattle.answer.proofs.Refusals.{Told, told}
+use Rattle.remus.specs.Turn.{askedOf, badReading, readingAt}
+use Rattle.answer.specs.declared.Ruling.{Ruling}
+use Rattle.answer.specs.declared.Ruling.the-variants.{Fine, Against}
 use Rattle.remus.specs.Fault.{LegalReading, LegalReadings, Asking, count, reading, space, clock}
 use Rattle.remus.specs.Walk.{Input}
 use Rattle.remus.specs.Claim.{Fit}
@@ -71,7 +68,7 @@ module _ (p rd : List ℕ) where
 
 -- ---- 10 to 13
 
-never : (v : Refusal) → asked v ≡ fine → ⊥
+never : (v : Refusal) → Against v ≡ Fine → ⊥
 never v e = let z : _≡_ {A = ℕ} 0 1 = cc in omega arith
 
 module _ (p m rd sk : List ℕ) where
@@ -79,13 +76,13 @@ module _ (p m rd sk : List ℕ) where
   AskingFor w = Asking p m rd sk (refusalNumber w) (refusalPlace w)
 
   -- the refusal w is the one found
-  as-asking : (v w : Refusal) → asked v ≡ asked w → AskingFor v → AskingFor w
+  as-asking : (v w : Refusal) → Against v ≡ Against w → AskingFor v → AskingFor w
   as-asking v w e f = let same : v ≡ w = cc in subst AskingFor same f
 
-  found-asking : (w : Refusal) → askedOf p m rd sk ≡ asked w → AskingFor w
+  found-asking : (w : Refusal) → askedOf p m rd sk ≡ Against w → AskingFor w
   unfolding askedOf
   found-asking w e =
-      let Is : Asked → Type 0 = λ a. a ≡ asked w in
+      let Is : Ruling → Type 0 = λ a. a ≡ Against w in
       elim (says-guard Is says-eq _ _ .0 e) [
         | inl a ↦ as-asking _ w (a .1) (count (a .0))
         | inr a ↦ elim (says-guard Is (readings-legal p rd) _ _ .0 (a .1)) [
@@ -103,14 +100,14 @@ module _ (p m rd sk : List ℕ) where
       ]
 
   -- a refusal is given with the number and place of the fault
-  pub given-asking : {n q : ℕ} → Asking p m rd sk n q → Told (λ v. askedOf p m rd sk ≡ asked v) n q
+  pub given-asking : {n q : ℕ} → Asking p m rd sk n q → Told (λ v. askedOf p m rd sk ≡ Against v) n q
   unfolding askedOf
   given-asking (count h) = (ReadingsLength (length rd), sym (stops _ (eq× h) refl), refl, refl)
   given-asking (reading {k} a l h n) =
       let e = bad-stops p rd k (l, h, n) in
       (Reading (badReading p rd), sym (goes _ _ (eq! a) (stops _ (eq× (λ z. omega arith)) refl)), refl, e)
   given-asking (space a h l) = (
-    SinkSpace (2 * sinks p (mainOf p)),
+    SinkSpace (2 * sinkCount p (mainOf p)),
     sym (goes _ _ (eq! a) (goes _ _ (readings-legal p rd .1 h) (stops _ (le× l) refl))),
     refl,
     refl,
@@ -122,8 +119,8 @@ module _ (p m rd sk : List ℕ) where
     refl,
   )
 
-  pub asking : (w : Refusal) → (askedOf p m rd sk ≡ asked w) ↔ AskingFor w
-  asking w = (found-asking w, λ f. told (λ v. askedOf p m rd sk ≡ asked v) w (given-asking f))
+  pub asking : (w : Refusal) → (askedOf p m rd sk ≡ Against w) ↔ AskingFor w
+  asking w = (found-asking w, λ f. told (λ v. askedOf p m rd sk ≡ Against v) w (given-asking f))
 
 pub asking-number : {p m rd sk : List ℕ} {n q : ℕ} → Asking p m rd sk n q → Between 10 13 n
 asking-number (count h) = (omega arith, omega arith)
@@ -132,10 +129,10 @@ asking-number (space a h l) = (omega arith, omega arith)
 asking-number (clock a h c l) = (omega arith, omega arith)
 
 module _ (p w : List ℕ) (t : Input) where
-  pub fits : Fit p w t ↔ (askedOf p w (t .readings) (t .sinkSpace) ≡ fine)
+  pub fits : Fit p w t ↔ (askedOf p w (t .readings) (t .sinkSpace) ≡ Fine)
   unfolding askedOf
   fits =
-      let P : Asked → Type 0 = (λ a. a ≡ fine) in (
+      let P : Ruling → Type 0 = (λ a. a ≡ Fine) in (
         λ h.
             guards P _ _ _ (never _) .1 (
               eq! (h .count),

@@ -1,16 +1,12 @@
 -- What cells hold over a list of turns: from what holds of each turn (`Lasting`) to what every Fetch reads (`history`).
 -- One turn leads a cell from its content to the next (`leads`).
-use Prim.Native.Nat.{ℕ, _≤_, _<_}
-use mathlib.Core.Path.{_≡_, refl, sym, _∙_, ap, subst}
-use mathlib.Core.Logic.{_⊎_, inl, inr}
-use mathlib.Core.List.{List, [], _∷_}
-use native.Mathlib.Omega.{arith}
-use lib.ListN.{length}
+use Rattle.value.specs.Prelude.{ℕ, _≤_, _<_, _≡_, refl, sym, _∙_, ap, subst, _⊎_, inl, inr, List, [], _∷_, length}
+use Rattle.value.specs.Prelude.{arith}
 use Rattle.value.specs.declared.Value.{Value}
 use Rattle.value.proofs.Tests.{below}
-use Rattle.program.specs.Command.{Cmd, fetch}
+use Rattle.program.specs.Command.{Cmd, fetch, gives}
 use Rattle.image.specs.Memory.{mostTurns, mainAt, used, turns, wired, valueAt, sizeAt}
-use Rattle.image.specs.Sound.{Tiles, Deployed, Sound}
+use Rattle.image.specs.Sound.{Tiles, Deployed, SoundImage}
 use Rattle.image.proofs.Memory.Tiles.{size-at, in-ge, own-unique}
 use Rattle.image.proofs.Memory.Each.{in-below}
 use Rattle.image.proofs.Memory.Offsets.{covered}
@@ -18,9 +14,10 @@ use Rattle.remus.specs.Turn.{Turn, turnOf}
 use Rattle.remus.specs.Clear.{finished}
 use Rattle.remus.specs.Walk.{State, run, Input, Walked, left}
 use Rattle.remus.specs.Point.{_∈_}
-use Rattle.remus.specs.Claim.{CellIn, Begins, stands, fresh, Runs, Becomes, stays, Point, Leaves, AfterTurn, TurnClaim, TurnOf, now, after as next-turn, Remembers, no-turn, and-then}
-use Rattle.remus.specs.declared.Turned.{Turned}
-use Rattle.remus.specs.declared.Turned.the-variants.{Done, Refused}
+use Rattle.remus.specs.Claim.{CellIn, Begins, stands, fresh, Runs, Becomes, stays, Point, Leaves, AfterTurn}
+use Rattle.remus.specs.Claim.{TurnClaim, TurnOf, now, after as next-turn, Remembers, no-turn, and-then}
+use Rattle.answer.specs.declared.Answer.{Answer}
+use Rattle.answer.specs.declared.Answer.the-variants.{Done, Refused}
 use Rattle.remus.proofs.Once.{walked-once}
 use Rattle.remus.proofs.Walk.Top.{Onward, onward-self, onward-on}
 use Rattle.remus.proofs.Walk.Past.{begins-one, cell-moved}
@@ -51,7 +48,7 @@ resultOf p w t = turnOf p w (t .readings) (t .sinkSpace)
 -- what is left as main leaves in state s: each word, a sound image, and the same deployments, all wired
 pub record Finish (p w : List ℕ) (t : Input) (s : State) : Type 0 where
   pub after : AfterTurn p w t (s .words) (finished p (s .words))
-  pub sound-image : turns (s .words) < mostTurns → Sound p (finished p (s .words))
+  pub sound-image : turns (s .words) < mostTurns → SoundImage p (finished p (s .words))
   pub to : Onward p (s .words) (finished p (s .words))
   pub back : Onward p (finished p (s .words)) (s .words)
   pub ran : (d : ℕ) → run d ∈ s .notes → Deployed p (finished p (s .words)) d
@@ -60,7 +57,7 @@ pub record Finish (p w : List ℕ) (t : Input) (s : State) : Type 0 where
 -- what a turn keeps of deployments, beside its claim
 pub record Lasting (p w : List ℕ) (t : Input) : Type 0 where
   pub claim : TurnClaim p w t
-  pub sound : Sound p (resultOf p w t .memory)
+  pub sound : SoundImage p (resultOf p w t .memory)
   pub same-length : length (resultOf p w t .memory) ≡ length w
   pub inner : (s : State) (m : List ℕ) (o : ℕ) (c : Cmd) → Point p w t s m o c → Onward p w m × Deployed p m o
   pub outer : Onward p w (resultOf p w t .memory)
@@ -91,7 +88,7 @@ module _ (p w : List ℕ) (t : Input) (h : Lasting p w t) (d l : ℕ) (f : Value
           let i = h .finish (r .state) (r .leaves) .ran d (r .ran) in
           n (subst (λ (z : List ℕ). Deployed p z d) (sym (leaves-words (r .state) (r .leaves))) i)
 
-      by : (a : Turned) → resultOf p w t .answer ≡ a → (Deployed p w′ d) ⊎ (Deployed p w′ d → ⊥) → Next x
+      by : (a : Answer) → resultOf p w t .answer ≡ a → (Deployed p w′ d) ⊎ (Deployed p w′ d → ⊥) → Next x
       by (Refused v) e z =
           let same = h .claim .refused (resultOf p w t) v (h .claim .result) e .0 in (
             x,
@@ -120,7 +117,7 @@ module _ (p w : List ℕ) (t : Input) (h : Lasting p w t) (d l : ℕ) (f : Value
 
 -- ---- a list
 
-module _ (p : List ℕ) (n : ℕ) (each : (w : List ℕ) (t : Input) → length w ≡ n → Sound p w → Lasting p w t) where
+module _ (p : List ℕ) (n : ℕ) (each : (w : List ℕ) (t : Input) → length w ≡ n → SoundImage p w → Lasting p w t) where
   -- a turn of the list, after the first: the same from what the first leaves
   rest-of : {ts bs : List Input} {w v : List ℕ} {t u : Input} {r : Turn} → Lasting p w t → Walked p w t r
       → TurnOf p (r .memory) ts bs v u → TurnOf p (resultOf p w t .memory) ts bs v u
@@ -129,8 +126,8 @@ module _ (p : List ℕ) (n : ℕ) (each : (w : List ℕ) (t : Input) → length 
       subst (λ (x : Turn). TurnOf p (x .memory) ts bs v u) same o
 
   -- from the first words of a list to those of one of its turns
-  forward : (ts : List Input) {bs : List Input} {w v : List ℕ} {t : Input} → length w ≡ n → Sound p w
-      → TurnOf p w ts bs v t → Onward p w v × Sound p v × (length v ≡ n)
+  forward : (ts : List Input) {bs : List Input} {w v : List ℕ} {t : Input} → length w ≡ n → SoundImage p w
+      → TurnOf p w ts bs v t → Onward p w v × SoundImage p v × (length v ≡ n)
   forward [] e s q = absurd (no-turns q)
   forward (x ∷ ts) e s now = (onward-self, s, e)
   forward (x ∷ ts) {w = w} e s (next-turn {t = t} q o) =
@@ -138,8 +135,8 @@ module _ (p : List ℕ) (n : ℕ) (each : (w : List ℕ) (t : Input) → length 
       let g = forward ts (h .same-length ∙ e) (h .sound) (rest-of h q o) in
       (onward-on (h .outer) (g .0), g .1, g .2)
 
-  pub history : (ts : List Input) {bs : List Input} {w v : List ℕ} {t : Input} → length w ≡ n → Sound p w
-      → TurnOf p w ts bs v t → (s : State) (m : List ℕ) (o b : ℕ) (f : Value) → Point p v t s m o (fetch b)
+  pub history : (ts : List Input) {bs : List Input} {w v : List ℕ} {t : Input} → length w ≡ n → SoundImage p w
+      → TurnOf p w ts bs v t → (s : State) (m : List ℕ) (o b : ℕ) (f : Value) → Point p v t s m o (gives (fetch b))
       → CellIn p m o b f → (x : Value) → Begins p w o b f x → Remembers p o b w x bs (valueAt p m o b)
   history [] e k z s m o b f q c x g = absurd (no-turns z)
   history (u ∷ us) {w = w} {t = t} e k now s m o b f q c x g =
@@ -151,13 +148,13 @@ module _ (p : List ℕ) (n : ℕ) (each : (w : List ℕ) (t : Input) → length 
       let a₂ = rest-of h z a in
       let e₂ : length w′ ≡ n = h .same-length ∙ e in
       let on = forward ts e₂ (h .sound) a₂ in
-      let here = each v t (on .2) (on .1) .inner s m o (fetch b) q in
+      let here = each v t (on .2) (on .1) .inner s m o (gives (fetch b)) q in
       let to : Onward p w′ m = onward-on (on .0) (here .0) in
       let will : Deployed p w′ o → CellIn p w′ o b f = λ i. cell-moved c i (sym (to .reactors o i)) in
       let y = leads p w t₀ h o b f x g will (there (h .sound) to (here .1) (below o (used w′))) in
       and-then {y = y .0} (h .claim .result) (y .1) (history ts e₂ (h .sound) a₂ s m o b f q c (y .0) (y .2))
     where
-      there : {u : List ℕ} → Sound p u → Onward p u m → Deployed p m o → (o < used u) ⊎ (used u ≤ o)
+      there : {u : List ℕ} → SoundImage p u → Onward p u m → Deployed p m o → (o < used u) ⊎ (used u ≤ o)
           → (Deployed p u o) ⊎ (Deployed p u o → ⊥)
       there su on i (inl l) = inl (old-deployed (su .tiles) on i l)
       there su on i (inr l) = inr (λ j. omega (arith, in-below p j))

@@ -5,7 +5,7 @@ pub mod Fits
 pub mod Sinks
 pub mod Clearing
 pub mod Finished
-pub mod Keeping
+pub mod CellsFilled
 pub mod History
 pub mod Remembered
 pub mod Lists
@@ -13,5 +13,5 @@ pub mod Inside
 pub mod OneTurn
 pub mod Steady
 pub mod Demand
-pub mod Kept
+pub mod RefusedLeaves
 pub mod FirstFault

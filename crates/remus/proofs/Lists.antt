@@ -1,33 +1,31 @@
 -- Lists of turns: from what holds of each turn on a sound image to the claim about a whole list.
-use Prim.Native.Nat.{ℕ, _+_, _≤_}
-use mathlib.Core.Path.{_≡_, refl, sym, ap, _∙_, subst}
-use mathlib.Core.List.{List, [], _∷_}
-use native.Mathlib.Omega.{arith}
-use lib.ListN.{length}
+use Rattle.value.specs.Prelude.{ℕ, _+_, _≤_, _≡_, refl, sym, _∙_, ap, subst, List, [], _∷_, length, arith}
 use Rattle.program.specs.Bytes.{mainOf}
 use Rattle.program.specs.Location.{sizeOf}
 use Rattle.load.specs.Rules.{HeaderRule}
 use Rattle.image.specs.Memory.{mainAt, used, wired, sizeAt}
-use Rattle.image.specs.Sound.{Deployed, Sound}
+use Rattle.image.specs.Sound.{Deployed, SoundImage}
 use Rattle.image.specs.Start.{startedOf}
 use Rattle.image.proofs.Memory.Starting.{started-length, started-used, started-turns, started-sound}
 use Rattle.image.proofs.Memory.Each.{alone}
 use Rattle.remus.specs.Turn.{Turn}
 use Rattle.remus.specs.Walk.{Input, Walks, no-turn as no-walk, and-then}
-use Rattle.remus.specs.Claim.{fresh, TurnClaim, Completed, turnsOf, memoryAfter, TurnOf, now, after, Grows, no-turn, completed, refused, Claim}
-use Rattle.remus.specs.declared.Turned.{Turned}
-use Rattle.remus.specs.declared.Turned.the-variants.{Done, Refused}
+use Rattle.remus.specs.Claim.{fresh, TurnClaim, Completed, turnsOf, memoryAfter, TurnOf, now, after, Grows}
+use Rattle.remus.specs.Claim.{no-turn, completed, refused, Claim}
+use Rattle.answer.specs.declared.Answer.{Answer}
+use Rattle.answer.specs.declared.Answer.the-variants.{Done, Refused}
 use Rattle.remus.proofs.Once.{walked-once}
 use Rattle.remus.proofs.History.{resultOf, Lasting, history}
 
 -- a turn on the words w: its claim, what it leaves, and by how much u has grown if it completes
 pub record TurnHolds (p w : List ℕ) (t : Input) : Type 0 where
   pub lasting : Lasting p w t
-  pub grows : (u : ℕ) → resultOf p w t .answer ≡ Done u → (k : ℕ) × Completed p w t k × (used (resultOf p w t .memory) ≡ used w + k)
+  pub grows : (u : ℕ) → resultOf p w t .answer ≡ Done u →
+      (k : ℕ) × Completed p w t k × (used (resultOf p w t .memory) ≡ used w + k)
 
 -- every turn on a sound image of n words
 abbrev pub EveryTurn : List ℕ → ℕ → Type 0
-EveryTurn p n = (w : List ℕ) (t : Input) → length w ≡ n → Sound p w → TurnHolds p w t
+EveryTurn p n = (w : List ℕ) (t : Input) → length w ≡ n → SoundImage p w → TurnHolds p w t
 
 -- the parts of the claim, from the words w on
 pub record From (p w : List ℕ) (ts : List Input) : Type 0 where
@@ -40,7 +38,8 @@ module _ (p : List ℕ) (n : ℕ) (each : EveryTurn p n) where
   unfolding turnsOf memoryAfter
   none-from w = record { results = no-walk; every-turn = λ bs v t. elim [ ]; grown = (0, no-turn, omega arith) }
 
-  one-from : (w : List ℕ) (t : Input) (ts : List Input) → TurnHolds p w t → From p (resultOf p w t .memory) ts → From p w (t ∷ ts)
+  one-from : (w : List ℕ) (t : Input) (ts : List Input) → TurnHolds p w t →
+      From p (resultOf p w t .memory) ts → From p w (t ∷ ts)
   unfolding turnsOf memoryAfter
   one-from w t ts h f =
       record {
@@ -58,7 +57,8 @@ module _ (p : List ℕ) (n : ℕ) (each : EveryTurn p n) where
           let e : r ≡ resultOf p w t = walked-once p w t r (resultOf p w t) q (c .result) in
           f .every-turn bs v u (subst (λ (x : Turn). TurnOf p (x .memory) ts bs v u) e o)
 
-      by : (a : Turned) → resultOf p w t .answer ≡ a → (k : ℕ) × Grows p w (t ∷ ts) k × (used (memoryAfter p (resultOf p w t .memory) ts) ≡ used w + k)
+      by : (a : Answer) → resultOf p w t .answer ≡ a →
+          (k : ℕ) × Grows p w (t ∷ ts) k × (used (memoryAfter p (resultOf p w t .memory) ts) ≡ used w + k)
       by (Done u) e =
           let g = h .grows u e in
           let k = f .grown in
@@ -68,7 +68,7 @@ module _ (p : List ℕ) (n : ℕ) (each : EveryTurn p n) where
           let same = c .refused (resultOf p w t) v (c .result) e .0 in
           (k .0, refused (c .result) e (k .1), k .2 ∙ ap (λ (x : List ℕ). used x + k .0) same)
 
-  all-from : (ts : List Input) (w : List ℕ) → length w ≡ n → Sound p w → From p w ts
+  all-from : (ts : List Input) (w : List ℕ) → length w ≡ n → SoundImage p w → From p w ts
   all-from [] w e s = none-from w
   all-from (t ∷ ts) w e s =
       let h = each w t e s in

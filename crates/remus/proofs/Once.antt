@@ -1,16 +1,13 @@
 -- The walk's result of a turn is one: a step is a function, so that two ends that the walk comes to are the same.
-use Prim.Native.Nat.{ℕ}
-use mathlib.Core.Path.{_≡_, refl, ap, sym, subst}
-use mathlib.Core.Logic.{_⊎_, inl, inr}
-use mathlib.Core.List.{List, []}
-use native.Mathlib.Omega.{arith}
-use Rattle.load.specs.declared.Refusal.{Refusal}
+use Rattle.value.specs.Prelude.{ℕ, _≡_, refl, sym, ap, subst, _⊎_, inl, inr, List, [], arith}
+use Rattle.answer.specs.declared.Refusal.{Refusal}
 use Rattle.image.specs.Memory.{used}
 use Rattle.remus.specs.Clear.{finished, sunk}
 use Rattle.remus.specs.Turn.{Turn}
-use Rattle.remus.specs.Walk.{State, go, stop, over, step, stepOn, Reach, stay, on, begun, Input, refused, stopped, left}
+use Rattle.remus.specs.Walk.{State, go, stop, over, step, stepOn, Reach, stay, on, begun, Input, refused, stopped}
+use Rattle.remus.specs.Walk.{left}
 use Rattle.remus.specs.Claim.{WalkedOnce}
-use Rattle.remus.specs.declared.Turned.the-variants.{Done, Refused}
+use Rattle.answer.specs.declared.Answer.the-variants.{Done, Refused}
 
 module _ (p rd : List ℕ) where
   -- the walk goes no further from s
@@ -74,11 +71,15 @@ abbrev entry : List ℕ → Input → Refusal → Turn
 entry w t v = record { answer = Refused v; memory = w; sinkSpace = t .sinkSpace }
 
 abbrev exit : List ℕ → Input → State → Turn
-exit p t s = record { answer = Done (used (s .words)); memory = finished p (s .words); sinkSpace = sunk p (s .words) (t .sinkSpace) }
+exit p t s = record {
+  answer = Done (used (s .words));
+  memory = finished p (s .words);
+  sinkSpace = sunk p (s .words) (t .sinkSpace);
+}
 
 -- a walk that stops and one in which main leaves are not both there
-never-both : (p w : List ℕ) (t : Input) (x y : State) (v : Refusal) → Reach p (t .readings) (begun p w) x → step p (t .readings) x ≡ stop v
-    → Reach p (t .readings) (begun p w) y → y .pile ≡ [] → ⊥
+never-both : (p w : List ℕ) (t : Input) (x y : State) (v : Refusal) → Reach p (t .readings) (begun p w) x
+    → step p (t .readings) x ≡ stop v → Reach p (t .readings) (begun p w) y → y .pile ≡ [] → ⊥
 never-both p w t x y v q k l j =
     let rd = t .readings in
     let e : x ≡ y = one-end p rd q l (stop-ended p rd x v k) (empty-ended p rd y j) in

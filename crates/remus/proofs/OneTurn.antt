@@ -1,28 +1,25 @@
 -- One turn: from what holds inside it to its claim, and to what the list of turns needs of it.
-use Prim.Native.Nat.{ℕ, _+_, _≤_}
-use mathlib.Core.Path.{_≡_, refl, ap, sym, _∙_, subst}
-use mathlib.Core.Bool.{true}
-use mathlib.Core.Logic.{_≢_, _↔_}
-use mathlib.Core.List.{List}
-use native.Mathlib.Omega.{arith}
-use lib.ListN.{length}
+use Rattle.value.specs.Prelude.{ℕ, _+_, _≤_, _≡_, refl, sym, _∙_, ap, subst, _↔_, _≢_, true, List, length, arith}
 use Rattle.value.proofs.Tests.{goes}
 use Rattle.load.specs.Check.{IsAccepted}
-use Rattle.load.specs.declared.Refusal.{Refusal}
-use Rattle.load.specs.declared.Refusal.the-variants.{NoRoom, TooDeep}
-use Rattle.load.specs.Refusal.{refusalNumber}
+use Rattle.answer.specs.declared.Refusal.{Refusal}
+use Rattle.answer.specs.declared.Refusal.the-variants.{NoRoom, TooDeep}
+use Rattle.answer.specs.Answer.{refusalNumber}
 use Rattle.load.proofs.Exact.Ladder.{accepted-size}
 use Rattle.image.specs.Memory.{mostWords, used}
-use Rattle.image.specs.Sound.{Sound}
-use Rattle.image.specs.Passes.{sound, soundOf}
+use Rattle.image.specs.Sound.{SoundImage}
+use Rattle.image.specs.Passes.{soundOf}
+use Rattle.image.specs.declared.Judged.the-variants.{Sound}
 use Rattle.image.specs.Start.{wordsLegal}
 use Rattle.image.proofs.Memory.Each.{in-below}
 use Rattle.image.proofs.Starts.{words-legal}
-use Rattle.remus.specs.Turn.{Turn, Asked, fine, asked, askedOf, turnOf, byCheck, bySound, byAsked, byRun, refused as refused-turn}
+use Rattle.remus.specs.Turn.{Turn, askedOf, turnOf, byCheck, bySound, byAsked, byRun, turnRefused as refused-turn}
+use Rattle.answer.specs.declared.Ruling.{Ruling}
+use Rattle.answer.specs.declared.Ruling.the-variants.{Fine, Against}
 use Rattle.remus.specs.Walk.{State, Input, Walked, refused, stopped, left}
-use Rattle.remus.specs.Claim.{During, Allocates, TooDeepAt, NoRoomAt, Leaves, Fit, Ends, completed, too-deep}
+use Rattle.remus.specs.Claim.{During, AllocatesAt, TooDeepAt, NoRoomAt, Leaves, Fit, Ends, completed, too-deep}
 use Rattle.remus.specs.Claim.{no-room, TurnClaim, Completed}
-use Rattle.remus.specs.declared.Turned.the-variants.{Done, Refused}
+use Rattle.answer.specs.declared.Answer.the-variants.{Done, Refused}
 use Rattle.remus.proofs.Once.{walked-once}
 use Rattle.remus.proofs.Fits.{asking, asking-number, fits}
 use Rattle.remus.proofs.Sinks.{sinks-written}
@@ -32,7 +29,8 @@ use Rattle.remus.proofs.Inside.{Ending, leaves, stops, Stop, deep, full
 
 -- ---- the turn's own ladder, on a sound image of an accepted program
 
-module _ (p w : List ℕ) (t : Input) (yes-program : IsAccepted p) (few : length w ≤ mostWords) (image : Sound p w) (judged : soundOf p w ≡ sound) where
+module _ (p w : List ℕ) (t : Input) (yes-program : IsAccepted p) (few : length w ≤ mostWords) (image : SoundImage p w)
+    (judged : soundOf p w ≡ Sound) where
   abbrev rd : List ℕ
   rd = t .readings
 
@@ -48,26 +46,29 @@ module _ (p w : List ℕ) (t : Input) (yes-program : IsAccepted p) (few : length
       rw (accepted-size p yes-program) (sym (goes _ _ legal (rw judged refl)))
 
   module _ (inside : Inside p w t) where
-    by-ending : askedOf p w rd sk ≡ fine → Ending p w t → Walked p w t (byAsked p w rd sk fine)
+    by-ending : askedOf p w rd sk ≡ Fine → Ending p w t → Walked p w t (byAsked p w rd sk Fine)
     unfolding byAsked byRun refused-turn
     by-ending e (leaves s l q) = rw q (left s e (l .during .comes) (l .empty))
     by-ending e (stops s v m d k q) = rw q (stopped s e (d .comes) k)
 
-    by-asked : (a : Asked) → askedOf p w rd sk ≡ a → Walked p w t (byAsked p w rd sk a)
+    by-asked : (a : Ruling) → askedOf p w rd sk ≡ a → Walked p w t (byAsked p w rd sk a)
     unfolding byAsked refused-turn
-    by-asked fine e = by-ending e (inside .walk-ends e)
-    by-asked (asked v) e = refused e
+    by-asked Fine e = by-ending e (inside .walk-ends e)
+    by-asked (Against v) e = refused e
 
     -- the walk's result is the machine's
     result : Walked p w t (turnOf p w rd sk)
     result = rw turn-is (by-asked (askedOf p w rd sk) refl)
 
     -- where the walk stops, and where main leaves, the result is known
-    stop-answer : (r : Turn) (s : State) (v : Refusal) → Walked p w t r → Stop p w t s v → During p w t s → r .answer ≡ Refused v
-    stop-answer r s v q k d = ap (λ (x : Turn). x .answer) (walked-once p w t r _ q (stopped s (d .allowed) (d .comes) (inside .stopped-by s v k)))
+    stop-answer : (r : Turn) (s : State) (v : Refusal) → Walked p w t r → Stop p w t s v →
+        During p w t s → r .answer ≡ Refused v
+    stop-answer r s v q k d = ap (λ (x : Turn). x .answer)
+        (walked-once p w t r _ q (stopped s (d .allowed) (d .comes) (inside .stopped-by s v k)))
 
     leave-answer : (r : Turn) (s : State) → Walked p w t r → Leaves p w t s → r .answer ≡ Done (used (s .words))
-    leave-answer r s q l = ap (λ (x : Turn). x .answer) (walked-once p w t r _ q (left s (l .during .allowed) (l .during .comes) (l .empty)))
+    leave-answer r s q l = ap (λ (x : Turn). x .answer)
+        (walked-once p w t r _ q (left s (l .during .allowed) (l .during .comes) (l .empty)))
 
     ends : (r : Turn) → Fit p w t → Walked p w t r → Ends p w t r
     ends r f (refused e) = absurd (let a = fits p w t .0 f in let z : _≡_ {A = ℕ} 0 1 = cc in omega arith)
@@ -83,7 +84,7 @@ module _ (p w : List ℕ) (t : Input) (yes-program : IsAccepted p) (few : length
         (inside .finish s l .after)
 
     -- a turn that 10 to 13 refuse ends neither with 14 nor with 15
-    asked-low : (v : Refusal) → 14 ≤ refusalNumber v → askedOf p w rd sk ≡ asked v → ⊥
+    asked-low : (v : Refusal) → 14 ≤ refusalNumber v → askedOf p w rd sk ≡ Against v → ⊥
     asked-low v h e = omega (arith, asking-number (asking p w rd sk v .0 e))
 
     -- what a stop with v says of v
@@ -94,7 +95,7 @@ module _ (p w : List ℕ) (t : Input) (yes-program : IsAccepted p) (few : length
     said s v (deep {q} m o c a b d) = (
       λ k e.
           let z : q ≡ k = cc in
-          let at : Allocates p w t q (length (s .pile)) m =
+          let at : AllocatesAt p w t q (length (s .pile)) m =
           record { state = s; owner = o; command = c; point = a; is = b; height = refl }
           in
           subst (TooDeepAt p w t) z (length (s .pile), m, at, d),
@@ -104,7 +105,7 @@ module _ (p w : List ℕ) (t : Input) (yes-program : IsAccepted p) (few : length
       λ k e. let z : _≡_ {A = ℕ} 0 1 = cc in absurd (omega arith),
       λ k e.
           let z : q ≡ k = cc in
-          let at : Allocates p w t q (length (s .pile)) m =
+          let at : AllocatesAt p w t q (length (s .pile)) m =
           record { state = s; owner = o; command = c; point = a; is = b; height = refl }
           in
           subst (NoRoomAt p w t) z (length (s .pile), m, at, omega (arith, inside .topmost s m o c a .2, d), g),
@@ -113,7 +114,9 @@ module _ (p w : List ℕ) (t : Input) (yes-program : IsAccepted p) (few : length
     -- what a result with the answer v says of v
     says : (r : Turn) → Walked p w t r → (v : Refusal) → 14 ≤ refusalNumber v → r .answer ≡ Refused v → Said v
     says r (refused {w = x} e) v h q = let z : v ≡ x = cc in absurd (asked-low v h (rw z e))
-    says r (stopped {w = x} s e q k) v h a = let z : x ≡ v = cc in subst Said z (said s x (inside .stopping s x (record { allowed = e; comes = q }) k))
+    says r (stopped {w = x} s e q k) v h a =
+        let z : x ≡ v = cc in
+        subst Said z (said s x (inside .stopping s x (record { allowed = e; comes = q }) k))
     says r (left s e q k) v h a = let z : _≡_ {A = ℕ} 0 1 = cc in absurd (omega arith)
 
     deep-ends : (r : Turn) (q : ℕ) → Walked p w t r → (r .answer ≡ Refused (TooDeep q)) ↔ TooDeepAt p w t q
@@ -121,7 +124,8 @@ module _ (p w : List ℕ) (t : Input) (yes-program : IsAccepted p) (few : length
       λ e. says r k (TooDeep q) (omega arith) e .0 q refl,
       λ h.
           let a = h .2 in
-          stop-answer r (a .state) (TooDeep q) k (deep (h .1) (a .owner) (a .command) (a .point) (a .is) (rw (a .height) (h .3))) (a .point .during),
+          stop-answer r (a .state) (TooDeep q) k
+          (deep (h .1) (a .owner) (a .command) (a .point) (a .is) (rw (a .height) (h .3))) (a .point .during),
     )
 
     full-ends : (r : Turn) (q : ℕ) → Walked p w t r → (r .answer ≡ Refused (NoRoom q)) ↔ NoRoomAt p w t q
@@ -134,12 +138,14 @@ module _ (p w : List ℕ) (t : Input) (yes-program : IsAccepted p) (few : length
           (a .point .during),
     )
 
-    left-with : (r : Turn) (u : ℕ) → Walked p w t r → r .answer ≡ Done u → (s : State) × Leaves p w t s × (used (s .words) ≡ u)
+    left-with : (r : Turn) (u : ℕ) → Walked p w t r → r .answer ≡ Done u →
+        (s : State) × Leaves p w t s × (used (s .words) ≡ u)
     left-with r u (refused e) a = let z : _≡_ {A = ℕ} 0 1 = cc in absurd (omega arith)
     left-with r u (stopped s e q k) a = let z : _≡_ {A = ℕ} 0 1 = cc in absurd (omega arith)
     left-with r u (left s e q k) a = (s, record { during = record { allowed = e; comes = q }; empty = k }, cc)
 
-    as-at-entry : (r : Turn) (v : Refusal) → Walked p w t r → r .answer ≡ Refused v → (r .memory ≡ w) × (r .sinkSpace ≡ sk)
+    as-at-entry : (r : Turn) (v : Refusal) → Walked p w t r → r .answer ≡ Refused v →
+        (r .memory ≡ w) × (r .sinkSpace ≡ sk)
     as-at-entry r v (refused e) a = (refl, refl)
     as-at-entry r v (stopped s e q k) a = (refl, refl)
     as-at-entry r v (left s e q k) a = let z : _≡_ {A = ℕ} 0 1 = cc in absurd (omega arith)
@@ -164,15 +170,21 @@ module _ (p w : List ℕ) (t : Input) (yes-program : IsAccepted p) (few : length
 
     -- what a result leaves: a sound image as long as before, with u grown by what was allocated if the turn completes
     pub record Left (r : Turn) : Type 0 where
-      pub sound-image : Sound p (r .memory)
+      pub sound-image : SoundImage p (r .memory)
       pub same-length : length (r .memory) ≡ length w
       pub grows : (u : ℕ) → r .answer ≡ Done u → (k : ℕ) × Completed p w t k × (used (r .memory) ≡ used w + k)
 
     leaves-sound : (r : Turn) → Walked p w t r → Left r
-    leaves-sound r (refused e) =
-        record { sound-image = image; same-length = refl; grows = λ u a. let z : _≡_ {A = ℕ} 0 1 = cc in absurd (omega arith) }
-    leaves-sound r (stopped s e q k) =
-        record { sound-image = image; same-length = refl; grows = λ u a. let z : _≡_ {A = ℕ} 0 1 = cc in absurd (omega arith) }
+    leaves-sound r (refused e) = record {
+      sound-image = image;
+      same-length = refl;
+      grows = λ u a. let z : _≡_ {A = ℕ} 0 1 = cc in absurd (omega arith);
+    }
+    leaves-sound r (stopped s e q k) = record {
+      sound-image = image;
+      same-length = refl;
+      grows = λ u a. let z : _≡_ {A = ℕ} 0 1 = cc in absurd (omega arith);
+    }
     leaves-sound r (left s e q k) =
         let d : During p w t s = record { allowed = e; comes = q } in
         let l : Leaves p w t s = record { during = d; empty = k } in

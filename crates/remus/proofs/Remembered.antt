@@ -1,20 +1,16 @@
 -- What a completed turn leaves (`finish`): each word of memory, in a cell what its Keep kept, if its deployment has
 -- run, and else what it had (`cells`); and the same deployments.
-use Prim.Native.Nat.{ℕ, _+_, _≤_}
-use mathlib.Core.Path.{_≡_, refl, sym, _∙_, ap, subst}
-use mathlib.Core.Logic.{_⊎_, inl, inr, _≢_}
-use mathlib.Core.List.{List, []}
-use lib.ListN.{length}
+use Rattle.value.specs.Prelude.{ℕ, _+_, _≤_, _≡_, refl, sym, _∙_, ap, subst, _⊎_, inl, inr, _≢_, List, [], length}
 use Rattle.value.specs.declared.Value.{Value}
 use Rattle.value.proofs.Tests.{no}
 use Rattle.program.specs.Command.{cell, keep}
 use Rattle.program.specs.Location.{cmdAt}
 use Rattle.program.proofs.Slots.{slot-early}
 use Rattle.load.specs.Rules.{Rules}
-use Rattle.load.proofs.Exact.Deduced.{all-static}
+use Rattle.load.proofs.Exact.StaticFromRules.{all-static}
 use Rattle.image.specs.Memory.{used, reactor, wired, valueAt}
-use Rattle.image.specs.Sound.{Deployed, InD, Sound}
-use Rattle.image.specs.Whole.{Whole}
+use Rattle.image.specs.Sound.{Deployed, InD, SoundImage}
+use Rattle.image.proofs.Whole.{Whole}
 use Rattle.image.proofs.Memory.Changes.{same-value, unwritten}
 use Rattle.image.proofs.Memory.Alike.{Alike, command-in-D, deployed-to, deployed-back}
 use Rattle.remus.specs.Cells.{kept}
@@ -25,10 +21,11 @@ use Rattle.remus.specs.Claim.{CellIn, Begins, Becomes, stays, Leaves, Af
 use Rattle.remus.specs.Claim as Claim
 use Rattle.remus.proofs.Once.{one-end, empty-ended}
 use Rattle.remus.proofs.Finished.{D-same, closed-alike, closed-length, closed-turns, closed-rest, slot-blank}
-use Rattle.remus.proofs.Keeping.{keptIn, heldThen, passed, KeepOf, its-keep, cell-then, blank-then, kept-alike, kept-whole, finished-sound}
+use Rattle.remus.proofs.CellsFilled.{keptIn, heldThen, passed, KeepOf, its-keep, cell-then, blank-then}
+use Rattle.remus.proofs.CellsFilled.{kept-alike, kept-whole, finished-sound}
 use Rattle.remus.proofs.History.{Finish}
 use Rattle.remus.proofs.Walk.Facts.{Facts}
-use Rattle.remus.proofs.Walk.Story.{Keepable}
+use Rattle.remus.proofs.Walk.MidTurn.{Keepable}
 use Rattle.remus.proofs.Walk.Pile.{state, Inv}
 use Rattle.remus.proofs.Walk.Top.{Onward}
 use Rattle.remus.proofs.Walk.Cells.{kept-pending}
@@ -36,7 +33,7 @@ use Rattle.remus.proofs.Walk.Past.{begins-one, CellOf, its-cell, Past, 
 use Rattle.remus.proofs.Walk.End.{ran?, owner-run, all-wired, waits}
 use Rattle.remus.proofs.Walk.Core as Core
 
-module _ (p : List ℕ) (rules : Rules p) (w : List ℕ) (few : length w ≤ 16384) (image : Sound p w) (t : Input) where
+module _ (p : List ℕ) (rules : Rules p) (w : List ℕ) (few : length w ≤ 16384) (image : SoundImage p w) (t : Input) where
   -- main leaves in one state
   one-leaving : {s s₂ : State} → Leaves p w t s → Leaves p w t s₂ → s₂ ≡ s
   one-leaving {s} {s₂} a b =
@@ -131,7 +128,7 @@ module _ (p : List ℕ) (rules : Rules p) (w : List ℕ) (few : length w ≤ 163
         by : (run d ∈ s .notes) ⊎ (run d ∈ s .notes → ⊥) → Becomes p w t d b x (valueAt p (finished p m) d b)
         by (inr n) =
             let j = k .index in
-            let e = inv .story .idle d j (k .operand) b (k .is) (λ z. n (owner-run p known inv d j z)) in
+            let e = inv .mid .idle d j (k .operand) b (k .is) (λ z. n (owner-run p known inv d j z)) in
             let y : valueAt p (finished p m) d b ≡ x =
             cell-after d b f k ∙ blank-then p (all-static p rules) m whole ready d j b e ∙ sym had in
             subst (Becomes p w t d b x) (sym y)

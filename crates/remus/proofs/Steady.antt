@@ -1,30 +1,27 @@
 -- A turn of an accepted program on a sound image is steady: `steady`. The walk's invariant holds before each command of
 -- the recursive run, since the walk comes there with the run's words. Assumes nothing.
-use Prim.Native.Nat.{ℕ, zero, suc, _+_, _-_, _≤_, _<_}
-use mathlib.Core.Path.{_≡_, refl, _∙_}
-use mathlib.Core.List.{List, [], _∷_, _++_}
-use mathlib.Core.Logic.{_⊎_, inl, inr}
-use native.Mathlib.Omega.{arith}
-use lib.ListN.{length}
+use Rattle.value.specs.Prelude.{ℕ, zero, suc, _+_, _-_, _≤_, _<_, _≡_, refl, _∙_, _⊎_, inl, inr, List, [], _∷_, _++_}
+use Rattle.value.specs.Prelude.{length, arith}
 use Rattle.program.specs.Bytes.{reactors, commandsIn}
-use Rattle.program.specs.Command.{Cmd, cmdOf, bytesOf, supply, consume}
+use Rattle.program.specs.Command.{Cmd, cmdOf, bytesOf, supply, consume, gives}
 use Rattle.program.specs.Location.{commandLoc, sizeOf}
 use Rattle.program.proofs.Decode.{by-code}
 use Rattle.load.specs.Rules.{ZeroBytes, Rules}
 use Rattle.load.proofs.Exact.Static.{ValueBefore, source, made, DeploymentBefore, mono, poly, CellBefore, Static}
 use Rattle.image.specs.Memory.{mostDepth, mainAt, reactor, sizeAt}
-use Rattle.image.specs.Sound.{Deployed, Sound}
+use Rattle.image.specs.Sound.{Deployed, SoundImage}
 use Rattle.image.proofs.Memory.Changes.{Good}
 use Rattle.image.proofs.Memory.Tiles.{in-ge, in-to, in-fits, in-reactor}
 use Rattle.remus.specs.Exec.{Eff, move, call, fail, eff, opening, ready}
 use Rattle.remus.specs.Run.{ran, entered, stepOf, runOf}
-use Rattle.remus.specs.Turn.{fine, askedOf}
+use Rattle.remus.specs.Turn.{askedOf}
+use Rattle.answer.specs.declared.Ruling.the-variants.{Fine}
 use Rattle.remus.specs.Walk.{Note, Frame, notesOf, onto, begun}
 use Rattle.remus.specs.Steady.{ReadsUpTo, Fits, Through, Orderly, Steady}
 use Rattle.remus.proofs.Walk.Facts.{Facts, facts}
 use Rattle.remus.proofs.Walk.Pile.{frame, state, Inv, height-bound}
 use Rattle.remus.proofs.Walk.Top.{Onward, onward-on, top-frame}
-use Rattle.remus.proofs.Walk.Moves.{ready-kept}
+use Rattle.remus.proofs.Walk.StepsKeep.{ready-kept}
 use Rattle.remus.proofs.Walk.Walking.{Legal}
 use Rattle.remus.proofs.Walk.Readings.{globals-legal}
 use Rattle.remus.proofs.Walk.Begin.{begun-holds}
@@ -83,7 +80,7 @@ module _ (p : List ℕ) (rules : Rules p) where
 
   low : {w m : List ℕ} {o i : ℕ} {fs : List Frame} {ns : List Note} → Inv p w (state m (frame o i ∷ fs) ns)
       → reactor m o < reactors p
-  low v = in-reactor p (v .story .good .tiles) (top-frame p v .deployed)
+  low v = in-reactor p (v .mid .good .tiles) (top-frame p v .deployed)
 
   -- a deployment of r has its words
   has-words : {m : List ℕ} {o r : ℕ} → Good p m → Deployed p m o → reactor m o ≡ r → o + sizeOf p r ≤ length m
@@ -103,7 +100,7 @@ module _ (p : List ℕ) (rules : Rules p) where
           same = k .same;
           above = in-ge p t;
           below = in-to p t;
-          within = has-words (k .inv .story .good) t (k .same);
+          within = has-words (k .inv .mid .good) t (k .same);
           declares = s .in-D i;
           runs = λ d. s .in-R i d h;
           reads = reads-up-to p (reactor m o) s i h (rules .every-reactor (reactor m o) (low v) .zero-bytes i h);
@@ -111,8 +108,8 @@ module _ (p : List ℕ) (rules : Rules p) where
           operators = λ a b e z. operator-named p known (k .inv) l (k .wired-then) a b (rw (k .same) e) z .0;
           supplies = λ x a b e z. can-here p known (k .inv) l (supply x a b) (rw (k .same) e) .1 z .0;
           consumes = λ x b e z.
-              let c = can-here p known (k .inv) l (consume x b) (rw (k .same) e) in
-              in-reactor p (k .inv .story .good .tiles) (k .inv .piled .ran _ (c .1 z .1) .0);
+              let c = can-here p known (k .inv) l (gives (consume x b)) (rw (k .same) e) in
+              in-reactor p (k .inv .mid .good .tiles) (k .inv .piled .ran _ (c .1 z .1) .0);
         }
 
     module _ (rd : List ℕ) (legal : Legal p rd) where
@@ -185,7 +182,7 @@ module _ (p : List ℕ) (rules : Rules p) where
         )
 
 -- main's run in a turn that 10 to 13 do not refuse
-pub steady : (p : List ℕ) → Rules p → (w rd sk : List ℕ) → Sound p w → askedOf p w rd sk ≡ fine
+pub steady : (p : List ℕ) → Rules p → (w rd sk : List ℕ) → SoundImage p w → askedOf p w rd sk ≡ Fine
     → Steady p rd mostDepth 1 w mainAt
 unfolding begun
 steady p rules w rd sk sound asked =

@@ -1,7 +1,8 @@
--- Undoing: what a run never breaks, whatever the readings, and how a refused turn's words are brought back from it. Assumes nothing.
+-- Undoing: what a run never breaks, whatever the readings, and how a refused turn's words are brought
+-- back from it. Assumes nothing.
 pub mod Search
-pub mod Firm
-pub mod Keeping
+pub mod Unbroken
+pub mod UnbrokenKept
 pub mod Writes
 pub mod Growing
 pub mod Effects

@@ -1,10 +1,6 @@
--- All starred cases of 01 and those of the requests, as one table with a single claim: what each row asks, the
--- definitions answer as the row says. Sizes, and n and u with them, are those of 02 (viii).
-use Prim.Native.Nat.{ℕ, zero, suc, _+_, _*_}
-use mathlib.Core.Path.{_≡_, refl}
-use mathlib.Core.Bool.{true, false}
-use mathlib.Core.List.{List, [], _∷_, _++_}
-use lib.ListN.{replicate, take, set}
+-- The bench cases in one table with one claim: what each row asks, the definitions answer as the row says.
+use Rattle.value.specs.Prelude.{ℕ, zero, suc, _+_, _*_, _≡_, refl, true, false, List, [], _∷_, _++_, set, take}
+use Rattle.value.specs.Prelude.{replicate}
 use lib.IntN.{ℤ, pos, negsuc}
 use Rattle.value.specs.Test.{pick, _=?_}
 use Rattle.value.specs.Value.{blankMark, keptMark, value, blank, number, truth}
@@ -13,11 +9,10 @@ use Rattle.value.specs.declared.Value.{Value}
 use Rattle.load.specs.Programs.{zeros, joined, command, withCommand, clock, nest, toggle, stocked, ticking, graded}
 use Rattle.load.specs.Programs.{peak, last, counters}
 use Rattle.load.specs.Check as Check
+use Rattle.answer.specs.Answer.{placeOf, numberOf, refusalNumber, refusalPlace}
 use Rattle.image.specs.Memory.{word, used}
-use Rattle.image.specs.Start as Start
 use Rattle.image.specs.Start.{startOf}
-use Rattle.load.specs.Refusal.{refusalNumber, refusalPlace}
-use Rattle.remus.specs.Turn.{Turn, turnOf, numberOf, placeOf}
+use Rattle.remus.specs.Turn.{Turn, turnOf}
 use Rattle.remus.specs.Run.{Ran, ran, stopped, mainRun}
 use Rattle.remus.specs.Undo.{undoOf}
 use Rattle.remus.specs.Walk.{Next, go, stop, over, steps, begun}
@@ -76,8 +71,8 @@ ended (stop w) = refusalNumber w ∷ refusalPlace w ∷ []
 ended (over s) = 0 ∷ used (s .words) ∷ []
 
 unfoldable pub answerOf : Ask → List ℕ
-answerOf (checks p) = let c = Check.checkOf p in Check.numberOf c ∷ Check.placeOf c ∷ []
-answerOf (starts p n) = let s = startOf p (replicate n 7) in Start.numberOf (s .answer) ∷ Start.placeOf (s .answer) ∷ []
+answerOf (checks p) = let c = Check.checkOf p in numberOf c ∷ placeOf c ∷ []
+answerOf (starts p n) = let s = startOf p (replicate n 7) in numberOf (s .answer) ∷ placeOf (s .answer) ∷ []
 answerOf (turns p n rds sk) = after rds p (startOf p (replicate n 7) .memory) sk
 answerOf (resumes p m rd) = let t = turnOf p m rd (9 ∷ 9 ∷ []) in numberOf (t .answer) ∷ placeOf (t .answer) ∷ []
 answerOf (walks p n rd) = ended (steps p rd 1000 (begun p (startOf p (replicate n 7) .memory)))
@@ -157,15 +152,16 @@ aboutCheck =
     ∷ checked (set clock 38 1) 4 36  -- *
     ∷ checked nest 0 13
     ∷ checked toggle 0 31
-    -- 02 (x): refused by name at the command's byte, after 3 and before 4
+    -- 5.35 refused by name at the command's byte, after 3 and before 4
     ∷ checked stocked 25 126
     ∷ checked (set stocked 130 1) 3 126  -- a third operand, which it never took
     ∷ checked (set stocked 128 29) 25 126  -- an operand that names no location
     ∷ row (starts stocked 55) (25 ∷ 126 ∷ [])
-    ∷ checked ticking 0 31  -- 02 (xii)
+    ∷ checked ticking 0 31  -- 1.24
     ∷ checked (set toggle 71 14) 3 70  -- no primitive has this number
-    ∷ checked graded 0 19  -- 02 (iv)
-    -- 02 (vi): the toggle with one command out of order among those that deploy, supply, run and read at location 11
+    ∷ checked graded 0 19  -- 1.19
+    -- 5.16, 5.29 to 5.31 the toggle with one command out of order among those that deploy, supply, run and read at
+    -- location 11
     ∷ checked (withCommand toggle 190 (command 5 0 3 11 0)) 6 190  -- source 0 again
     ∷ checked (withCommand (withCommand toggle 206 (command 8 0 1 0 0)) 214 (command 8 0 1 0 0)) 6 214  -- the sink
     ∷ checked (withCommand toggle 190 (command 6 0 0 11 0)) 19 190  -- React before source 1 is supplied
@@ -175,7 +171,7 @@ aboutCheck =
     ∷ checked (withCommand toggle 182 (command 9 0 10 0 0)) 20 182  -- a second AllocPoly
     ∷ checked (withCommand toggle 86 (command 1 2 0 0 0)) 21 86  -- AllocMono of its own reactor
     ∷ checked (withCommand toggle 206 (command 5 2 2 11 0)) 5 206  -- a late Supply to no source: 5 comes first
-    -- 02 (v)
+    -- 2.43 to 2.45 programs with cells
     ∷ checked peak 0 19
     ∷ checked last 0 13
     ∷ checked counters 0 41
@@ -196,7 +192,7 @@ aboutPrimitives =
     gives 3 (number (negsuc 2147483647)) (number (negsuc 0)) nothing  -- *
     ∷ gives 3 (number (negsuc 6)) (number (pos 2)) (int (negsuc 2))  -- *
     ∷ gives 5 blank (number (pos 5)) nothing  -- *
-    -- 02 (xii)
+    -- 1.24 tick differences
     ∷ gives 13 (number (negsuc 2147483647)) (number (pos 2147483647)) (int (pos 1))  -- one past the highest, less it
     ∷ gives 13 (number (pos 2147483647)) (number (negsuc 2147483647)) (int (negsuc 0))  -- and the other way
     ∷ gives 13 (number (pos 0)) (number (negsuc 2147483647)) (int (negsuc 2147483647))  -- half a turn
@@ -204,7 +200,7 @@ aboutPrimitives =
     ∷ gives 13 (number (pos 5)) (number (pos 7)) (int (negsuc 1))
     ∷ gives 13 blank (number (pos 5)) nothing
     ∷ gives 13 (number (pos 5)) blank nothing
-    -- 02 (iv): the whole tables of `and` and `or`
+    -- 1.19, 1.20 the whole tables of `and` and `or`
     ∷ across 8 yes yes no blank
     ++ across 8 no no no no
     ++ across 8 blank blank no blank
@@ -228,13 +224,13 @@ aboutTurns =
     ((0 ∷ 44 ∷ 1 ∷ 1 ∷ 2 ∷ []) ++ ((0 ∷ 55 ∷ 2 ∷ 1 ∷ 12 ∷ []) ++ (0 ∷ 55 ∷ 3 ∷ 1 ∷ 2 ∷ [])))
     ∷ row (turns toggle 54 (replicate 3 (1 ∷ 7 ∷ 1 ∷ 5 ∷ [])) (9 ∷ 9 ∷ []))  -- one word short for plus, each time
     ((0 ∷ 44 ∷ 1 ∷ 1 ∷ 2 ∷ []) ++ ((14 ∷ 0 ∷ 1 ∷ 9 ∷ 9 ∷ []) ++ (14 ∷ 0 ∷ 1 ∷ 9 ∷ 9 ∷ [])))
-    ∷ row (turns ticking 55 ((1 ∷ 2147483648 ∷ 1 ∷ 2147483647 ∷ []) ∷ []) (9 ∷ 9 ∷ []))  -- as 13 above: 02 (xii)
+    ∷ row (turns ticking 55 ((1 ∷ 2147483648 ∷ 1 ∷ 2147483647 ∷ []) ∷ []) (9 ∷ 9 ∷ []))  -- as 13 above
     (0 ∷ 44 ∷ 1 ∷ 1 ∷ 1 ∷ [])
-    -- 02 (iv): settled by the first count, by the second, by neither
+    -- 1.19 settled by the first count, by the second, by neither
     ∷ row (turns graded 21 ((1 ∷ 100 ∷ 0 ∷ 0 ∷ []) ∷ []) (9 ∷ 9 ∷ [])) (0 ∷ 21 ∷ 1 ∷ 2 ∷ 0 ∷ [])
     ∷ row (turns graded 21 ((0 ∷ 0 ∷ 1 ∷ 8 ∷ []) ∷ []) (9 ∷ 9 ∷ [])) (0 ∷ 21 ∷ 1 ∷ 2 ∷ 0 ∷ [])
     ∷ row (turns graded 21 ((1 ∷ 99 ∷ 0 ∷ 0 ∷ []) ∷ []) (9 ∷ 9 ∷ [])) (0 ∷ 21 ∷ 1 ∷ 0 ∷ 0 ∷ [])
-    -- 02 (v): the first content, a greater, a blank, a refused turn, a smaller, a greater
+    -- 3.24 the first content, a greater, a blank, a refused turn, a smaller, a greater
     ∷ row (turns peak 21
     ((1 ∷ 3 ∷ []) ∷ (1 ∷ 5 ∷ []) ∷ (0 ∷ 0 ∷ []) ∷ (7 ∷ 0 ∷ []) ∷ (1 ∷ 2 ∷ []) ∷ (1 ∷ 9 ∷ []) ∷ []) (9 ∷ 9 ∷ []))
     ((0 ∷ 21 ∷ 1 ∷ 1 ∷ 4 ∷ []) ++ ((0 ∷ 21 ∷ 2 ∷ 1 ∷ 5 ∷ []) ++ ((0 ∷ 21 ∷ 3 ∷ 1 ∷ 5 ∷ [])
@@ -258,7 +254,7 @@ aboutTurns =
 abbrev aboutImages : List Row
 aboutImages =
     row (resumes toggle twoTurns (1 ∷ 7 ∷ 1 ∷ 5 ∷ [])) (0 ∷ 55 ∷ [])
-    -- the places of 9: 02 (vi)
+    -- 5.19 the places of 9
     ∷ faulty (set twoTurns 0 54) 0  -- u inside a deployment
     ∷ faulty (set twoTurns 1 2147483648) 0  -- the turns
     ∷ faulty (set twoTurns 33 3) 0  -- no such reactor, so no tiling
@@ -273,14 +269,14 @@ aboutImages =
     ∷ faulty (set (set twoTurns 46 0) 47 1) 44  -- own words come before names
     ∷ faulty (set twoTurns 1 0) 2  -- turns 0, and main is wired
     ∷ faulty twoFresh 33  -- the second deployment
-    -- what a cell may hold: 02 (v)
+    -- 3.19 what a cell may hold
     ∷ resumed (number (negsuc 4)) 0 21
     ∷ resumed blank 0 21
     ∷ resumed (value blankMark 1) 9 2  -- a blank with content
     ∷ resumed yes 9 2  -- another kind
     ∷ resumed (value keptMark 0) 9 2  -- a blank as it waits within a turn
     ∷ row (resumes clock (9 ∷ zeros 8) []) (0 ∷ 9 ∷ [])  -- a clock as a start leaves it
-    ∷ row (resumes clock (11 ∷ zeros 10) []) (9 ∷ 0 ∷ [])  -- as one left it before 02 (viii)
+    ∷ row (resumes clock (11 ∷ zeros 10) []) (9 ∷ 0 ∷ [])  -- as a release with larger sizes left it
     ∷ row (resumes nest (nested 64) []) (15 ∷ 0 ∷ [])  -- depth 64 is sound
     ∷ row (resumes nest (nested 65) []) (9 ∷ 0 ∷ [])  -- and 65 is not: a depth has no place
     ∷ []

@@ -1,12 +1,12 @@
--- Cells in a turn: 02 (v). What is kept waits in the Keep's own slot and goes into the cell when the turn completes, so
--- that a Fetch reads what the cell held as the turn began, and a refused turn changes none.
-use Prim.Native.Nat.{ℕ, zero, suc, _+_}
-use mathlib.Core.List.{List}
+-- 6.20, 6.22 Cells in a turn. What is kept waits in the Keep's own slot and goes into the cell when the turn completes,
+-- so that a Fetch reads what the cell held as the turn began, and a refused turn changes none.
+use Rattle.value.specs.Prelude.{ℕ, zero, suc, _+_, List}
 use Rattle.value.specs.Test.{pick, _=?_}
 use Rattle.value.specs.Value.{value, blank, isBlank, keptMark}
 use Rattle.value.specs.declared.Value.{Value}
-use Rattle.program.specs.Bytes.{declared, running}
-use Rattle.program.specs.Command.{Cmd, cmdOf, allocMono, makePoly, constant, global, supply, react, consume, sink, allocPoly, primitive, cell, fetch, keep, none}
+use Rattle.program.specs.Bytes.{commandsD, commandsR}
+use Rattle.program.specs.Command.{Cmd, cmdOf, allocMono, makePoly, supply, react, sink, allocPoly, cell, keep, none}
+use Rattle.program.specs.Command.{gives}
 use Rattle.program.specs.Location.{commandLoc}
 use Rattle.image.specs.Memory.{reactor, valueAt, store, startsBelow}
 use Rattle.image.specs.Passes.{over}
@@ -24,16 +24,12 @@ module _ (p : List ℕ) where
   unfoldable pub keepBy : List ℕ → ℕ → ℕ → Cmd → List ℕ
   keepBy m o l (allocMono x) = m
   keepBy m o l (makePoly x) = m
-  keepBy m o l (constant x v) = m
-  keepBy m o l (global x) = m
+  keepBy m o l (cell x v) = m
+  keepBy m o l (gives g) = m
   keepBy m o l (supply x a b) = m
   keepBy m o l (react b) = m
-  keepBy m o l (consume x b) = m
   keepBy m o l (sink x a) = m
   keepBy m o l (allocPoly a b) = m
-  keepBy m o l (primitive x a b c) = m
-  keepBy m o l (cell x v) = m
-  keepBy m o l (fetch b) = m
   keepBy m o l (keep a b) = pick (isBlank (valueAt p m o l)) m (store p m o b (kept (valueAt p m o l)))
   keepBy m o l none = m
 
@@ -44,7 +40,7 @@ module _ (p : List ℕ) where
 
   -- one deployment's cells
   unfoldable pub keepOne : List ℕ → ℕ → List ℕ
-  keepOne m o = keepFrom (running p (reactor m o)) (declared p (reactor m o)) m o
+  keepOne m o = keepFrom (commandsR p (reactor m o)) (commandsD p (reactor m o)) m o
 
   -- the cells of every deployment below u
   unfoldable pub keepOf : ℕ → List ℕ → List ℕ

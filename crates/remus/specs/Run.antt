@@ -1,9 +1,8 @@
--- The recursive run. "React on a nested deployment runs it to its end before the next command of the outer one; an unwired one runs D first."
-use Prim.Native.Nat.{ℕ, zero, suc, _+_, _-_}
-use mathlib.Core.List.{List}
+-- 6.5, 6.6 The run, by recursion: a nested deployment is run whole before the outer one goes on.
+use Rattle.value.specs.Prelude.{ℕ, zero, suc, _+_, _-_, List}
 use Rattle.program.specs.Bytes.{commandsIn}
-use Rattle.load.specs.declared.Refusal.{Refusal}
-use Rattle.load.specs.declared.Refusal.the-variants.{TooDeep}
+use Rattle.answer.specs.declared.Refusal.{Refusal}
+use Rattle.answer.specs.declared.Refusal.the-variants.{TooDeep}
 use Rattle.image.specs.Memory.{mostDepth, mainAt, reactor}
 use Rattle.remus.specs.Exec.{Eff, move, call, fail, eff, opening, ready}
 
@@ -30,7 +29,8 @@ commands step (suc n) i m = andThen (commands step n (i + 1)) (step i m)
 unfoldable pub stepOf : (List ℕ → ℕ → Ran) → List ℕ → List ℕ → ℕ → ℕ → ℕ → List ℕ → Ran
 stepOf enter p rd h o i m = entered enter (ready p m o i) (eff p rd h m o i)
 
--- the deployment o at depth h, with so many levels left. At no level left it does not run; a sound image and 15 keep a run from coming to that.
+-- the deployment o at depth h, with so many levels left. At no level left it does not run; a sound image and 15
+-- keep a run from coming to that.
 unfoldable pub runOf : ℕ → List ℕ → List ℕ → ℕ → List ℕ → ℕ → Ran
 runOf zero p rd h m o = stopped (TooDeep (reactor m o)) m
 runOf (suc f) p rd h m o =

@@ -4,16 +4,12 @@
 -- reads past its own location; an allocation is of one of the program's reactors; a Supply comes to a source that its
 -- deployment has, and a Consume's deployment has one of the program's reactors; no run is deeper than 64. It holds in
 -- each turn of an accepted program on a sound image: `steady` in proofs/Steady.antt.
-use Prim.Native.Nat.{ℕ, zero, suc, _+_, _-_, _≤_, _<_}
-use mathlib.Core.Path.{_≡_}
-use mathlib.Core.Bool.{true, false}
-use mathlib.Core.List.{List}
-use lib.ListN.{length}
+use Rattle.value.specs.Prelude.{ℕ, zero, suc, _+_, _-_, _≤_, _<_, _≡_, true, false, List, length}
 use Rattle.value.specs.Value.{isBlank}
-use Rattle.program.specs.Bytes.{reactors, declared, commandsIn}
+use Rattle.program.specs.Bytes.{reactors, commandsD, commandsIn}
 use Rattle.program.specs.Command.{Cmd, cmdOf, sequenceOf, D, R, allocMono, makePoly, constant, global, supply, react}
-use Rattle.program.specs.Command.{consume, sink, allocPoly, primitive, cell, fetch, keep, none}
-use Rattle.program.specs.Location.{sources, commandLoc, sizeOf}
+use Rattle.program.specs.Command.{gives, consume, sink, allocPoly, primitive, cell, fetch, keep, none}
+use Rattle.program.specs.Location.{sourceCount, commandLoc, sizeOf}
 use Rattle.image.specs.Memory.{mainAt, used, reactor, content, valueAt}
 use Rattle.remus.specs.Exec.{call, there, eff, opening, ready}
 use Rattle.remus.specs.Run.{Ran, ran, stepOf, runOf}
@@ -22,16 +18,16 @@ use Rattle.remus.specs.Run.{Ran, ran, stepOf, runOf}
 abbrev pub ReadsUpTo : ℕ → Cmd → Type 0
 ReadsUpTo l (allocMono x) = Unit {0}
 ReadsUpTo l (makePoly x) = Unit {0}
-ReadsUpTo l (constant x v) = Unit {0}
-ReadsUpTo l (global x) = Unit {0}
+ReadsUpTo l (cell x v) = Unit {0}
+ReadsUpTo l (gives (constant x v)) = Unit {0}
+ReadsUpTo l (gives (global x)) = Unit {0}
+ReadsUpTo l (gives (consume x b)) = b ≤ l
+ReadsUpTo l (gives (primitive x a b c)) = (a ≤ l) × (b ≤ l) × (c ≤ l)
+ReadsUpTo l (gives (fetch b)) = b ≤ l
 ReadsUpTo l (supply x a b) = (a ≤ l) × (b ≤ l)
 ReadsUpTo l (react b) = b ≤ l
-ReadsUpTo l (consume x b) = b ≤ l
 ReadsUpTo l (sink x a) = a ≤ l
 ReadsUpTo l (allocPoly a b) = (a ≤ l) × (b ≤ l)
-ReadsUpTo l (primitive x a b c) = (a ≤ l) × (b ≤ l) × (c ≤ l)
-ReadsUpTo l (cell x v) = Unit {0}
-ReadsUpTo l (fetch b) = b ≤ l
 ReadsUpTo l (keep a b) = (a ≤ l) × (b ≤ l)
 ReadsUpTo l none = Unit {0}
 
@@ -41,15 +37,15 @@ pub record Fits (p : List ℕ) (r : ℕ) (m : List ℕ) (o i : ℕ) : Type 0 whe
   pub above : mainAt ≤ o
   pub below : o < used m
   pub within : o + sizeOf p r ≤ length m
-  pub declares : i < declared p r → sequenceOf (cmdOf p r i) ≡ D
-  pub runs : declared p r ≤ i → sequenceOf (cmdOf p r i) ≡ R
+  pub declares : i < commandsD p r → sequenceOf (cmdOf p r i) ≡ D
+  pub runs : commandsD p r ≤ i → sequenceOf (cmdOf p r i) ≡ R
   pub reads : ReadsUpTo (commandLoc p r i) (cmdOf p r i)
   pub allocates : (x : ℕ) → cmdOf p r i ≡ allocMono x → x < reactors p
   pub operators : (a b : ℕ) → cmdOf p r i ≡ allocPoly a b → isBlank (valueAt p m o a) ≡ false
       → content p m o a < reactors p
   pub supplies : (x a b : ℕ) → cmdOf p r i ≡ supply x a b → there p m o b ≡ true
-      → x < sources p (reactor m (content p m o b))
-  pub consumes : (x b : ℕ) → cmdOf p r i ≡ consume x b → there p m o b ≡ true
+      → x < sourceCount p (reactor m (content p m o b))
+  pub consumes : (x b : ℕ) → cmdOf p r i ≡ gives (consume x b) → there p m o b ≡ true
       → reactor m (content p m o b) < reactors p
 
 -- `good` holds before each of the n commands from i on that `step` comes to

@@ -1,43 +1,34 @@
 -- The call turn, whole: answer and every lent word.
-use Prim.Native.Nat.{ℕ, _+_, _*_}
-use mathlib.Core.List.{List}
-use lib.ListN.{length}
+use Rattle.value.specs.Prelude.{ℕ, _+_, _*_, List, length}
 use Rattle.value.specs.Test.{_<?_, _≤?_, _=?_, guard, sweep}
 use Rattle.value.specs.Value.{value}
 use Rattle.value.specs.declared.Value.{Value}
 use Rattle.program.specs.Bytes.{globals, globalKind, mainOf}
-use Rattle.program.specs.Location.{sinks}
+use Rattle.program.specs.Location.{sinkCount}
 use Rattle.program.specs.Kind.{legal}
 use Rattle.load.specs.Check.{checkOf}
-use Rattle.load.specs.Refusal.{refusalNumber, refusalPlace}
-use Rattle.load.specs.declared.Checked.{Checked}
-use Rattle.load.specs.declared.Checked.the-variants.{Accepted, Refused as CheckRefused}
-use Rattle.load.specs.declared.Refusal.{Refusal}
-use Rattle.load.specs.declared.Refusal.the-variants.{MemoryLength, UnsoundImage, ReadingsLength, Reading, SinkSpace, Clock}
+use Rattle.answer.specs.declared.Answer.{Answer}
+use Rattle.answer.specs.declared.Answer.the-variants.{Done, Refused}
+use Rattle.answer.specs.declared.Refusal.{Refusal}
+use Rattle.answer.specs.declared.Ruling.{Ruling}
+use Rattle.answer.specs.declared.Ruling.the-variants.{Fine, Against}
+use Rattle.answer.specs.declared.Refusal.the-variants.{MemoryLength, UnsoundImage, ReadingsLength, Reading, SinkSpace}
+use Rattle.answer.specs.declared.Refusal.the-variants.{Clock}
 use Rattle.image.specs.Memory.{mostTurns, word, used, turns}
-use Rattle.image.specs.Passes.{Judged, sound, unsound, soundOf}
+use Rattle.image.specs.Passes.{soundOf}
+use Rattle.image.specs.declared.Judged.{Judged}
+use Rattle.image.specs.declared.Judged.the-variants.{Sound, Unsound}
 use Rattle.image.specs.Start.{wordsLegal}
 use Rattle.remus.specs.Run.{Ran, ran, stopped, mainRun}
 use Rattle.remus.specs.Clear.{finished, sunk}
-use Rattle.remus.specs.declared.Turned.{Turned}
-use Rattle.remus.specs.declared.Turned.the-variants.{Done, Refused}
-
--- this paper's number and place of an answer
-abbrev pub numberOf : Turned → ℕ
-numberOf (Done u) = 0
-numberOf (Refused w) = refusalNumber w
-
-abbrev pub placeOf : Turned → ℕ
-placeOf (Done u) = u
-placeOf (Refused w) = refusalPlace w
 
 -- an answer, the memory and the sink space then
 pub record Turn : Type 0 where
-  pub answer : Turned
+  pub answer : Answer
   pub memory : List ℕ
   pub sinkSpace : List ℕ
 
--- reading k, from 0: the pair of global k + 1
+-- 4.8 Reading k, from 0: the pair of global k + 1.
 unfoldable pub readingAt : List ℕ → ℕ → Value
 readingAt rd k = value (word rd (2 * k)) (word rd (2 * k + 1))
 
@@ -45,42 +36,39 @@ readingAt rd k = value (word rd (2 * k)) (word rd (2 * k + 1))
 unfoldable pub badReading : List ℕ → List ℕ → ℕ
 badReading p rd = sweep (λ k. legal p (globalKind p (k + 1)) (readingAt rd k)) 0 (globals p)
 
--- 10 to 13: what one turn brings, and the clock
-pub data Asked : Type 0 where
-  fine : Asked
-  asked : Refusal → Asked
-
-unfoldable pub askedOf : List ℕ → List ℕ → List ℕ → List ℕ → Asked
+-- 5.20 to 5.23 What one turn brings, and the clock.
+unfoldable pub askedOf : List ℕ → List ℕ → List ℕ → List ℕ → Ruling
 askedOf p m rd sk =
-    guard (length rd =? 2 * globals p) (asked (ReadingsLength (length rd))) (λ _.
+    guard (length rd =? 2 * globals p) (Against (ReadingsLength (length rd))) (λ _.
     let k = badReading p rd in
-    guard (k =? globals p) (asked (Reading k)) (λ _.
-    guard (2 * sinks p (mainOf p) ≤? length sk) (asked (SinkSpace (2 * sinks p (mainOf p)))) (λ _.
-    guard (turns m <? mostTurns) (asked Clock) (λ _. fine))))
+    guard (k =? globals p) (Against (Reading k)) (λ _.
+    guard (2 * sinkCount p (mainOf p) ≤? length sk) (Against (SinkSpace (2 * sinkCount p (mainOf p)))) (λ _.
+    guard (turns m <? mostTurns) (Against Clock) (λ _. Fine))))
 
 -- m the memory and sk the sink space at entry
 module _ (p m rd sk : List ℕ) where
-  -- "A refused call leaves memory and sink space as at entry."
-  unfoldable pub refused : Refusal → Turn
-  refused w = record { answer = Refused w; memory = m; sinkSpace = sk }
+  -- 4.11 Refused: memory and sink space stay as they were.
+  unfoldable pub turnRefused : Refusal → Turn
+  turnRefused w = record { answer = Refused w; memory = m; sinkSpace = sk }
 
   -- 14 and 15, or 0
   unfoldable pub byRun : Ran → Turn
   byRun (ran m′) = record { answer = Done (used m′); memory = finished p m′; sinkSpace = sunk p m′ sk }
-  byRun (stopped w m′) = refused w
+  byRun (stopped w m′) = turnRefused w
 
-  unfoldable pub byAsked : Asked → Turn
-  byAsked fine = byRun (mainRun p rd m)
-  byAsked (asked w) = refused w
+  unfoldable pub byAsked : Ruling → Turn
+  byAsked Fine = byRun (mainRun p rd m)
+  byAsked (Against w) = turnRefused w
 
   unfoldable pub bySound : Judged → Turn
-  bySound sound = byAsked (askedOf p m rd sk)
-  bySound (unsound q) = refused (UnsoundImage q)
+  bySound Sound = byAsked (askedOf p m rd sk)
+  bySound (Unsound q) = turnRefused (UnsoundImage q)
 
-  unfoldable pub byCheck : Checked → Turn
-  byCheck (Accepted size) = guard (wordsLegal (length m)) (refused (MemoryLength (length m))) (λ _. bySound (soundOf p m))
-  byCheck (CheckRefused w) = refused w
+  unfoldable pub byCheck : Answer → Turn
+  byCheck (Done size) =
+      guard (wordsLegal (length m)) (turnRefused (MemoryLength (length m))) (λ _. bySound (soundOf p m))
+  byCheck (Refused w) = turnRefused w
 
-  -- "Then 8, 9, 10, 11, 12, 13; at an allocation 15 before 14."
+  -- 5.6 A turn: the program's own refusals, 8, 9, 10 to 13, and then the run.
   unfoldable pub turnOf : Turn
   turnOf = byCheck (checkOf p)

@@ -1,17 +1,14 @@
--- How the words of a refused turn are brought back in place, from those at its end and the u of its beginning. "A refused call leaves memory and sink space as at entry."
-use Prim.Native.Nat.{ℕ, zero, suc, _+_, _-_}
-use mathlib.Core.Path.{_≡_}
-use mathlib.Core.Bool.{Bool, true, false}
-use mathlib.Core.List.{List}
-use lib.ListN.{length, replicate}
+-- 6.27 How the words of a refused turn are brought back in place, from those at its end and the u of its beginning.
+use Rattle.value.specs.Prelude.{ℕ, zero, suc, _+_, _-_, _≡_, Bool, true, false, List, length, replicate}
 use Rattle.value.specs.Test.{_≤?_, _=?_, guard}
 use Rattle.value.specs.Value.{value, pointMark}
-use Rattle.program.specs.Bytes.{reactors, declared}
-use Rattle.program.specs.Command.{Made, deployment, point, held, nothing, madeBy, cmdOf}
-use Rattle.program.specs.Location.{commandLoc}
-use Rattle.load.specs.declared.Refusal.{Refusal}
-use Rattle.image.specs.Sound.{Sound}
-use Rattle.image.specs.Memory.{mainAt, used, turns, reactor, next, withUsed, withWired, patch, content, store, startsBelow}
+use Rattle.program.specs.Bytes.{reactors, commandsD}
+use Rattle.program.specs.Command.{Made, deployment, point, held, nought, madeBy, cmdOf}
+use Rattle.program.specs.Location.{headWords, commandLoc}
+use Rattle.answer.specs.declared.Refusal.{Refusal}
+use Rattle.image.specs.Sound.{SoundImage}
+use Rattle.image.specs.Memory.{mainAt, used, turns, reactor, next, withUsed, withWired, patch, content, store}
+use Rattle.image.specs.Memory.{startsBelow}
 use Rattle.image.specs.Passes.{over}
 use Rattle.remus.specs.Run.{stopped, mainRun}
 use Rattle.remus.specs.Clear.{clearOne}
@@ -28,16 +25,17 @@ module _ (p : List ℕ) (u : ℕ) where
   slotBack m o l (deployment x) = m
   slotBack m o l (point x) = store p m o l (value pointMark (below (reactors p + 1) m u (content p m o l)))
   slotBack m o l (held x) = m
-  slotBack m o l nothing = m
+  slotBack m o l nought = m
 
   -- the n D slots from j on
   unfoldable pub slotsBack : ℕ → ℕ → List ℕ → ℕ → List ℕ
   slotsBack zero j m o = m
-  slotsBack (suc n) j m o = slotsBack n (j + 1) (slotBack m o (commandLoc p (reactor m o) j) (madeBy (cmdOf p (reactor m o) j))) o
+  slotsBack (suc n) j m o =
+      slotsBack n (j + 1) (slotBack m o (commandLoc p (reactor m o) j) (madeBy (cmdOf p (reactor m o) j))) o
 
   -- an old deployment: its branch points' heads, and its other slots zero
   unfoldable pub oneBack : List ℕ → ℕ → List ℕ
-  oneBack m o = clearOne p (slotsBack (declared p (reactor m o)) 0 m o) o
+  oneBack m o = clearOne p (slotsBack (commandsD p (reactor m o)) 0 m o) o
 
   -- all words from i on zero
   unfoldable pub zeroFrom : ℕ → List ℕ → List ℕ
@@ -45,7 +43,7 @@ module _ (p : List ℕ) (u : ℕ) where
 
   -- in the first turn main was unwired and its slots zero
   unfoldable pub back : Bool → List ℕ → List ℕ
-  back true m = withWired (zeroFrom (mainAt + 3) m) mainAt 0
+  back true m = withWired (zeroFrom (mainAt + headWords) m) mainAt 0
   back false m = zeroFrom u (over oneBack m (startsBelow p m u))
 
   unfoldable pub undoOf : List ℕ → List ℕ
@@ -53,4 +51,4 @@ module _ (p : List ℕ) (u : ℕ) where
 
 -- For a program that the check accepts: `refused-undone` in proofs/Demand.antt.
 abbrev pub Undoes : List ℕ → Type 0
-Undoes p = (m rd m′ : List ℕ) (w : Refusal) → Sound p m → mainRun p rd m ≡ stopped w m′ → undoOf p (used m) m′ ≡ m
+Undoes p = (m rd m′ : List ℕ) (w : Refusal) → SoundImage p m → mainRun p rd m ≡ stopped w m′ → undoOf p (used m) m′ ≡ m

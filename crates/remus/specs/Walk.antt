@@ -1,20 +1,18 @@
--- The walk of 01, "Lists of turns". "It has words of its own, at first as start leaves them, and in a turn a pile of open deployments and some notes,
--- each on one deployment: on a location of it, or on its having run."
-use Prim.Native.Nat.{ℕ, zero, suc, _+_}
-use mathlib.Core.Path.{_≡_}
-use mathlib.Core.Bool.{Bool, true, false}
-use mathlib.Core.List.{List, [], _∷_, _++_}
-use lib.ListN.{length}
+-- Section 6 of the manual step by step: the walk. Beside words it has the open deployments (6.1), the newest first, and
+-- notes (6.28).
+use Rattle.value.specs.Prelude.{ℕ, zero, suc, _+_, _≡_, Bool, true, false, List, [], _∷_, _++_, length}
 use Rattle.value.specs.Test.{_=?_}
 use Rattle.program.specs.Bytes.{commandsIn}
-use Rattle.program.specs.Command.{Cmd, cmdOf, allocMono, makePoly, constant, global, supply, react, consume, sink, allocPoly, primitive, cell, fetch, keep, none}
+use Rattle.program.specs.Command.{Cmd, cmdOf, allocMono, makePoly, supply, react, sink, allocPoly, cell, keep, none}
+use Rattle.program.specs.Command.{gives}
 use Rattle.program.specs.Location.{sinkLoc, commandLoc}
-use Rattle.load.specs.declared.Refusal.{Refusal}
+use Rattle.answer.specs.declared.Refusal.{Refusal}
 use Rattle.image.specs.Memory.{mainAt, used, reactor, content}
 use Rattle.remus.specs.Exec.{Eff, move, call, fail, there, eff, opening, ready}
 use Rattle.remus.specs.Clear.{finished, sunk}
-use Rattle.remus.specs.Turn.{Turn, fine, asked, askedOf}
-use Rattle.remus.specs.declared.Turned.the-variants.{Done, Refused}
+use Rattle.remus.specs.Turn.{Turn, askedOf}
+use Rattle.answer.specs.declared.Ruling.the-variants.{Fine, Against}
+use Rattle.answer.specs.declared.Answer.the-variants.{Done, Refused}
 
 pub data Note : Type 0 where
   location : (d l : ℕ) → Note
@@ -43,45 +41,42 @@ pub data Next : Type 0 where
   over : State → Next
 
 module _ (p : List ℕ) where
-  -- by whether there is a deployment: "On a blank deployment Supply and React note nothing and open nothing."
+  -- 6.28 What a Supply notes, by whether there is a deployment.
   unfoldable pub suppliedNote : Bool → ℕ → ℕ → List Note
   suppliedNote true d x = location d x ∷ []
   suppliedNote false d x = []
 
-  -- what command i of o notes, m the words before it. "A command that gives a value notes its own location, and so does an AllocPoly; Supply notes the source, Sink the own sink."
-  -- A Fetch gives a value; Keep notes its cell: 02 (v).
+  -- 6.28 What command i of o notes, m the words before it.
   unfoldable pub notesOf : List ℕ → ℕ → ℕ → Cmd → List Note
   notesOf m o i (allocMono x) = []
   notesOf m o i (makePoly x) = []
-  notesOf m o i (constant x v) = location o (commandLoc p (reactor m o) i) ∷ []
-  notesOf m o i (global x) = location o (commandLoc p (reactor m o) i) ∷ []
+  notesOf m o i (cell x v) = []
+  notesOf m o i (gives g) = location o (commandLoc p (reactor m o) i) ∷ []
   notesOf m o i (supply x a b) = suppliedNote (there p m o b) (content p m o b) x
   notesOf m o i (react b) = []
-  notesOf m o i (consume x b) = location o (commandLoc p (reactor m o) i) ∷ []
   notesOf m o i (sink x a) = location o (sinkLoc p (reactor m o) x) ∷ []
   notesOf m o i (allocPoly a b) = location o (commandLoc p (reactor m o) i) ∷ []
-  notesOf m o i (primitive x a b c) = location o (commandLoc p (reactor m o) i) ∷ []
-  notesOf m o i (cell x v) = []
-  notesOf m o i (fetch b) = location o (commandLoc p (reactor m o) i) ∷ []
   notesOf m o i (keep a b) = location o b ∷ []
   notesOf m o i none = []
 
-  -- what a command's effect makes of the pile. "React opens its deployment on top"
+  -- 6.6 What a command's effect makes of the open deployments: React puts one on top.
   unfoldable pub onto : ℕ → ℕ → List Frame → List Note → Eff → Next
   onto o i fs ns (move m) = go (state m (frame o (i + 1) ∷ fs) ns)
   onto o i fs ns (call m d) = go (state m (frame d (opening p m d) ∷ frame o (i + 1) ∷ fs) ns)
   onto o i fs ns (fail w) = stop w
 
-  -- "Any other drops all notes and any pile that a refused turn left, and opens main."
+  -- 6.1, 6.28 How a turn begins: main alone is open, and there are no notes.
   unfoldable pub begun : List ℕ → State
   begun m = state m (frame mainAt (opening p m mainAt) ∷ []) []
 
 -- rd the turn's readings
 module _ (p rd : List ℕ) where
-  -- by whether o is at its end: "at its end that one is noted as run and leaves"; else "A step carries out the topmost's next command"
+  -- 6.5, 6.6 By whether o is at its end: then there is a note that it has run, and it leaves; else its next command
+  -- follows.
   unfoldable pub stepAt : Bool → List ℕ → ℕ → ℕ → List Frame → List Note → Next
   stepAt true m o i fs ns = go (state m fs (run o ∷ ns))
-  stepAt false m o i fs ns = onto p o i fs (notesOf p (ready p m o i) o i (cmdOf p (reactor m o) i) ++ ns) (eff p rd (suc (length fs)) m o i)
+  stepAt false m o i fs ns =
+      onto p o i fs (notesOf p (ready p m o i) o i (cmdOf p (reactor m o) i) ++ ns) (eff p rd (suc (length fs)) m o i)
 
   -- a step, or a leaving between two steps
   unfoldable pub stepOn : List ℕ → List Frame → List Note → Next
@@ -106,24 +101,30 @@ module _ (p rd : List ℕ) where
   steps zero s = go s
   steps (suc k) s = onwards (steps k) (step s)
 
--- what one turn brings: "Each turn brings readings and sink space of its own, of any length and content."
+-- 6.34 What one turn brings: any readings and any sink space.
 pub record Input : Type 0 where
   pub readings : List ℕ
   pub sinkSpace : List ℕ
 
--- the number, place, memory and sink words of the walk's turn from the words m
+-- 6.34 What the walk's turn from the words m comes to.
 pub data Walked (p m : List ℕ) (t : Input) : Turn → Type 0 where
-  -- "A turn that 10 to 13 refuse takes no step."
-  refused : {w : Refusal} → askedOf p m (t .readings) (t .sinkSpace) ≡ asked w
+  -- 6.1 Refused by 10 to 13, before any step.
+  refused : {w : Refusal} → askedOf p m (t .readings) (t .sinkSpace) ≡ Against w
       → Walked p m t (record { answer = Refused w; memory = m; sinkSpace = t .sinkSpace })
-  -- "At 65 the turn ends with 15; else, if its size exceeds n less u at that moment, with 14; the words are then as before the turn."
-  stopped : {w : Refusal} (s : State) → askedOf p m (t .readings) (t .sinkSpace) ≡ fine → Reach p (t .readings) (begun p m) s → step p (t .readings) s ≡ stop w
+  -- 6.14, 6.26 Refused by 15 or 14 at an allocation; no word has changed then.
+  stopped : {w : Refusal} (s : State) → askedOf p m (t .readings) (t .sinkSpace) ≡ Fine
+      → Reach p (t .readings) (begun p m) s → step p (t .readings) s ≡ stop w
       → Walked p m t (record { answer = Refused w; memory = m; sinkSpace = t .sinkSpace })
-  -- "When main leaves, the turn ends with 0."
-  left : (s : State) → askedOf p m (t .readings) (t .sinkSpace) ≡ fine → Reach p (t .readings) (begun p m) s → s .pile ≡ []
-      → Walked p m t (record { answer = Done (used (s .words)); memory = finished p (s .words); sinkSpace = sunk p (s .words) (t .sinkSpace) })
+  -- 6.1, 6.24 Completed, as main has come to its end.
+  left : (s : State) → askedOf p m (t .readings) (t .sinkSpace) ≡ Fine → Reach p (t .readings) (begun p m) s
+      → s .pile ≡ [] → Walked p m t (record {
+        answer = Done (used (s .words));
+        memory = finished p (s .words);
+        sinkSpace = sunk p (s .words) (t .sinkSpace);
+      })
 
 -- the same of a list of turns, each on the words that the one before left
 pub data Walks (p : List ℕ) : List ℕ → List Input → List Turn → Type 0 where
   no-turn : {m : List ℕ} → Walks p m [] []
-  and-then : {m : List ℕ} {t : Input} {ts : List Input} {r : Turn} {rs : List Turn} → Walked p m t r → Walks p (r .memory) ts rs → Walks p m (t ∷ ts) (r ∷ rs)
+  and-then : {m : List ℕ} {t : Input} {ts : List Input} {r : Turn} {rs : List Turn} → Walked p m t r
+      → Walks p (r .memory) ts rs → Walks p m (t ∷ ts) (r ∷ rs)

@@ -1,15 +1,13 @@
 -- The loops that copy: after k steps, k of one list and the rest of the other.
 -- Assumes nothing.
-use Prim.Native.Nat.{ℕ, zero, suc, _+_, _*_, _/_, _%_, _<_, _≤_}
-use native.Mathlib.Omega.{arith}
+use Rattle.value.specs.Prelude.{ℕ, zero, suc, _+_, _*_, _/_, _%_, _≤_, _<_, _≡_, refl, sym, _∙_, ap, List, [], _∷_}
+use Rattle.value.specs.Prelude.{_++_, length, getD, set, take, drop, arith}
 use native.Mathlib.Nat.{not-suc-le-zero, le-of-suc-le-suc}
 use native.Mathlib.Numerals.{add-one}
-use mathlib.Core.Path.{_≡_, refl, sym, ap, _∙_}
-use mathlib.Core.List.{List, [], _∷_, _++_}
-use lib.ListN.{length, getD, set, take, drop, length-set}
+use lib.ListN.{length-set}
 use lib.Seq.{take-length}
 use Rattle.rig.specs.Words.{word, wordsOf, bytesOf, holding}
-use Rattle.rig.specs.Rooms.{putAt}
+use Rattle.rig.specs.Contracts.{putAt}
 
 copy-suc : (k : ℕ) (xs d : List ℕ) → k < length xs → k < length d
     → set (take k xs ++ drop k d) k (getD xs k 0) ≡ take (suc k) xs ++ drop (suc k) d

@@ -1,33 +1,35 @@
 -- No turn writes past the first 14 words of the sink space, nor reads any of it.
 -- Assumes nothing.
-use Prim.Native.Nat.{ℕ, _+_, _*_, _/_, _≤_, min}
-use mathlib.Core.Path.{_≡_, refl, sym, ap, _∙_}
-use mathlib.Core.List.{List, _++_, append-assoc}
-use native.Mathlib.Omega.{arith}
-use lib.ListN.{length, take, drop, length-append, take-append-drop}
+use Rattle.value.specs.Prelude.{ℕ, _+_, _*_, _/_, _≤_, min, _≡_, refl, sym, _∙_, ap, List, _++_, append-assoc, length}
+use Rattle.value.specs.Prelude.{take, drop, arith}
+use lib.ListN.{length-append, take-append-drop}
 use lib.Seq.{length-take-le, drop-append-le}
 use Rattle.value.specs.Test.{_≤?_}
 use Rattle.value.proofs.Tests.{same-test, le?, le!, cases, goes, stops}
 use Rattle.program.specs.Bytes.{mainOf}
-use Rattle.program.specs.Location.{sinks}
-use Rattle.load.specs.Check as Check
+use Rattle.program.specs.Location.{sinkCount}
+use Rattle.answer.specs.Answer.{numberOf}
 use Rattle.load.specs.Check.{checkOf}
-use Rattle.load.specs.declared.Checked.{Checked}
-use Rattle.load.specs.declared.Checked.the-variants.{Accepted, Refused}
+use Rattle.answer.specs.declared.Answer.{Answer}
+use Rattle.answer.specs.declared.Answer.the-variants.{Done, Refused}
 use Rattle.load.proofs.Exact.{exact}
 use Rattle.load.proofs.Exact.Bounds.{main-last}
 use Rattle.image.specs.Memory.{patch}
 use Rattle.image.specs.Start.{wordsLegal}
-use Rattle.image.specs.Passes.{Judged, sound, unsound, soundOf}
+use Rattle.image.specs.Passes.{soundOf}
+use Rattle.image.specs.declared.Judged.{Judged}
+use Rattle.image.specs.declared.Judged.the-variants.{Sound, Unsound}
 use Rattle.remus.specs.Clear.{pairs, sunk}
 use Rattle.remus.specs.Run.{Ran, ran, stopped, mainRun}
-use Rattle.remus.specs.Turn.{Turn, turnOf, byCheck, bySound, byAsked, byRun, Asked, fine, asked, askedOf, refused}
+use Rattle.remus.specs.Turn.{Turn, turnOf, byCheck, bySound, byAsked, byRun, askedOf, turnRefused}
+use Rattle.answer.specs.declared.Ruling.{Ruling}
+use Rattle.answer.specs.declared.Ruling.the-variants.{Fine, Against}
 use Rattle.remus.proofs.Sinks.{pairs-length}
 use Rattle.machine.proofs.Turning.{sinks-fit}
 use Rattle.rig.specs.Words.{wordsOf, holding}
 use Rattle.rig.specs.Laws.{Bytes}
-use Rattle.rig.specs.Face.{turnAnswer, turnBytes}
-use Rattle.rig.specs.Rooms.{Faced, faced, turnFaced, held}
+use Rattle.rig.specs.Face.{oneNumber, turnBytes, Faced, faced, turnFaced}
+use Rattle.rig.specs.Contracts.{held}
 use Rattle.rig.proofs.Copying.{words-count}
 use Rattle.rig.proofs.Holding.{hold-rest}
 
@@ -37,10 +39,10 @@ longer rest t = record { answer = t .answer; memory = t .memory; sinkSpace = t .
 
 -- sk has room for main's sinks if it has with the rest
 abbrev Enough : List ℕ → List ℕ → List ℕ → Type 0
-Enough p sk rest = 2 * sinks p (mainOf p) ≤ length (sk ++ rest) → 2 * sinks p (mainOf p) ≤ length sk
+Enough p sk rest = 2 * sinkCount p (mainOf p) ≤ length (sk ++ rest) → 2 * sinkCount p (mainOf p) ≤ length sk
 
 module _ (p m rd sk rest : List ℕ) (enough : Enough p sk rest) where
-  same-room : (2 * sinks p (mainOf p) ≤? length (sk ++ rest)) ≡ (2 * sinks p (mainOf p) ≤? length sk)
+  same-room : (2 * sinkCount p (mainOf p) ≤? length (sk ++ rest)) ≡ (2 * sinkCount p (mainOf p) ≤? length sk)
   same-room =
       same-test _ _ (λ e. le! (enough (le? e))) (λ e. let h = le? e in le! (omega (arith, h, length-append sk rest)))
 
@@ -48,43 +50,43 @@ module _ (p m rd sk rest : List ℕ) (enough : Enough p sk rest) where
   unfolding askedOf
   asked-alike = rw same-room
 
-  sunk-alike : (m′ : List ℕ) → 2 * sinks p (mainOf p) ≤ length sk → sunk p m′ (sk ++ rest) ≡ sunk p m′ sk ++ rest
+  sunk-alike : (m′ : List ℕ) → 2 * sinkCount p (mainOf p) ≤ length sk → sunk p m′ (sk ++ rest) ≡ sunk p m′ sk ++ rest
   unfolding sunk patch pairs
   sunk-alike m′ h =
-      let l = pairs-length p m′ (sinks p (mainOf p)) 0 in
+      let l = pairs-length p m′ (sinkCount p (mainOf p)) 0 in
       let n = 0 + length (pairs p m′) in
       rw (drop-append-le n sk rest (omega (arith, l))) (sym (append-assoc (pairs p m′) (drop n sk) rest))
 
-  ran-alike : (x : Ran) → 2 * sinks p (mainOf p) ≤ length sk
+  ran-alike : (x : Ran) → 2 * sinkCount p (mainOf p) ≤ length sk
       → byRun p m rd (sk ++ rest) x ≡ longer rest (byRun p m rd sk x)
-  unfolding byRun refused
+  unfolding byRun turnRefused
   ran-alike (ran m′) h = rw (sunk-alike m′ h)
   ran-alike (stopped w m′) h = refl
 
-  brought-alike : (a : Asked) → askedOf p m rd sk ≡ a
+  brought-alike : (a : Ruling) → askedOf p m rd sk ≡ a
       → byAsked p m rd (sk ++ rest) a ≡ longer rest (byAsked p m rd sk a)
-  unfolding byAsked refused
-  brought-alike fine e = ran-alike (mainRun p rd m) (sinks-fit p m rd sk e)
-  brought-alike (asked w) e = refl
+  unfolding byAsked turnRefused
+  brought-alike Fine e = ran-alike (mainRun p rd m) (sinks-fit p m rd sk e)
+  brought-alike (Against w) e = refl
 
   sound-alike : (j : Judged) → bySound p m rd (sk ++ rest) j ≡ longer rest (bySound p m rd sk j)
-  unfolding bySound refused
-  sound-alike sound = rw asked-alike (brought-alike (askedOf p m rd sk) refl)
-  sound-alike (unsound q) = refl
+  unfolding bySound turnRefused
+  sound-alike Sound = rw asked-alike (brought-alike (askedOf p m rd sk) refl)
+  sound-alike (Unsound q) = refl
 
   accepted-alike : (size : ℕ)
-      → byCheck p m rd (sk ++ rest) (Accepted size) ≡ longer rest (byCheck p m rd sk (Accepted size))
-  unfolding byCheck refused
+      → byCheck p m rd (sk ++ rest) (Done size) ≡ longer rest (byCheck p m rd sk (Done size))
+  unfolding byCheck turnRefused
   accepted-alike size =
       cases (wordsLegal (length m))
       (λ e. sym (goes _ _ e refl) ∙ sound-alike (soundOf p m) ∙ ap (longer rest) (goes _ _ e refl))
       (λ e. sym (stops _ e refl) ∙ ap (longer rest) (stops _ e refl))
 
 -- an accepted program's main has at most 7 sinks
-has-few : (p : List ℕ) (size : ℕ) → checkOf p ≡ Accepted size → sinks p (mainOf p) ≤ 7
-unfolding sinks
+has-few : (p : List ℕ) (size : ℕ) → checkOf p ≡ Done size → sinkCount p (mainOf p) ≤ 7
+unfolding sinkCount
 has-few p size e =
-    let t = (exact p .0 (ap Check.numberOf e)) .tables in
+    let t = (exact p .0 (ap numberOf e)) .tables in
     t .every-shape _ (t .entries (mainOf p) (main-last (t .header)) .shape) .few-sinks
 
 -- the first 14 words of sk, or all
@@ -92,10 +94,10 @@ module _ (p m rd sk : List ℕ) (k : ℕ) (e : k ≡ min (length sk) 14) where
   cut : length (take k sk) ≡ k
   cut = length-take-le k sk (omega arith)
 
-  by-check : (c : Checked) → checkOf p ≡ c
+  by-check : (c : Answer) → checkOf p ≡ c
       → byCheck p m rd (take k sk ++ drop k sk) c ≡ longer (drop k sk) (byCheck p m rd (take k sk) c)
-  unfolding byCheck refused
-  by-check (Accepted size) a =
+  unfolding byCheck turnRefused
+  by-check (Done size) a =
       let f = has-few p size a in
       let n = ap length (take-append-drop k sk) in
       accepted-alike p m rd (take k sk) (drop k sk) (λ h. omega (arith, f, n, cut)) size
@@ -125,7 +127,7 @@ module _ (p m m′ rd sk w w′ b : List ℕ) (k : ℕ) (h : Bytes sk) (l : k �
     pub first-words : w ≡ take k (wordsOf sk) → b ≡ holding sk w′
         → (a : ℕ) → faced a m′ w′ ≡ held m (turnFaced (turnOf p (wordsOf m) (wordsOf rd) w))
         → faced a m′ b ≡ turnFaced (turnBytes p m rd sk)
-    unfolding faced held turnFaced turnBytes turnAnswer
+    unfolding faced held turnFaced turnBytes oneNumber
     first-words e f a t =
         let answer = ap (λ (x : Faced). x .answer) t in
         let memory = ap (λ (x : Faced). x .memory) t in

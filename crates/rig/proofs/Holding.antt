@@ -1,10 +1,7 @@
 -- Bytes that are given words: `hold-same`, and that words which are their own already make no difference.
 -- Assumes nothing.
-use Prim.Native.Nat.{ℕ, suc, _+_, _*_, _/_, _%_, _<_, _≤_}
-use mathlib.Core.Path.{_≡_, refl, sym, ap, _∙_}
-use mathlib.Core.List.{List, [], _∷_, _++_}
-use native.Mathlib.Omega.{arith}
-use lib.ListN.{length, take, drop}
+use Rattle.value.specs.Prelude.{ℕ, suc, _+_, _*_, _/_, _%_, _≤_, _<_, _≡_, refl, sym, _∙_, ap, List, [], _∷_, _++_}
+use Rattle.value.specs.Prelude.{length, take, drop, arith}
 use lib.Seq.{take-length}
 use Rattle.rig.specs.Words.{word, wordsOf, bytesOf, holding}
 use Rattle.rig.specs.Laws.{Bytes, HeldSame}

@@ -1,28 +1,25 @@
 -- More readings than any program takes: refused as 63 words are, but for their number.
 -- Assumes nothing.
-use Prim.Native.Nat.{ℕ, _*_, _/_, _≤_, _<_}
-use mathlib.Core.Path.{_≡_, refl, sym, ap, _∙_}
-use mathlib.Core.Logic.{_≢_}
-use mathlib.Core.List.{List}
-use native.Mathlib.Omega.{arith}
-use lib.ListN.{length, take}
+use Rattle.value.specs.Prelude.{ℕ, _*_, _/_, _≤_, _<_, _≡_, refl, sym, _∙_, ap, _≢_, List, length, take, arith}
 use lib.Seq.{length-take-le}
 use Rattle.value.proofs.Tests.{cases, eq×, eq!, no, yes, stops, goes}
 use Rattle.program.specs.Bytes.{globals}
-use Rattle.load.specs.Check as Check
+use Rattle.answer.specs.Answer.{numberOf, refusalNumber, refusalPlace}
 use Rattle.load.specs.Check.{checkOf}
-use Rattle.load.specs.Refusal.{refusalNumber, refusalPlace}
-use Rattle.load.specs.declared.Checked.{Checked}
-use Rattle.load.specs.declared.Checked.the-variants.{Accepted, Refused}
-use Rattle.load.specs.declared.Refusal.{Refusal}
-use Rattle.load.specs.declared.Refusal.the-variants.{MemoryLength, ReadingsLength, UnsoundImage}
+use Rattle.answer.specs.declared.Answer.{Answer}
+use Rattle.answer.specs.declared.Answer.the-variants.{Done, Refused}
+use Rattle.answer.specs.declared.Refusal.{Refusal}
+use Rattle.answer.specs.declared.Refusal.the-variants.{MemoryLength, ReadingsLength, UnsoundImage}
 use Rattle.load.proofs.Exact.{exact}
 use Rattle.image.specs.Start.{wordsLegal}
-use Rattle.image.specs.Passes.{Judged, sound, unsound, soundOf}
-use Rattle.remus.specs.Turn.{Turn, turnOf, byCheck, bySound, byAsked, askedOf, asked, refused}
+use Rattle.image.specs.Passes.{soundOf}
+use Rattle.image.specs.declared.Judged.{Judged}
+use Rattle.image.specs.declared.Judged.the-variants.{Sound, Unsound}
+use Rattle.remus.specs.Turn.{Turn, turnOf, byCheck, bySound, byAsked, askedOf, turnRefused}
+use Rattle.answer.specs.declared.Ruling.the-variants.{Against}
 use Rattle.rig.specs.Words.{wordsOf, packed}
-use Rattle.rig.specs.Face.{turnAnswer}
-use Rattle.rig.specs.Rooms.{Faced, faced, turnFaced, held, placedAt}
+use Rattle.rig.specs.Face.{oneNumber, Faced, faced, turnFaced}
+use Rattle.rig.specs.Contracts.{held, placedAt}
 use Rattle.rig.proofs.Copying.{words-count}
 use Rattle.rig.proofs.Holding.{all-words}
 use Rattle.rig.proofs.Numbers.{check-else}
@@ -34,34 +31,34 @@ placed n f = faced (placedAt 10 n (f .answer)) (f .memory) (f .sinkSpace)
 
 module _ (p m rd rd₁ sk : List ℕ) where
   not-ten : (n : ℕ) (w : Refusal) → refusalNumber w ≢ 10
-      → turnFaced (refused p m rd sk w) ≡ placed n (turnFaced (refused p m rd₁ sk w))
-  unfolding refused placed placedAt turnFaced turnAnswer faced
+      → turnFaced (turnRefused p m rd sk w) ≡ placed n (turnFaced (turnRefused p m rd₁ sk w))
+  unfolding turnRefused placed placedAt turnFaced oneNumber faced
   not-ten n w h =
       let u = unpacked (refusalNumber w) (refusalPlace w) .0 in
       ap (λ (a : ℕ). faced a m sk) (no (packed 10 n) (eq× (λ e. h (sym u ∙ e))) refl)
 
-  ten : (n k : ℕ)
-      → turnFaced (refused p m rd sk (ReadingsLength n)) ≡ placed n (turnFaced (refused p m rd₁ sk (ReadingsLength k)))
-  unfolding refused placed placedAt turnFaced turnAnswer faced
+  ten : (n k : ℕ) → turnFaced (turnRefused p m rd sk (ReadingsLength n))
+      ≡ placed n (turnFaced (turnRefused p m rd₁ sk (ReadingsLength k)))
+  unfolding turnRefused placed placedAt turnFaced oneNumber faced
   ten n k = ap (λ (a : ℕ). faced a m sk) (yes (packed 10 k) (eq! (unpacked 10 k .0)) refl)
 
   -- neither is as long as the program asks
   module _ (u : length rd ≢ 2 * globals p) (u₁ : length rd₁ ≢ 2 * globals p) where
-    unlike : askedOf p m rd sk ≡ asked (ReadingsLength (length rd))
+    unlike : askedOf p m rd sk ≡ Against (ReadingsLength (length rd))
     unfolding askedOf
     unlike = sym (stops _ (eq× u) refl)
 
-    unlike₁ : askedOf p m rd₁ sk ≡ asked (ReadingsLength (length rd₁))
+    unlike₁ : askedOf p m rd₁ sk ≡ Against (ReadingsLength (length rd₁))
     unfolding askedOf
     unlike₁ = sym (stops _ (eq× u₁) refl)
 
     judged : (j : Judged) → turnFaced (bySound p m rd sk j) ≡ placed (length rd) (turnFaced (bySound p m rd₁ sk j))
     unfolding bySound byAsked
-    judged sound = rw (unlike, unlike₁) (ten (length rd) (length rd₁))
-    judged (unsound q) = not-ten (length rd) (UnsoundImage q) (λ e. omega arith)
+    judged Sound = rw (unlike, unlike₁) (ten (length rd) (length rd₁))
+    judged (Unsound q) = not-ten (length rd) (UnsoundImage q) (λ e. omega arith)
 
-    accepted : (size : ℕ) → turnFaced (byCheck p m rd sk (Accepted size))
-        ≡ placed (length rd) (turnFaced (byCheck p m rd₁ sk (Accepted size)))
+    accepted : (size : ℕ) → turnFaced (byCheck p m rd sk (Done size))
+        ≡ placed (length rd) (turnFaced (byCheck p m rd₁ sk (Done size)))
     unfolding byCheck
     accepted size =
         cases (wordsLegal (length m))
@@ -71,14 +68,14 @@ module _ (p m rd rd₁ sk : List ℕ) where
         ∙ ap (λ (t : Turn). placed (length rd) (turnFaced t)) (stops _ e refl))
 
 -- an accepted program takes at most 62 words of readings
-takes-few : (p : List ℕ) (size : ℕ) → checkOf p ≡ Accepted size → globals p ≤ 31
-takes-few p size e = (exact p .0 (ap Check.numberOf e)) .tables .header .few-globals
+takes-few : (p : List ℕ) (size : ℕ) → checkOf p ≡ Done size → globals p ≤ 31
+takes-few p size e = (exact p .0 (ap numberOf e)) .tables .header .few-globals
 
 module _ (p m rd rd₁ sk : List ℕ) (l : 62 < length rd) (l₁ : 62 < length rd₁) where
-  by-check : (c : Checked) → checkOf p ≡ c
+  by-check : (c : Answer) → checkOf p ≡ c
       → turnFaced (byCheck p m rd sk c) ≡ placed (length rd) (turnFaced (byCheck p m rd₁ sk c))
   unfolding byCheck
-  by-check (Accepted size) e =
+  by-check (Done size) e =
       let g = takes-few p size e in
       accepted p m rd rd₁ sk (λ h. omega (arith, g)) (λ h. omega (arith, g)) size
   by-check (Refused w) e = not-ten p m rd rd₁ sk (length rd) w (check-else p w e .1)

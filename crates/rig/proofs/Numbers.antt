@@ -1,15 +1,11 @@
 -- The check's refusals have other numbers than those for lengths of memory and readings.
 -- Assumes nothing.
-use Prim.Native.Nat.{ℕ}
-use mathlib.Core.Path.{_≡_, subst, ap}
-use mathlib.Core.List.{List}
-use mathlib.Core.Logic.{inl, inr, _≢_}
-use native.Mathlib.Omega.{arith}
-use Rattle.load.specs.Check.{checkOf, numberOf}
-use Rattle.load.specs.Refusal.{refusalNumber}
+use Rattle.value.specs.Prelude.{ℕ, _≡_, ap, subst, inl, inr, _≢_, List, arith}
+use Rattle.load.specs.Check.{checkOf}
+use Rattle.answer.specs.Answer.{numberOf, refusalNumber}
 use Rattle.load.specs.Fault.{CheckNumber}
-use Rattle.load.specs.declared.Refusal.{Refusal}
-use Rattle.load.specs.declared.Checked.the-variants.{Refused}
+use Rattle.answer.specs.declared.Refusal.{Refusal}
+use Rattle.answer.specs.declared.Answer.the-variants.{Refused}
 use Rattle.load.proofs.Exact.Faults.{check-numbers}
 
 -- neither 8 nor 10

@@ -1,20 +1,18 @@
 -- The laws of specs/Laws.antt.
 -- Assumes nothing.
-use Prim.Native.Nat.{ℕ, suc, _+_, _-_, _*_, _/_, _%_, _<_, min}
-use mathlib.Core.Path.{_≡_, refl, sym, ap, _∙_}
-use mathlib.Core.List.{List, [], _∷_, _++_}
-use native.Mathlib.Omega.{arith}
-use lib.ListN.{length, drop, getD, length-append, length-drop}
+use Rattle.value.specs.Prelude.{ℕ, suc, _+_, _-_, _*_, _/_, _%_, _<_, min, _≡_, refl, sym, _∙_, ap, List, [], _∷_, _++_}
+use Rattle.value.specs.Prelude.{length, getD, drop, arith}
+use lib.ListN.{length-append, length-drop}
 use lib.Seq.{getD-append-add, getD-drop}
 use Rattle.value.specs.Test.{pick, _<?_}
 use Rattle.value.proofs.Tests.{cases, yes, no, lt?, lt×?}
 use Rattle.rig.specs.Words.{word, wordsOf, bytesOf, holding, packed, mostPlace}
 use Rattle.image.proofs.Memory.Starting.{start-keeps}
-use Rattle.remus.proofs.Kept.{refused-keeps}
+use Rattle.remus.proofs.RefusedLeaves.{refused-keeps}
 use Rattle.rig.specs.Face.{startBytes, turnBytes}
 use Rattle.rig.specs.Laws.{HeldWords, HeldRest, HeldSame, Unpacked, StartKeepsBytes, RefusedKeepsBytes}
 use Rattle.rig.proofs.Copying.{words-length, bytes-length}
-use Rattle.rig.proofs.Holding.{four, hold-more, hold-same}
+use Rattle.rig.proofs.Holding.{hold-more, hold-same}
 
 pub held-same : HeldSame
 held-same = hold-same

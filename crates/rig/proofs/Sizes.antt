@@ -1,25 +1,20 @@
 -- A call in a room of words; and a memory of more words than any room has: refused by the check, else 8.
 -- Assumes nothing.
-use Prim.Native.Nat.{ℕ, _+_, _/_, _<_}
-use mathlib.Core.Path.{_≡_, refl, sym, ap, _∙_}
-use mathlib.Core.Bool.{false}
-use mathlib.Core.List.{List, [], _++_}
-use native.Mathlib.Omega.{arith}
-use lib.ListN.{length}
+use Rattle.value.specs.Prelude.{ℕ, _+_, _/_, _<_, _≡_, refl, sym, _∙_, ap, false, List, [], _++_, length, arith}
 use Rattle.value.proofs.Tests.{eq×, eq!, no, yes, stops, left×, right×, le×}
 use Rattle.load.specs.Check.{checkOf}
-use Rattle.load.specs.Refusal.{refusalNumber, refusalPlace}
-use Rattle.load.specs.declared.Checked.{Checked}
-use Rattle.load.specs.declared.Checked.the-variants as Check
-use Rattle.load.specs.declared.Refusal.{Refusal}
-use Rattle.load.specs.declared.Refusal.the-variants.{MemoryLength}
+use Rattle.answer.specs.Answer.{refusalNumber, refusalPlace}
+use Rattle.answer.specs.declared.Answer.{Answer}
+use Rattle.answer.specs.declared.Answer.the-variants.{Done, Refused}
+use Rattle.answer.specs.declared.Refusal.{Refusal}
+use Rattle.answer.specs.declared.Refusal.the-variants.{MemoryLength}
 use Rattle.image.specs.Memory.{mostWords}
-use Rattle.image.specs.Start.{startOf, startBy, wordsLegal, refused as refused-start}
-use Rattle.remus.specs.Turn.{turnOf, byCheck, refused}
+use Rattle.image.specs.Start.{startOf, startBy, wordsLegal, startRefused as refused-start}
+use Rattle.remus.specs.Turn.{turnOf, byCheck, turnRefused}
 use Rattle.rig.specs.Words.{wordsOf, bytesOf, holding, packed}
 use Rattle.rig.specs.Laws.{Bytes}
-use Rattle.rig.specs.Face.{startAnswer, turnAnswer}
-use Rattle.rig.specs.Rooms.{Faced, faced, turnFaced, callOf, held, placedAt}
+use Rattle.rig.specs.Face.{oneNumber, Faced, faced, turnFaced}
+use Rattle.rig.specs.Contracts.{callOf, held, placedAt}
 use Rattle.rig.specs.declared.Call.{Call}
 use Rattle.rig.specs.declared.Call.the-variants as C
 use Rattle.rig.proofs.Copying.{words-count}
@@ -36,26 +31,26 @@ in-room m w w₀ b e f what p rd sk sk′ a h = rw (← e, ← h, f)
 -- ---- a memory whose length is not legal
 
 -- why its n words are refused
-abbrev why : ℕ → Checked → Refusal
-why n (Check.Accepted size) = MemoryLength n
-why n (Check.Refused w) = w
+abbrev why : ℕ → Answer → Refusal
+why n (Done size) = MemoryLength n
+why n (Refused w) = w
 
 abbrev answer : Refusal → ℕ
 answer w = packed (refusalNumber w) (refusalPlace w)
 
 module _ (p w rd sk : List ℕ) (l : wordsLegal (length w) ≡ false) where
-  start-refused : (c : Checked) → startBy p w c ≡ refused-start w (why (length w) c)
+  start-refused : (c : Answer) → startBy p w c ≡ refused-start w (why (length w) c)
   unfolding startBy
-  start-refused (Check.Accepted size) = sym (stops _ l refl)
-  start-refused (Check.Refused v) = refl
+  start-refused (Done size) = sym (stops _ l refl)
+  start-refused (Refused v) = refl
 
-  turn-refused : (c : Checked) → byCheck p w rd sk c ≡ refused p w rd sk (why (length w) c)
+  turn-refused : (c : Answer) → byCheck p w rd sk c ≡ turnRefused p w rd sk (why (length w) c)
   unfolding byCheck
-  turn-refused (Check.Accepted size) = sym (stops _ l refl)
-  turn-refused (Check.Refused v) = refl
+  turn-refused (Done size) = sym (stops _ l refl)
+  turn-refused (Refused v) = refl
 
   call-refused : (what : Call) → callOf what p w rd sk ≡ faced (answer (why (length w) (checkOf p))) w sk
-  unfolding callOf startOf turnOf turnFaced startAnswer turnAnswer refused refused-start
+  unfolding callOf startOf turnOf turnFaced oneNumber turnRefused refused-start
   call-refused C.Start = rw (start-refused (checkOf p))
   call-refused C.Turn = rw (turn-refused (checkOf p))
 
@@ -69,11 +64,11 @@ unfolding wordsLegal
 many n h = right× _ (le× h)
 
 -- a refusal of k words as that of n
-of-words : (n k : ℕ) (c : Checked) → ((w : Refusal) → c ≡ Check.Refused w → Else (refusalNumber w))
+of-words : (n k : ℕ) (c : Answer) → ((w : Refusal) → c ≡ Refused w → Else (refusalNumber w))
     → placedAt 8 n (answer (why k c)) ≡ answer (why n c)
 unfolding placedAt
-of-words n k (Check.Accepted size) f = sym (yes _ (eq! (unpacked 8 k .0)) refl)
-of-words n k (Check.Refused w) f =
+of-words n k (Done size) f = sym (yes _ (eq! (unpacked 8 k .0)) refl)
+of-words n k (Refused w) f =
     let u = unpacked (refusalNumber w) (refusalPlace w) .0 in sym (no _ (eq× (λ e. f w refl .0 (sym u ∙ e))) refl)
 
 -- m has more words than any room; what the call answers for none of them, a, tells what it answers for m

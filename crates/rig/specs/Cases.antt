@@ -1,16 +1,13 @@
--- Calls on bytes by computing: the clock on memory and sink space with bytes past the last whole word.
-use Prim.Native.Nat.{ℕ, _+_, _*_}
-use mathlib.Core.Path.{_≡_, refl}
-use mathlib.Core.List.{List, [], _∷_, _++_}
-use lib.ListN.{replicate}
+-- 4.22 Calls on bytes by computing: the clock on slices whose last bytes make no word.
+use Rattle.value.specs.Prelude.{ℕ, _+_, _*_, _≡_, refl, List, [], _∷_, _++_, replicate}
 use Rattle.load.specs.Check.{checkOf}
 use Rattle.load.specs.Programs.{clock}
 use Rattle.remus.specs.Open.{opened as below-opened}
 use Rattle.rig.specs.Words.{wordsOf, bytesOf, holding, packed}
-use Rattle.rig.specs.Face.{checkAnswer, startAnswer, turnAnswer, startBytes, turnBytes}
+use Rattle.rig.specs.Face.{oneNumber, startBytes, turnBytes}
 
 unfoldable pub opened : ℕ
-unfolding below-opened wordsOf bytesOf holding packed checkAnswer startAnswer turnAnswer startBytes turnBytes
+unfolding below-opened wordsOf bytesOf holding packed oneNumber startBytes turnBytes
 opened = 0
 
 -- 9 words and two bytes
@@ -24,11 +21,11 @@ started = startBytes clock before .memory
 abbrev space : List ℕ
 space = replicate 9 238
 
-pub check-answers : checkAnswer (checkOf clock) ≡ 7
+pub check-answers : oneNumber (checkOf clock) ≡ 7
 unfolding opened
 check-answers = refl
 
-pub start-answers : startAnswer (startBytes clock before) ≡ 9
+pub start-answers : oneNumber (startBytes clock before .answer) ≡ 9
 unfolding opened
 start-answers = refl
 
@@ -37,11 +34,11 @@ unfolding opened
 start-words = refl
 
 -- without the last byte of a word there are 8 words
-pub start-short : startAnswer (startBytes clock (replicate 35 238)) ≡ 14 * 4294967296 + 0
+pub start-short : oneNumber (startBytes clock (replicate 35 238) .answer) ≡ 14 * 4294967296 + 0
 unfolding opened
 start-short = refl
 
-pub turn-answers : turnAnswer (turnBytes clock started [] space) ≡ 9
+pub turn-answers : oneNumber (turnBytes clock started [] space .answer) ≡ 9
 unfolding opened
 turn-answers = refl
 

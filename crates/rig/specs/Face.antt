@@ -1,24 +1,30 @@
--- What a C caller gets: 01's calls through the words of its bytes.
-use Prim.Native.Nat.{ℕ}
-use mathlib.Core.List.{List}
-use Rattle.load.specs.Check as Check
-use Rattle.load.specs.declared.Checked.{Checked}
+-- 4.18 What a C caller gets: the calls on the words that its bytes hold.
+use Rattle.value.specs.Prelude.{ℕ, List}
+use Rattle.answer.specs.Answer.{placeOf, numberOf}
+use Rattle.answer.specs.declared.Answer.{Answer}
 use Rattle.image.specs.Start as Start
 use Rattle.image.specs.Start.{startOf}
 use Rattle.remus.specs.Turn as Turn
 use Rattle.remus.specs.Turn.{turnOf}
 use Rattle.rig.specs.Words.{wordsOf, holding, packed}
 
--- ---- the answers, each as one number
+-- ---- what a call comes to
 
-unfoldable pub checkAnswer : Checked → ℕ
-checkAnswer c = packed (Check.numberOf c) (Check.placeOf c)
+-- 4.19 An answer as one number.
+unfoldable pub oneNumber : Answer → ℕ
+oneNumber a = packed (numberOf a) (placeOf a)
 
-unfoldable pub startAnswer : Start.Start → ℕ
-startAnswer s = packed (Start.numberOf (s .answer)) (Start.placeOf (s .answer))
+-- a call's answer as one number, and the memory and the sink space then
+pub record Faced : Type 0 where
+  pub answer : ℕ
+  pub memory : List ℕ
+  pub sinkSpace : List ℕ
 
-unfoldable pub turnAnswer : Turn.Turn → ℕ
-turnAnswer t = packed (Turn.numberOf (t .answer)) (Turn.placeOf (t .answer))
+unfoldable pub faced : ℕ → List ℕ → List ℕ → Faced
+faced a m sk = record { answer = a; memory = m; sinkSpace = sk }
+
+unfoldable pub turnFaced : Turn.Turn → Faced
+turnFaced t = faced (oneNumber (t .answer)) (t .memory) (t .sinkSpace)
 
 -- ---- the calls on bytes: those on their words, and the bytes that hold the words then
 

@@ -1,11 +1,6 @@
 -- What holds of words in bytes and of packed answers, in other words than the definitions have.
-use Prim.Native.Nat.{ℕ, _+_, _*_, _/_, _%_, _≤_, _<_, min}
-use mathlib.Core.Path.{_≡_}
-use mathlib.Core.List.{List, _++_}
-use lib.ListN.{length, getD, drop}
-use mathlib.Core.Logic.{_≢_}
-use Rattle.image.specs.Start as Start
-use Rattle.remus.specs.Turn as Turn
+use Rattle.value.specs.Prelude.{ℕ, _+_, _*_, _/_, _%_, _≤_, _<_, min, _≡_, _≢_, List, _++_, length, getD, drop}
+use Rattle.answer.specs.Answer.{numberOf}
 use Rattle.rig.specs.Words.{wordsOf, holding, packed, mostPlace}
 use Rattle.rig.specs.Face.{startBytes, turnBytes}
 
@@ -40,8 +35,8 @@ Unpacked = (number place : ℕ) → (packed number place / 4294967296 ≡ number
 
 -- A refused call leaves every byte of memory and of sink space.
 abbrev pub StartKeepsBytes : Type 0
-StartKeepsBytes = (p m : List ℕ) → Bytes m → Start.numberOf (startBytes p m .answer) ≢ 0 → startBytes p m .memory ≡ m
+StartKeepsBytes = (p m : List ℕ) → Bytes m → numberOf (startBytes p m .answer) ≢ 0 → startBytes p m .memory ≡ m
 
 abbrev pub RefusedKeepsBytes : Type 0
-RefusedKeepsBytes = (p m rd sk : List ℕ) → Bytes m → Bytes sk → Turn.numberOf (turnBytes p m rd sk .answer) ≢ 0
+RefusedKeepsBytes = (p m rd sk : List ℕ) → Bytes m → Bytes sk → numberOf (turnBytes p m rd sk .answer) ≢ 0
     → (turnBytes p m rd sk .memory ≡ m) × (turnBytes p m rd sk .sinkSpace ≡ sk)

@@ -1,7 +1,5 @@
--- Words in a C caller's bytes, and an answer as one number: document 01, "Check, start, turn".
-use Prim.Native.Nat.{ℕ, _+_, _*_, _/_, _%_}
-use mathlib.Core.List.{List, [], _∷_, _++_}
-use lib.ListN.{length, drop}
+-- 4.15, 4.16, 4.19 Words in a C caller's bytes, and an answer as one number.
+use Rattle.value.specs.Prelude.{ℕ, _+_, _*_, _/_, _%_, List, [], _∷_, _++_, length, drop}
 use Rattle.value.specs.Test.{pick, _<?_}
 
 -- a word of four bytes, low byte first

@@ -1,9 +1,7 @@
 // Words in bytes. The loops have no test but their end's, so that they are done many words at a time.
-ghost use mathlib.Core.Path.{_≡_};
-ghost use Prim.Native.Nat.{_+_, _*_, _<_, _≤_};
-ghost use lib.ListN.{length, take, getD};
+ghost use Rattle.value.specs.Prelude.{_+_, _*_, _≤_, _<_, _≡_, length, getD, take};
 ghost use Rattle.rig.specs.Words.{word, wordsOf, holding};
-ghost use Rattle.rig.specs.Rooms.{putAt};
+ghost use Rattle.rig.specs.Contracts.{putAt};
 
 fn wide(x: u8) -> u32
     ensures { λ r. ⌜ (r ≡ x) × (r < 256) ⌝ }

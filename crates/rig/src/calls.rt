@@ -7,14 +7,14 @@ use crate::sinks::SINK_WORDS;
 use crate::sinks::least;
 use crate::sinks::sink_in;
 use machine::check;
-ghost use mathlib.Core.Path.{_≡_};
-ghost use Rattle.rig.specs.Face.{checkAnswer, startAnswer, turnAnswer, startBytes, turnBytes};
+ghost use Rattle.value.specs.Prelude.{_≡_};
+ghost use Rattle.rig.specs.Face.{oneNumber, faced, turnFaced, startBytes, turnBytes};
 ghost use Rattle.load.specs.Check.{checkOf};
 
 // Check.
 #[no_mangle]
 pub extern "C" fn remus_check(program: &[u8]) -> u64
-    ensures { λ r. ⌜ r ≡ checkAnswer (checkOf (now (program .entry))) ⌝ }
+    ensures { λ r. ⌜ r ≡ oneNumber (checkOf (now (program .entry))) ⌝ }
 {
     let c = check(program);
     pack(c.number(), c.place())
@@ -23,7 +23,7 @@ pub extern "C" fn remus_check(program: &[u8]) -> u64
 // Start. It takes no readings and has no sinks.
 #[no_mangle]
 pub extern "C" fn remus_start(program: &[u8], memory: &mut [u8]) -> u64
-    ensures answer { λ r. ⌜ r ≡ startAnswer (startBytes (now (program .entry)) (now (memory .entry))) ⌝ }
+    ensures answer { λ r. ⌜ r ≡ oneNumber (startBytes (now (program .entry)) (now (memory .entry)) .answer) ⌝ }
     ensures memory { λ _. ⌜ now (memory .exit) ≡ startBytes (now (program .entry)) (now (memory .entry)) .memory ⌝ }
 {
     let readings = [0u32; 1];
@@ -39,15 +39,10 @@ pub extern "C" fn remus_turn(
     readings: &[u8],
     sinks: &mut [u8],
 ) -> u64
-    ensures answer { λ r.
-        let t = turnBytes (now (program .entry)) (now (memory .entry)) (now (readings .entry)) (now (sinks .entry)) in
-        ⌜ r ≡ turnAnswer t ⌝ }
-    ensures memory { λ _.
-        let t = turnBytes (now (program .entry)) (now (memory .entry)) (now (readings .entry)) (now (sinks .entry)) in
-        ⌜ now (memory .exit) ≡ t .memory ⌝ }
-    ensures sinks { λ _.
-        let t = turnBytes (now (program .entry)) (now (memory .entry)) (now (readings .entry)) (now (sinks .entry)) in
-        ⌜ now (sinks .exit) ≡ t .sinkSpace ⌝ }
+    ensures { λ r.
+        let p = now (program .entry) in let m = now (memory .entry) in
+        let rd = now (readings .entry) in let sk = now (sinks .entry) in
+        ⌜ faced r (now (memory .exit)) (now (sinks .exit)) ≡ turnFaced (turnBytes p m rd sk) ⌝ }
 {
     let n = least(sinks.len() / 4, SINK_WORDS);
     let mut room = [0u32; SINK_WORDS];

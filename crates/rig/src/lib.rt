@@ -1,8 +1,7 @@
 // The machine for a C caller, by exported functions on bytes and on words.
 //
-// Each call is that of crate machine. To a C caller every slice is bytes: a word is four of them, low
-// byte first. Rattle has no way to take bytes for words, so a call on bytes copies them to a room of
-// words and back (rooms); a call on words copies nothing (words).
+// 4.13 Each call is that of crate machine. Rattle has no way to take bytes for words, so a call on bytes
+// copies them to a room of words and back (rooms); a call on words copies nothing (words).
 mod bytes;
 mod calls;
 mod pack;

@@ -3,11 +3,10 @@ use crate::Call;
 use crate::bytes::load;
 use crate::pack::with_place;
 use crate::rooms::call_sized;
-ghost use mathlib.Core.Path.{_≡_};
-ghost use Prim.Native.Nat.{_*_, _≤_};
-ghost use lib.ListN.{length, take};
+ghost use Rattle.value.specs.Prelude.{_*_, _≤_, _≡_, length, take};
 ghost use Rattle.rig.specs.Words.{wordsOf};
-ghost use Rattle.rig.specs.Rooms.{faced, turnHeld};
+ghost use Rattle.rig.specs.Contracts.{turnHeld};
+ghost use Rattle.rig.specs.Face.{faced};
 
 // One more than any program takes.
 const TOO_MANY: usize = 63;

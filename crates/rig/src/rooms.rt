@@ -7,10 +7,9 @@ use crate::pack::with_place;
 use crate::words::remus_start_words;
 use crate::words::remus_turn_words;
 use image::MOST_WORDS;
-ghost use mathlib.Core.Path.{_≡_};
-ghost use Prim.Native.Nat.{_/_, _≤_};
-ghost use lib.ListN.{length};
-ghost use Rattle.rig.specs.Rooms.{faced, callOf, callHeld};
+ghost use Rattle.value.specs.Prelude.{_/_, _≤_, _≡_, length};
+ghost use Rattle.rig.specs.Contracts.{callOf, callHeld};
+ghost use Rattle.rig.specs.Face.{faced};
 
 // The call on words.
 fn call(what: Call, program: &[u8], memory: &mut [u32], readings: &[u32], sinks: &mut [u32]) -> u64

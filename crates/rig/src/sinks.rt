@@ -2,11 +2,8 @@
 use crate::bytes::load;
 use crate::bytes::save;
 use crate::readings::turn_read;
-ghost use mathlib.Core.Path.{_≡_};
-ghost use Prim.Native.Nat.{_/_, min};
-ghost use lib.ListN.{length};
-ghost use Rattle.rig.specs.Face.{turnBytes};
-ghost use Rattle.rig.specs.Rooms.{faced, turnFaced};
+ghost use Rattle.value.specs.Prelude.{_/_, min, _≡_, length};
+ghost use Rattle.rig.specs.Face.{turnBytes, faced, turnFaced};
 
 // A pair for each sink that a main can have.
 pub(crate) const SINK_WORDS: usize = 14;

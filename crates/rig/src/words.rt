@@ -2,15 +2,15 @@
 use crate::pack::pack;
 use machine::start;
 use machine::turn;
-ghost use mathlib.Core.Path.{_≡_};
+ghost use Rattle.value.specs.Prelude.{_≡_};
 ghost use Rattle.image.specs.Start.{startOf};
 ghost use Rattle.remus.specs.Turn.{turnOf};
-ghost use Rattle.rig.specs.Face.{startAnswer, turnAnswer};
+ghost use Rattle.rig.specs.Face.{oneNumber, faced, turnFaced};
 
 // Start.
 #[no_mangle]
 pub extern "C" fn remus_start_words(program: &[u8], memory: &mut [u32]) -> u64
-    ensures answer { λ r. ⌜ r ≡ startAnswer (startOf (now (program .entry)) (now (memory .entry))) ⌝ }
+    ensures answer { λ r. ⌜ r ≡ oneNumber (startOf (now (program .entry)) (now (memory .entry)) .answer) ⌝ }
     ensures memory { λ _. ⌜ now (memory .exit) ≡ startOf (now (program .entry)) (now (memory .entry)) .memory ⌝ }
 {
     let s = start(program, memory);
@@ -26,15 +26,10 @@ pub extern "C" fn remus_turn_words(
     readings: &[u32],
     sinks: &mut [u32],
 ) -> u64
-    ensures answer { λ r.
-        let t = turnOf (now (program .entry)) (now (memory .entry)) (now (readings .entry)) (now (sinks .entry)) in
-        ⌜ r ≡ turnAnswer t ⌝ }
-    ensures memory { λ _.
-        let t = turnOf (now (program .entry)) (now (memory .entry)) (now (readings .entry)) (now (sinks .entry)) in
-        ⌜ now (memory .exit) ≡ t .memory ⌝ }
-    ensures sinks { λ _.
-        let t = turnOf (now (program .entry)) (now (memory .entry)) (now (readings .entry)) (now (sinks .entry)) in
-        ⌜ now (sinks .exit) ≡ t .sinkSpace ⌝ }
+    ensures { λ r.
+        let p = now (program .entry) in let m = now (memory .entry) in
+        let rd = now (readings .entry) in let sk = now (sinks .entry) in
+        ⌜ faced r (now (memory .exit)) (now (sinks .exit)) ≡ turnFaced (turnOf p m rd sk) ⌝ }
 {
     let n = program.len();
     let t = turn(&program[..n], memory, readings, sinks);

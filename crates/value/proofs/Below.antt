@@ -1,9 +1,6 @@
 -- A test at each number below n: computed at once, and read off at one.
-use Prim.Native.Nat.{ℕ, zero, suc, _<_}
-use mathlib.Core.Path.{_≡_, refl, _∙_, ap}
-use mathlib.Core.Bool.{Bool, true, false, _&&_, false≢true}
-use mathlib.Core.Logic.{⊎-elim}
-use native.Mathlib.Omega.{arith}
+use Rattle.value.specs.Prelude.{ℕ, zero, suc, _<_, _≡_, refl, _∙_, ap, ⊎-elim, Bool, true, false, _&&_}
+use Rattle.value.specs.Prelude.{false≢true, arith}
 use native.Mathlib.Nat.{not-suc-le-zero, le-of-suc-le-suc, eq-or-lt-of-le}
 
 -- t holds at each number below n

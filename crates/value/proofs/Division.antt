@@ -1,9 +1,6 @@
 -- The kit's quotient is the one of `Division`, with the kit's remainder as the rest: `exact-quotient`. Assumes nothing.
-use Prim.Native.Nat.{ℕ, zero, suc, _+_, _-_, _*_, _/_, _%_, _<_}
+use Rattle.value.specs.Prelude.{ℕ, zero, suc, _+_, _-_, _*_, _/_, _%_, _<_, _≡_, refl, sym, _∙_, ap, _≢_, arith}
 use native.Mathlib.Nat.{div-add-mod', mod-lt, suc-mul}
-use native.Mathlib.Omega.{arith}
-use mathlib.Core.Path.{_≡_, refl, sym, ap, _∙_}
-use mathlib.Core.Logic.{_≢_}
 use lib.Arith.{digits-div}
 use lib.IntN.{ℤ, pos, negsuc, negℤ, natAbs, _+ℤ_, _*ℤ_, negℤ-+ℤ, negℤ-negℤ, zero-*ℤ, pos-ne-negsuc}
 use lib.Signed.{quotZ, remZ}
@@ -25,7 +22,8 @@ neg-sum m n = sym (negℤ-+ℤ (pos m) (pos n))
 whole : (x y : ℤ) → quotZ x y *ℤ y +ℤ remZ x y ≡ x
 whole (pos a) (pos b) = ap pos (div-add-mod' a b)
 whole (pos a) (negsuc b) =
-    ap (λ (z : ℤ). z +ℤ pos (a % suc b)) (neg-product (pos (a / suc b)) (negsuc b) ∙ negℤ-negℤ (pos (a / suc b * suc b)))
+    ap (λ (z : ℤ). z +ℤ pos (a % suc b))
+    (neg-product (pos (a / suc b)) (negsuc b) ∙ negℤ-negℤ (pos (a / suc b * suc b)))
     ∙ ap pos (div-add-mod' a (suc b))
 whole (negsuc a) (pos b) =
     ap (λ (z : ℤ). z +ℤ negℤ (pos (suc a % b))) (neg-product (pos (suc a / b)) (pos b))

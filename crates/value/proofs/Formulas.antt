@@ -1,9 +1,6 @@
 -- The formulas of specs/Formula.antt are what primitives 7 and 11 mean, and stay in 32 bits; and primitive 12 by the
 -- formula of 11. Assumes nothing.
-use Prim.Native.Nat.{ℕ, _*_}
-use native.Mathlib.Omega.{arith}
-use mathlib.Core.Path.{_≡_, refl}
-use mathlib.Core.Bool.{Bool, true, false, not}
+use Rattle.value.specs.Prelude.{ℕ, _*_, _≡_, refl, Bool, true, false, not, arith}
 use mir.Val.{boolByte}
 use Rattle.value.specs.Test.{pick}
 use Rattle.value.specs.Value.{value, blank, truth, truthMark, isBlank, isTruth, isTrue}

@@ -1,10 +1,9 @@
--- Signed integers as the machine has them: bits, read by `toZ` and written by `ofZ`. What is read back, which results fit, and
--- what the operations of specs/Primitive.antt are where they fit. All signed reasoning of the crate is here. Assumes nothing.
-use Prim.Native.Nat.{ℕ, zero, suc, _+_, _-_, _*_, _/_, _%_, _^_, _≤_, _<_}
+-- Signed integers as the machine has them: bits, read by `toZ` and written by `ofZ`. What is read back, which
+-- results fit, and what the operations of specs/Primitive.antt are where they fit. All signed reasoning of the
+-- crate is here. Assumes nothing.
+use Rattle.value.specs.Prelude.{ℕ, zero, suc, _+_, _-_, _*_, _/_, _%_, _^_, _≤_, _<_, _≡_, refl, sym, _∙_, ap}
+use Rattle.value.specs.Prelude.{subst, Bool, true, false, not, cond, arith}
 use native.Mathlib.Nat.{mul-le-mul, zero-add, div-one, div-le-self, div-lt-self}
-use native.Mathlib.Omega.{arith}
-use mathlib.Core.Path.{_≡_, refl, sym, ap, subst, _∙_}
-use mathlib.Core.Bool.{Bool, true, false, not, cond}
 use lib.Dec.{T, ltb, eqb}
 use borrow.Author.Tests.{le-ltb, ltb-true, ltb-false, eq-eqb, ne-eqb, eqb-true, eqb-false}
 use lib.IntN.{ℤ, pos, negsuc, negℤ, natAbs, _+ℤ_, _-ℤ_, _*ℤ_, +ℤ-idl}
@@ -159,7 +158,8 @@ module _ {x y : ℤ} (f : SFits w32 x) (g : SFits w32 y) where
   difference-fits = record { sfits = omega (arith, mag-sum x (negℤ y) (f .sfits) (mag-neg y (g .sfits))) }
 
   pub product-fits : SFits w64 (x *ℤ y)
-  product-fits = record { sfits = omega (arith, mag-product x y, mul-le-mul (natAbs-le x (f .sfits)) (natAbs-le y (g .sfits))) }
+  product-fits =
+      record { sfits = omega (arith, mag-product x y, mul-le-mul (natAbs-le x (f .sfits)) (natAbs-le y (g .sfits))) }
 
   -- for any of these: what the operation on two widened integers asks, and what it hands on
   module _ (op : ℤ → ℤ → ℤ) (h : SFits w64 (op x y)) where
@@ -270,7 +270,8 @@ quot-mag (pos a) (pos b) h e = omega (arith, div-le-self a b)
 quot-mag (pos a) (negsuc b) h e = omega (arith, mag-abs (a / suc b), div-le-self a (suc b))
 quot-mag (negsuc a) (pos b) h e = omega (arith, mag-neg-le (suc a / b) (div-le-self (suc a) b))
 quot-mag (negsuc a) (negsuc zero) h e = absurd (e refl)
-quot-mag (negsuc a) (negsuc (suc b)) h e = omega (arith, div-lt-self {n = suc a} {k = suc (suc b)} (omega arith) (omega arith))
+quot-mag (negsuc a) (negsuc (suc b)) h e =
+    omega (arith, div-lt-self {n = suc a} {k = suc (suc b)} (omega arith) (omega arith))
 
 pub nonzero : (y : ℤ) → (y ≡ pos 0 → ⊥) → isZero y ≡ false
 nonzero (pos n) h = ne-eqb n 0 (λ e. h (ap pos e))

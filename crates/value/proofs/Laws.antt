@@ -1,9 +1,6 @@
 -- What each primitive gives: `primitive-laws`. Assumes nothing.
-use Prim.Native.Nat.{ℕ, suc, _+_, _-_, _≤_, _<_}
-use native.Mathlib.Omega.{arith}
-use mathlib.Core.Path.{_≡_, refl, sym, ap, subst, _∙_}
-use mathlib.Core.Bool.{Bool, true, false, not, true≢false, false≢true}
-use mathlib.Core.Logic.{_≢_, inl, inr, ⊎-elim}
+use Rattle.value.specs.Prelude.{ℕ, suc, _+_, _-_, _≤_, _<_, _≡_, refl, sym, _∙_, ap, subst, inl, inr, ⊎-elim, _≢_}
+use Rattle.value.specs.Prelude.{Bool, true, false, not, true≢false, false≢true, arith}
 use lib.Dec.{eqb}
 use lib.IntN.{ℤ, pos, negsuc, natAbs, _+ℤ_, pos-ne-negsuc}
 use lib.Signed.{ltZ, quotZ}

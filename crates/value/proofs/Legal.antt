@@ -1,22 +1,21 @@
--- Legal operands give a legal result of the table's kind: `primitive-of-kind`, and every content is a word: `primitive-word`.
--- Both are one argument, row by row, over a family of values: `primitive-is`. Assumes nothing.
-use Prim.Native.Nat.{ℕ, zero, suc, _^_, _≤_, _<_}
-use native.Mathlib.Omega.{arith}
-use mathlib.Core.Path.{_≡_, refl, sym, subst}
-use mathlib.Core.Bool.{Bool, true, false, not, _&&_}
-use mathlib.Core.Logic.{inl, inr}
-use mathlib.Core.List.{List, [], _∷_}
-use lib.ListN.{getD}
+-- Legal operands give a legal result of the table's kind: `primitive-of-kind`, and every content is a word:
+-- `primitive-word`. Both are one argument, row by row, over a family of values: `primitive-is`. Assumes nothing.
+use Rattle.value.specs.Prelude.{ℕ, zero, suc, _^_, _≤_, _<_, _≡_, refl, sym, subst, inl, inr, Bool, true, false}
+use Rattle.value.specs.Prelude.{not, List, [], _∷_, getD, arith}
 use lib.IntN.{ℤ, pos, negsuc, _+ℤ_, _-ℤ_, _*ℤ_}
 use lib.Signed.{ltZ, quotZ}
 use Rattle.value.proofs.Integers.{in32-fits, round-in}
 use Rattle.value.proofs.Tests.{pick-any, eq?, both?}
 use Rattle.value.specs.Test.{pick, _and_, _or_, _=?_}
-use Rattle.value.specs.Value.{numberKind, truthKind, markOf, blank, number, truth, isBlank, isNumber, isTruth, isTrue, intOf, OfKind}
-use Rattle.value.specs.Primitive.{in32, within, isZero, sameInt, quotient, goesRound, operation, onNumbers, onTruth, settles, settledBy, known, choose, instead, Row, row, numeric, table, none, rowOf, primitive, countOf, operands, kindsFit, kindGiven}
+use Rattle.value.specs.Value.{numberKind, truthKind, markOf, blank, number, truth, isBlank, isNumber, isTruth}
+use Rattle.value.specs.Value.{isTrue, intOf, OfKind}
+use Rattle.value.specs.Primitive.{in32, within, isZero, sameInt, quotient, goesRound, operation, onNumbers}
+use Rattle.value.specs.Primitive.{onTruth, settles, settledBy, known, choose, instead, Row, row, numeric, table}
+use Rattle.value.specs.Primitive.{none, rowOf, primitive, countOf, operands, kindsFit, kindGiven}
 use Rattle.value.specs.declared.Value.{Value}
 use Rattle.value.specs.declared.Takes.{Takes}
-use Rattle.value.specs.declared.Takes.the-variants.{TwoNumbers, OneTruth, TwoTruths, OneOfAny, TruthThenTwo, TwoAlike}
+use Rattle.value.specs.declared.Takes.the-variants.{TwoNumbers, OneTruth, TwoTruths, OneOfAny, TruthThenTwo}
+use Rattle.value.specs.declared.Takes.the-variants.{TwoAlike}
 use Rattle.value.specs.declared.Gives.{Gives}
 use Rattle.value.specs.declared.Gives.the-variants.{ANumber, ATruth, TheirKind}
 use Rattle.value.specs.declared.Operation.{Operation}
@@ -73,9 +72,11 @@ module _
     always-blank : (t : Takes) (g : Gives) → Kept (row t g (λ a b c. blank))
     always-blank t g j k l a b c fit ia ib ic = is-blank (kindGiven g k)
 
-    numbers : (f : Operation) (g : Gives) → ((k : ℕ) (x y : ℤ) → Is (kindGiven g k) (operation f x y)) → Kept (numeric f g)
+    numbers : (f : Operation) (g : Gives) →
+        ((k : ℕ) (x y : ℤ) → Is (kindGiven g k) (operation f x y)) → Kept (numeric f g)
     unfolding onNumbers
-    numbers f g h j k l a b c fit ia ib ic = unless-blank (kindGiven g k) (isNumber a and isNumber b) (λ e. h k (intOf a) (intOf b))
+    numbers f g h j k l a b c fit ia ib ic =
+        unless-blank (kindGiven g k) (isNumber a and isNumber b) (λ e. h k (intOf a) (intOf b))
 
     settled : (t : Bool) → Kept (row TwoTruths ATruth (λ a b c. settledBy t a b))
     unfolding settledBy kindGiven
@@ -175,4 +176,5 @@ fitting TwoAlike = (numberKind, refl)
 pub primitive-word : (x : ℕ) (a b c : Value) → Word a → Word b → Word c → Word (primitive x a b c)
 primitive-word x a b c ha hb hc =
     let f = fitting (rowOf x .takes) in
-    primitive-is (λ k v. Word v) (λ k. omega arith) number-word truth-word x (f .0) (f .0) (f .0) a b c (f .1) ha (λ h. hb) (λ h. hc)
+    primitive-is (λ k v. Word v) (λ k. omega arith) number-word truth-word x (f .0) (f .0) (f .0) a b c
+    (f .1) ha (λ h. hb) (λ h. hc)

@@ -1,9 +1,6 @@
 -- Rows of the table of primitives, by number. Assumes nothing.
-use Prim.Native.Nat.{ℕ, zero, suc, _+_, _≤_, _<_}
-use native.Mathlib.Omega.{arith}
+use Rattle.value.specs.Prelude.{ℕ, zero, suc, _+_, _≤_, _<_, _≡_, refl, subst, ⊎-elim, _≢_, arith}
 use native.Mathlib.Nat.{eq-or-lt-of-le}
-use mathlib.Core.Path.{_≡_, refl, subst}
-use mathlib.Core.Logic.{_≢_, ⊎-elim}
 use lib.ListN.{List·getD-eq-default}
 use Rattle.value.specs.Primitive.{table, none, rowOf, primitive}
 use Rattle.value.specs.declared.Value.{Value}

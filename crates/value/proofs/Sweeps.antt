@@ -1,17 +1,15 @@
--- Laws of a sweep: the first place where a test fails. `swept` says what it finds, `sweeps` when it comes to its end, and the three
--- that follow take it one place at a time, as a loop does. Assumes nothing.
-use Prim.Native.Nat.{ℕ, zero, suc, _+_, _-_, _≤_, _<_}
-use mathlib.Core.Path.{_≡_, refl, sym, _∙_, subst}
-use mathlib.Core.Bool.{Bool, true, false}
-use mathlib.Core.Logic.{_↔_}
-use native.Mathlib.Omega.{arith}
+-- Laws of a sweep: the first place where a test fails. `swept` says what it finds, `sweeps` when it comes to its end,
+-- and the three that follow take it one place at a time, as a loop does. Assumes nothing.
+use Rattle.value.specs.Prelude.{ℕ, zero, suc, _+_, _-_, _≤_, _<_, _≡_, refl, sym, _∙_, subst, _↔_, Bool, true}
+use Rattle.value.specs.Prelude.{false, arith}
 use Rattle.value.specs.Test.{guard, sweep, _<?_, _=?_, _and_}
 use Rattle.value.proofs.Tests.{cases, same-test, both?, both!, clash, lt?, lt×?, eq?, eq!, goes, stops}
 
 -- what holds at a place, and at those after it, holds at each from that place on
-pub from-more : (P : ℕ → Type 0) (at end : ℕ) → P at → ((i : ℕ) → at + 1 ≤ i → i < end → P i) → (i : ℕ) → at ≤ i → i < end → P i
-from-more P at end e h i l m =
-    cases (at <? i) (λ q. h i (let w : at < i = lt? q in omega arith) m) (λ q. subst P (let w : i ≤ at = lt×? q in omega arith) e)
+pub from-more : (P : ℕ → Type 0) (at end : ℕ) → P at → ((i : ℕ) → at + 1 ≤ i → i < end → P i) →
+    (i : ℕ) → at ≤ i → i < end → P i
+from-more P at end e h i l m = cases (at <? i) (λ q. h i (let w : at < i = lt? q in omega arith) m)
+    (λ q. subst P (let w : i ≤ at = lt×? q in omega arith) e)
 
 module _ (ok : ℕ → Bool) where
   -- the test passes at each place from `at` to before `end`
@@ -27,14 +25,24 @@ module _ (ok : ℕ → Bool) where
 
   pub swept : (at n : ℕ) → Swept at n (sweep ok at n)
   unfolding sweep
-  swept at zero = record { from = omega arith; to = omega arith; passed = λ i l m. absurd (omega arith); stopped = λ l. absurd (omega arith) }
+  swept at zero = record {
+    from = omega arith;
+    to = omega arith;
+    passed = λ i l m. absurd (omega arith);
+    stopped = λ l. absurd (omega arith);
+  }
   swept at (suc n) =
       let h = swept (at + 1) n in
       let more : Unit {0} → ℕ = (λ u. sweep ok (at + 1) n) in
       cases (ok at)
       (λ e.
       subst (λ (j : ℕ). Swept at (suc n) j) (goes at more e refl)
-      (record { from = omega arith; to = omega arith; passed = from-more (λ (i : ℕ). ok i ≡ true) at _ e (h .passed); stopped = λ l. h .stopped (omega arith) }))
+      (record {
+        from = omega arith;
+        to = omega arith;
+        passed = from-more (λ (i : ℕ). ok i ≡ true) at _ e (h .passed);
+        stopped = λ l. h .stopped (omega arith);
+      }))
       (λ e.
       subst (λ (j : ℕ). Swept at (suc n) j) (stops more e refl)
       (record { from = omega arith; to = omega arith; passed = λ i l m. absurd (omega arith); stopped = λ l. e }))
@@ -82,5 +90,7 @@ module _ (ok : ℕ → Bool) where
       (λ e.
       let b = both? e in
       to-next .1 (λ i low high.
-      cases (i <? n) (λ q. to-n .0 (b .0) i low (lt? q)) (λ q. subst (λ (j : ℕ). ok j ≡ true) (omega (arith, lt×? q)) (b .1))))
-      (λ e. let h = to-next .0 e in both! (to-n .1 (λ i low high. h i low (omega arith))) (h n (omega arith) (omega arith)))
+      cases (i <? n) (λ q. to-n .0 (b .0) i low (lt? q))
+      (λ q. subst (λ (j : ℕ). ok j ≡ true) (omega (arith, lt×? q)) (b .1))))
+      (λ e.
+      let h = to-next .0 e in both! (to-n .1 (λ i low high. h i low (omega arith))) (h n (omega arith) (omega arith)))

@@ -1,14 +1,13 @@
--- Laws of the tests of specs/Test.antt: what a shut test, choice or ladder is worth, and what it says, so that no proof opens one.
--- `lt!` gives the test from the fact, `lt×` its failing, `lt?` the fact from the test, `lt×?` the fact from its failing; and so for
--- `le`, `eq`, `both`, `or`. A return after tests reads `yes _ (eq! ..) (no _ (lt× ..) ..)`, test by test in the definition's order,
--- and one of a ladder `goes _ _ (le! ..) (stops _ (le× ..) refl)`. Assumes nothing.
-use Prim.Native.Nat.{ℕ, suc, _≤_, _<_}
-use mathlib.Core.Path.{_≡_, refl, sym, ap, _∙_}
-use mathlib.Core.Bool.{Bool, true, false, not, _&&_, _||_, false≢true, true≢false}
-use mathlib.Core.Logic.{_↔_, _⊎_, inl, inr, _≢_}
-use native.Mathlib.Omega.{arith}
+-- Laws of the tests of specs/Test.antt: what a shut test, choice or ladder is worth, and what it says, so that
+-- no proof opens one. `lt!` gives the test from the fact, `lt×` its failing, `lt?` the fact from the test,
+-- `lt×?` the fact from its failing; and so for `le`, `eq`, `both`, `or`. A return after tests reads `yes _ (eq!
+-- ..) (no _ (lt× ..) ..)`, test by test in the definition's order, and one of a ladder `goes _ _ (le! ..) (stops
+-- _ (le× ..) refl)`. Assumes nothing.
+use Rattle.value.specs.Prelude.{ℕ, suc, _≤_, _<_, _≡_, refl, sym, _∙_, ap, _⊎_, inl, inr, _↔_, _≢_, Bool, true}
+use Rattle.value.specs.Prelude.{false, not, _&&_, _||_, true≢false, false≢true, arith}
 use lib.Dec.{ltb, leb, eqb}
-use borrow.Author.Tests.{le-leb, lt-leb, lt-ltb, le-ltb, eq-eqb, ne-eqb, leb-true, leb-false, ltb-true, ltb-false, eqb-true, eqb-false}
+use borrow.Author.Tests.{le-leb, lt-leb, lt-ltb, le-ltb, eq-eqb, ne-eqb, leb-true, leb-false, ltb-true, ltb-false}
+use borrow.Author.Tests.{eqb-true, eqb-false}
 use Rattle.value.specs.Test.{pick, need, guard, _<?_, _≤?_, _=?_, _and_, _or_}
 
 -- ---- by cases on a test
@@ -238,7 +237,8 @@ module _ {A : Type 0} {t : Bool} where
   stops more e h = simp e h
 
 -- what holds of both answers holds of the one picked
-pub pick-any : {A : Type 0} (Q : A → Type 0) (t : Bool) {x y : A} → (t ≡ true → Q x) → (t ≡ false → Q y) → Q (pick t x y)
+pub pick-any : {A : Type 0} (Q : A → Type 0) (t : Bool) {x y : A} → (t ≡ true → Q x) →
+    (t ≡ false → Q y) → Q (pick t x y)
 unfolding pick
 pick-any Q true f g = f refl
 pick-any Q false f g = g refl
@@ -251,7 +251,8 @@ module _ {A : Type 0} (P : A → Type 0) where
   picks false x y = (λ h. (λ e. absurd (false≢true e), λ e. h), λ h. h .1 refl)
 
   -- what holds of a ladder, but not where it stops
-  pub guards : (t : Bool) (bad : A) (more : Unit {0} → A) → (P bad → ⊥) → P (guard t bad more) ↔ ((t ≡ true) × P (more tt))
+  pub guards : (t : Bool) (bad : A) (more : Unit {0} → A) → (P bad → ⊥) →
+      P (guard t bad more) ↔ ((t ≡ true) × P (more tt))
   unfolding guard
   guards true bad more never = (λ h. (refl, h), λ h. h .1)
   guards false bad more never = (λ h. absurd (never h), λ h. absurd (false≢true (h .0)))
@@ -289,7 +290,8 @@ says-false = (false≢true, (λ z. absurd z))
 
 module _ {s t : Bool} {A B : Type 0} where
   pub says-and : Says s A → Says t B → Says (s and t) (A × B)
-  says-and f g = ((λ e. let h = both? {s = s} {t = t} e in (f .0 (h .0), g .0 (h .1))), (λ h. both! (f .1 (h .0)) (g .1 (h .1))))
+  says-and f g =
+      ((λ e. let h = both? {s = s} {t = t} e in (f .0 (h .0), g .0 (h .1))), (λ h. both! (f .1 (h .0)) (g .1 (h .1))))
 
   pub says-or : Says s A → Says t B → Says (s or t) (A ⊎ B)
   says-or f g = (
@@ -306,7 +308,8 @@ pub says× : {t : Bool} {A : Type 0} → Says t A → (t ≡ false) ↔ (A → �
 says× f = ((λ e a. clash (f .1 a) e), (λ n. not-true _ (says-not f .1 n)))
 
 -- A ladder refuses nothing exactly where each test holds; what a later one says may rest on the earlier.
-pub says-need : {t : Bool} (n : ℕ) {rest : ℕ} {A B : Type 0} → Says t A → (A → (rest ≡ 0) ↔ B) → (need t (suc n) rest ≡ 0) ↔ (A × B)
+pub says-need : {t : Bool} (n : ℕ) {rest : ℕ} {A B : Type 0} → Says t A → (A → (rest ≡ 0) ↔ B) →
+    (need t (suc n) rest ≡ 0) ↔ (A × B)
 unfolding pick
 says-need {t = true} n f g = let a = f .0 refl in ((λ e. (a, g a .0 e)), (λ h. g a .1 (h .1)))
 says-need {t = false} n f g = ((λ e. absurd (omega arith)), (λ h. absurd (false≢true (f .1 (h .0)))))

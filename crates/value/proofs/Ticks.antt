@@ -1,11 +1,8 @@
 -- Primitive 13 is the difference of specs/Ticks.antt: `exact-difference`. An integer z is told by two naturals, as
 -- `over z` less `under z`, so that each equation becomes one of sums of naturals. Assumes nothing.
-use Prim.Native.Nat.{ℕ, zero, suc, _+_, _-_, _*_, _/_, _%_, _^_, _≤_, _<_}
+use Rattle.value.specs.Prelude.{ℕ, zero, suc, _+_, _-_, _*_, _/_, _%_, _^_, _≤_, _<_, _≡_, refl, sym, _∙_, ap}
+use Rattle.value.specs.Prelude.{_↔_, true, arith}
 use native.Mathlib.Nat.{mod-lt, div-add-mod'}
-use native.Mathlib.Omega.{arith}
-use mathlib.Core.Path.{_≡_, refl, sym, ap, _∙_}
-use mathlib.Core.Bool.{true}
-use mathlib.Core.Logic.{_↔_}
 use lib.Dec.{ltb}
 use lib.IntN.{ℤ, pos, negsuc, negℤ, subℕ, _+ℤ_, _-ℤ_, _*ℤ_}
 use borrow.Author.Tests.{ltb-true, ltb-false}

@@ -1,7 +1,5 @@
 -- A table of zeros, read at any place. Assumes nothing.
-use Prim.Native.Nat.{ℕ, zero, suc}
-use mathlib.Core.Path.{_≡_, refl}
-use lib.ListN.{getD, replicate}
+use Rattle.value.specs.Prelude.{ℕ, zero, suc, _≡_, refl, getD, replicate}
 
 pub zeros-at : (n i : ℕ) → getD {A = ℕ} (replicate n 0) i 0 ≡ 0
 zeros-at zero i = refl

@@ -1,8 +1,6 @@
--- Primitives 7 and 11 by sums and products, as the code works them out, and that this is what they mean: 02 (iii).
+-- 1.25 Primitives 7 and 11 by sums and products, as the code works them out, and that this is what they mean.
 -- `boolByte t` is the word of the truth t, 0 or 1.
-use Prim.Native.Nat.{ℕ, _+_, _-_, _*_, _^_, _≤_, _<_}
-use mathlib.Core.Path.{_≡_}
-use mathlib.Core.Bool.{Bool}
+use Rattle.value.specs.Prelude.{ℕ, _+_, _-_, _*_, _^_, _≤_, _<_, _≡_, Bool}
 use mir.Val.{boolByte}
 use Rattle.value.specs.Value.{value, truthMark, isTruth, isTrue}
 use Rattle.value.specs.Primitive.{primitive}

@@ -1,10 +1,7 @@
--- What each primitive gives, by its number, in other words than its definition has: 01, "Primitives", as 02 (iv), (x)
--- and (xii) left it. Integers are held to one another by sums, differences and products alone. Of 4, which is
--- withdrawn, there is no law. Proved as `primitive-laws` in proofs/Laws.antt.
-use Prim.Native.Nat.{ℕ, suc, _≤_, _<_}
-use mathlib.Core.Path.{_≡_}
-use mathlib.Core.Bool.{true, false}
-use mathlib.Core.Logic.{_≢_, _⊎_}
+-- 1.10 What each primitive gives, by its number, in other words than its definition has. Integers are held to one
+-- another by sums, differences and products alone. Of 4, which is withdrawn, there is no law. Proved as
+-- `primitive-laws` in proofs/Laws.antt.
+use Rattle.value.specs.Prelude.{ℕ, suc, _≤_, _<_, _≡_, _⊎_, _≢_, true, false}
 use lib.IntN.{ℤ, pos, negsuc, _+ℤ_, _-ℤ_, _*ℤ_}
 use Rattle.value.specs.Value.{blankMark, numberMark, blank, number, truth, intOf}
 use Rattle.value.specs.Division.{Division}
@@ -31,7 +28,7 @@ Tells v A = ((v ≡ truth true) × A) ⊎ ((v ≡ truth false) × (A → ⊥))
 abbrev pub Answers : Value → Type 0 → Type 0 → Type 0
 Answers v A B = ((v ≡ truth true) × A) ⊎ ((v ≡ truth false) × B) ⊎ ((v ≡ blank) × (A → ⊥) × (B → ⊥))
 
--- of truths with blank among them, where one operand may settle it, whatever the other is: 02 (iv)
+-- 1.19, 1.20 Of truths with blank among them, where one operand may settle it, whatever the other is.
 abbrev pub Conjunction : Value → Value → Value → Type 0
 Conjunction v a b = Answers v ((a ≡ truth true) × (b ≡ truth true)) ((a ≡ truth false) ⊎ (b ≡ truth false))
 

@@ -1,3 +1,4 @@
+pub mod Prelude
 pub mod Test
 pub mod Value
 pub mod Division
@@ -5,3 +6,4 @@ pub mod Primitive
 pub mod Formula
 pub mod Ticks
 pub mod Laws
+pub mod Open

@@ -1,20 +1,20 @@
--- The primitives of 01, "Primitives": ONE table, a row for each number from 0 on, with what it takes, what it gives and what it
--- means. Laws.antt says the meanings in other words.
-use Prim.Native.Nat.{ℕ, _+_, _-_, _%_, _^_, _<_}
-use mathlib.Core.Bool.{Bool, true, false, not, _&&_, Bool·beq}
-use mathlib.Core.Logic.{_≢_}
-use mathlib.Core.List.{List, [], _∷_}
+-- 1.10 The primitives: ONE table, a row for each number from 0 on, with what it takes, what it gives and what it means.
+-- Laws.antt says the meanings in other words.
+use Rattle.value.specs.Prelude.{ℕ, _+_, _-_, _%_, _^_, _<_, _≢_, Bool, true, false, not, _&&_, List, [], _∷_}
+use Rattle.value.specs.Prelude.{length, getD}
+use mathlib.Core.Bool.{Bool·beq}
 use lib.Dec.{eqb}
-use lib.ListN.{length, getD}
 use lib.IntN.{ℤ, pos, negsuc, _+ℤ_, _-ℤ_, _*ℤ_}
 use lib.Signed.{ltZ, quotZ}
 use mir.Syntax.{w32}
 use mir.Val.{toZ, ofZ}
 use Rattle.value.specs.Test.{pick, _<?_, _=?_, _and_, _or_}
-use Rattle.value.specs.Value.{blank, number, truth, isBlank, isNumber, isTruth, isTrue, intOf, numberKind, truthKind}
+use Rattle.value.specs.Value.{blank, number, truth, isBlank, isNumber, isTruth, isTrue, intOf, numberKind}
+use Rattle.value.specs.Value.{truthKind}
 use Rattle.value.specs.declared.Value.{Value}
 use Rattle.value.specs.declared.Takes.{Takes}
-use Rattle.value.specs.declared.Takes.the-variants.{TwoNumbers, OneTruth, TwoTruths, OneOfAny, TruthThenTwo, TwoAlike}
+use Rattle.value.specs.declared.Takes.the-variants.{TwoNumbers, OneTruth, TwoTruths, OneOfAny, TruthThenTwo}
+use Rattle.value.specs.declared.Takes.the-variants.{TwoAlike}
 use Rattle.value.specs.declared.Gives.{Gives}
 use Rattle.value.specs.declared.Gives.the-variants.{ANumber, ATruth, TheirKind}
 use Rattle.value.specs.declared.Operation.{Operation}
@@ -22,7 +22,7 @@ use Rattle.value.specs.declared.Operation.the-variants.{Add, Subtract, T
 
 -- ---- integers
 
--- "A result outside 32 bits .. gives blank."
+-- 1.9 Whether a result fits 32 bits; if not, it is blank.
 abbrev pub in32 : ℤ → Bool
 in32 z = not (ltZ z (negsuc 2147483647)) && not (ltZ (pos 2147483647) z)
 
@@ -43,7 +43,7 @@ sameInt (negsuc m) (negsuc n) = eqb m n
 unfoldable pub quotient : ℤ → ℤ → Value
 quotient x y = pick (isZero y) blank (within (quotZ x y))
 
--- the words of x and y subtracted modulo 2^32, and read as an integer again: the difference of Ticks.antt, 02 (xii)
+-- 1.24 The words of x and y subtracted modulo 2^32, and read as an integer again: the difference of Ticks.antt.
 unfoldable pub goesRound : ℤ → ℤ → ℤ
 goesRound x y = toZ w32 ((ofZ w32 x + (2 ^ 32 - ofZ w32 y)) % 2 ^ 32)
 
@@ -57,8 +57,8 @@ operation Less x y = truth (ltZ x y)
 operation Equal x y = truth (sameInt x y)
 operation TickDifference x y = number (goesRound x y)
 
--- ---- values. A blank operand of 0 to 7, and of 13, makes the result blank: 01, 02 (xii). To these, and to 8 and 9, an
--- operand of another kind, which no accepted program passes, is as a blank one.
+-- ---- values. 1.10 A blank operand of 0 to 7, and of 13, makes the result blank. To these, and to 8 and 9, an operand
+-- of another kind, which no accepted program passes (1.26), is as a blank one.
 
 unfoldable pub onNumbers : (ℤ → ℤ → Value) → Value → Value → Value
 onNumbers f a b = pick (isNumber a and isNumber b) (f (intOf a) (intOf b)) blank
@@ -70,21 +70,20 @@ onTruth f a = pick (isTruth a) (truth (f (isTrue a))) blank
 unfoldable pub settles : Bool → Value → Bool
 settles t v = isTruth v and Bool·beq (isTrue v) t
 
--- 8 and 9, 02 (iv): t where an operand is the truth t, whatever the other is; of two that are the other truth, that one;
--- else blank
+-- 1.19, 1.20 And, or: t where an operand is the truth t, whatever the other is; of two that are the other truth, that
+-- one; else blank.
 unfoldable pub settledBy : Bool → Value → Value → Value
 settledBy t a b = pick (settles t a or settles t b) (truth t) (pick (isTruth a and isTruth b) (truth (not t)) blank)
 
--- "10 known: one operand of any kind; a truth, never blank."
+-- 1.21 Known: whether the operand is not blank.
 unfoldable pub known : Value → Value
 known a = truth (not (isBlank a))
 
--- "11 choose: a truth, then two operands of one kind; the first of them on true, the second on false." "Choose is blank for a
--- blank truth; otherwise the operand not chosen has no effect."
+-- 1.22 Choose: a where t is true, b where it is false, blank where it is blank.
 unfoldable pub choose : Value → Value → Value → Value
 choose t a b = pick (isTruth t) (pick (isTrue t) a b) blank
 
--- "12 instead: two of one kind; the first unless it is blank, else the second."
+-- 1.23 Instead: b where a is blank, else a.
 unfoldable pub instead : Value → Value → Value
 instead a b = pick (isBlank a) b a
 
@@ -101,8 +100,8 @@ row t g f = record { takes = t; gives = g; means = f }
 abbrev pub numeric : Operation → Gives → Row
 numeric f g = row TwoNumbers g (λ a b c. onNumbers (operation f) a b)
 
--- 4, the remainder, is withdrawn: 02 (x). Its row stays, so that 3 asks of its bytes what it asked before; 25 then keeps it out
--- of every accepted program, and so what it would mean is free.
+-- 1.15 The remainder, 4, is withdrawn. Its row stays, so that 3 asks of its bytes what it asked before; 25 then keeps
+-- it out of every accepted program, and so what it would mean is free.
 abbrev pub remainder : ℕ
 remainder = 4
 
@@ -134,7 +133,7 @@ none = row OneOfAny ANumber (λ a b c. blank)
 unfoldable pub rowOf : ℕ → Row
 rowOf x = getD table x none
 
--- x from 0 to 13: 02 (xii)
+-- 1.10 x is the number of a primitive.
 unfoldable pub isPrimitive : ℕ → Bool
 isPrimitive x = x <? length table
 
@@ -172,8 +171,7 @@ kindsFit OneOfAny j k l = true
 kindsFit TruthThenTwo j k l = (j =? truthKind) and (k =? l)
 kindsFit TwoAlike j k l = j =? k
 
--- the result's kind, k being the second operand's. "primitives 5 to 10 a truth, 11 and 12 their last two operands' kind, the
--- others a number"
+-- 1.10, 2.21 The result's kind, k being the second operand's.
 unfoldable pub kindGiven : Gives → ℕ → ℕ
 kindGiven ANumber k = numberKind
 kindGiven ATruth k = truthKind

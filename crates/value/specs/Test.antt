@@ -1,7 +1,7 @@
--- Tests on numbers, and a choice by a test. Shut, so that proofs go by the laws of proofs/Tests.antt and a stuck test stays an atom.
--- A call's arguments are computed before the call: `pick` is for small answers; what recurses goes by `guard` or by clauses on the test.
-use Prim.Native.Nat.{ℕ, zero, suc, _+_}
-use mathlib.Core.Bool.{Bool, true, false}
+-- Tests on numbers, and a choice by a test. Shut, so that proofs go by the laws of proofs/Tests.antt and a stuck test
+-- stays an atom. A call's arguments are computed before the call: `pick` is for small answers; what recurses goes by
+-- `guard` or by clauses on the test.
+use Rattle.value.specs.Prelude.{ℕ, zero, suc, _+_, Bool, true, false}
 use lib.Dec.{ltb, leb, eqb}
 
 -- t ? x : y

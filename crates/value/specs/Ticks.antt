@@ -1,9 +1,6 @@
--- What primitive 13 gives for two numbers, said without words or wrapping: the number in 32 bits that is congruent to
--- their difference modulo 2^32. 02 (xii).
-use Prim.Native.Nat.{_^_}
-use mathlib.Core.Path.{_≡_}
-use mathlib.Core.Bool.{true}
-use mathlib.Core.Logic.{_↔_}
+-- 1.24 What primitive 13 gives for two numbers, said without words or wrapping: the number in 32 bits that is congruent
+-- to their difference modulo 2^32.
+use Rattle.value.specs.Prelude.{_^_, _≡_, _↔_, true}
 use lib.IntN.{ℤ, pos, _+ℤ_, _-ℤ_, _*ℤ_}
 use Rattle.value.specs.Value.{number, isNumber, intOf}
 use Rattle.value.specs.Primitive.{in32, primitive}

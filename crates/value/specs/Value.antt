@@ -1,18 +1,12 @@
--- Values in two words, and kinds. 01: "A value is a number (signed 32-bit), a truth, a reactor, or blank. Each kind can be
--- blank."
-use Prim.Native.Nat.{ℕ, zero, suc, _+_, _<_}
-use mathlib.Core.Path.{_≡_}
-use mathlib.Core.Bool.{Bool}
-use mathlib.Core.Logic.{_⊎_}
+-- 1.1 to 1.7 Values in two words, and kinds.
+use Rattle.value.specs.Prelude.{ℕ, zero, suc, _+_, _<_, _≡_, _⊎_, Bool}
 use lib.IntN.{ℤ}
 use mir.Syntax.{w32}
 use mir.Val.{toZ, ofZ, boolByte}
 use Rattle.value.specs.Test.{_=?_}
 use Rattle.value.specs.declared.Value.{Value}
 
--- "Marks: 0 blank with content 0, 1 number in two's complement, 2 truth, 3 reactor, 4 deployment index, 5 branch point with
--- the index of its newest deployment." Values have the marks 0 to 3; 4 and 5 stand in memory only, and
--- 6 does within a turn, 02 (v): a blank that is kept.
+-- 1.2, 1.5 Marks. Values have 0 to 3; 4 and 5 are found in memory only, and 6 only within a turn: a blank that is kept.
 abbrev pub blankMark : ℕ
 blankMark = 0
 
@@ -34,7 +28,7 @@ pointMark = 5
 abbrev pub keptMark : ℕ
 keptMark = 6
 
--- "Kind 0 is number, 1 truth, 2+s a reactor of shape s."
+-- 1.6 Kinds.
 abbrev pub numberKind : ℕ
 numberKind = 0
 
@@ -56,7 +50,7 @@ value k c = record { mark = k; content = c }
 abbrev pub blank : Value
 blank = value blankMark 0
 
--- a number's word is its two's complement
+-- 1.3 A number's word is its two's complement.
 abbrev pub number : ℤ → Value
 number z = value numberMark (ofZ w32 z)
 
@@ -79,13 +73,13 @@ isTrue v = v .content =? 1
 abbrev pub intOf : Value → ℤ
 intOf v = toZ w32 (v .content)
 
--- which contents stand beside the mark of kind k: any beside a number's, 0 or 1 beside a truth's, and beside a reactor's of
--- shape s those that `reactor s` holds of
+-- 1.7 Which contents may be beside the mark of kind k: any beside a number's, 0 or 1 beside a truth's, and beside a
+-- reactor's of shape s those that `reactor s` holds of.
 abbrev pub Content : (ℕ → ℕ → Type 0) → ℕ → ℕ → Type 0
 Content reactor zero c = Unit {0}
 Content reactor (suc zero) c = c < 2
 Content reactor (suc (suc s)) c = reactor s c
 
--- "Blank is of every kind."
+-- 1.7 v is of kind k; blank is of all kinds.
 abbrev pub OfKind : (ℕ → ℕ → Type 0) → ℕ → Value → Type 0
 OfKind reactor k v = (v ≡ blank) ⊎ ((v .mark ≡ markOf k) × Content reactor k (v .content))

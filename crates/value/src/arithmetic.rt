@@ -5,7 +5,7 @@ use crate::Value;
 use crate::integer::signed;
 use crate::integer::word;
 use std::num::wrapping_sub_u32;
-ghost use mathlib.Core.Path.{_≡_};
+ghost use Rattle.value.specs.Prelude.{_≡_};
 ghost use lib.IntN.{negℤ, _+ℤ_, _-ℤ_, _*ℤ_};
 ghost use Rattle.value.specs.Value.{number};
 ghost use Rattle.value.specs.Primitive.{within, quotient, goesRound, operation};

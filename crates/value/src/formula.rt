@@ -1,5 +1,5 @@
-// Truths as numbers, 0 or 1, so that sums and products stand where a test would: document 02 (iii).
-ghost use mathlib.Core.Path.{_≡_};
+// 1.25 Truths as numbers, 0 or 1, so that sums and products stand where a test would.
+ghost use Rattle.value.specs.Prelude.{_≡_};
 ghost use Rattle.value.specs.Formula.{oneMinus, mixed};
 
 // The word of the other truth.

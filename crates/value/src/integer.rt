@@ -1,6 +1,6 @@
 // Integers of 32 bits and the words that hold them in two's complement. A cast between the signs
 // wants a number that both have, so `signed` and `word` are the ways across; they compile to nothing.
-ghost use mathlib.Core.Path.{_≡_};
+ghost use Rattle.value.specs.Prelude.{_≡_};
 ghost use lib.IntN.{natAbs};
 ghost use mir.Syntax.{w32};
 ghost use mir.Val.{toZ, ofZ};

@@ -1,4 +1,4 @@
-// A signal value in two words, and the primitives on values: document 01, "Primitives".
+// A signal value in two words, and the primitives on values: section 1 of the manual.
 //
 // Every function is total: it is proved equal to a definition of specs/ for every pair of words
 // that can come, so no caller has to know that a word is legal. To primitives 0 to 9 and 13 an operand
@@ -17,7 +17,7 @@ pub use table::is_primitive;
 pub use table::is_withdrawn;
 pub use table::kinds_fit;
 pub use table::operands;
-ghost use mathlib.Core.Path.{_≡_};
+ghost use Rattle.value.specs.Prelude.{_≡_};
 ghost use Rattle.value.specs.Value as W;
 
 // A mark and a content. A blank has content 0, a number its two's complement, a truth 0 or 1, a
@@ -71,8 +71,7 @@ impl Value {
     }
 }
 
-// What a primitive takes: two numbers; one truth; two truths; one operand of any kind; a truth,
-// then two operands of one kind; two of one kind.
+// 1.10 What a primitive takes.
 pub enum Takes {
     TwoNumbers,
     OneTruth,

@@ -1,23 +1,23 @@
 // The columns of the table of primitives that the load check reads.
 use crate::Takes;
-ghost use mathlib.Core.Path.{_≡_};
-ghost use Rattle.value.specs.Primitive as P;
+ghost use Rattle.value.specs.Prelude.{_≡_};
+ghost use Rattle.value.specs.Primitive as Op;
 
 pub fn is_primitive(op: u8) -> bool
-    ensures { λ r. ⌜ r ≡ P.isPrimitive op ⌝ }
+    ensures { λ r. ⌜ r ≡ Op.isPrimitive op ⌝ }
 {
     op < 14
 }
 
 // Whether the check refuses it by name.
 pub fn is_withdrawn(op: u8) -> bool
-    ensures { λ r. ⌜ r ≡ P.isWithdrawn op ⌝ }
+    ensures { λ r. ⌜ r ≡ Op.isWithdrawn op ⌝ }
 {
     op == 4
 }
 
 pub(crate) fn takes_of(op: u8) -> Takes
-    ensures { λ r. ⌜ r ≡ P.rowOf op .takes ⌝ }
+    ensures { λ r. ⌜ r ≡ Op.rowOf op .takes ⌝ }
 {
     match op {
         0..=6 => Takes::TwoNumbers,
@@ -33,7 +33,7 @@ pub(crate) fn takes_of(op: u8) -> Takes
 
 // How many operands primitive `op` takes.
 pub fn operands(op: u8) -> u8
-    ensures { λ r. ⌜ r ≡ P.operands op ⌝ }
+    ensures { λ r. ⌜ r ≡ Op.operands op ⌝ }
 {
     let t = takes_of(op);
     match t {
@@ -48,7 +48,7 @@ pub fn operands(op: u8) -> u8
 
 // Whether operands of the kinds j, k, l will do; the kind of one that is not taken is not read.
 pub fn kinds_fit(op: u8, j: u8, k: u8, l: u8) -> bool
-    ensures { λ r. ⌜ r ≡ P.kindsFit (P.rowOf op .takes) j k l ⌝ }
+    ensures { λ r. ⌜ r ≡ Op.kindsFit (Op.rowOf op .takes) j k l ⌝ }
 {
     let t = takes_of(op);
     match t {

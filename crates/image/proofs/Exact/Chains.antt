@@ -1,11 +1,10 @@
--- Chains: the test of a branch point's chain, by a table of the reactors met, against `Chain`; and the list of its members against `OnChain`.
-use Prim.Native.Nat.{ℕ, zero, suc, _+_, _≤_, _<_}
-use mathlib.Core.Path.{_≡_, refl, sym, _∙_, subst}
-use mathlib.Core.Bool.{Bool, true, false≢true}
-use mathlib.Core.Logic.{_↔_, ⊎-elim, _≢_}
-use mathlib.Core.List.{List, _∷_, List·Memᴰ·head as first, List·Memᴰ·tail as later, List·Memᴰ·cases-cons as in-cons, List·Memᴰ·not-nil as in-nil}
-use native.Mathlib.Omega.{arith}
-use lib.ListN.{length, getD, set, replicate, length-set, length-replicate}
+-- Chains: the test of a branch point's chain, by a table of the reactors met, against `Chain`; and the list of
+-- its members against `OnChain`.
+use Rattle.value.specs.Prelude.{ℕ, zero, suc, _+_, _≤_, _<_, _≡_, refl, sym, _∙_, subst, ⊎-elim, _↔_, _≢_, Bool, true}
+use Rattle.value.specs.Prelude.{false≢true, List, _∷_, length, getD, set, replicate, arith}
+use mathlib.Core.List.{List·Memᴰ·head as first, List·Memᴰ·tail as later, List·Memᴰ·cases-cons as in-cons}
+use mathlib.Core.List.{List·Memᴰ·not-nil as in-nil}
+use lib.ListN.{length-set, length-replicate}
 use lib.Seq.{getD-set-same, getD-set-other}
 use Rattle.value.proofs.Tests.{lt!, lt×, lt?, eq!, eq?, both!, both?, goes, stops, guards}
 use Rattle.program.specs.Bytes.{reactors, mostReactors, shapeOf}
@@ -21,7 +20,8 @@ use Rattle.image.proofs.Exact.Lists.{_∈_, same, total, is, is-same, i
 use Rattle.image.proofs.Exact.Tiling.{Laid, tableOf, start-test, deployed-reactor}
 
 module _ (p m : List ℕ) where
-  -- the test accepts the chain from c, after an index `last` and the reactors of `seen`: o is the owner, s the shape, f the steps
+  -- the test accepts the chain from c, after an index `last` and the reactors of `seen`: o is the
+  -- owner, s the shape, f the steps
   abbrev pub Accepts : ℕ → ℕ → ℕ → ℕ → List ℕ → ℕ → Type 0
   Accepts o s f last seen c = chainFrom p m f (tableOf p m Starts) o s last seen c ≡ true
 
@@ -55,7 +55,8 @@ module _ (p m : List ℕ) where
   listed f end l (tail n i) = absurd (n refl)
   listed zero (one n k) l i = absurd (omega arith)
   listed (suc f) (one {c = c} n k) l (head q) = subst (λ (l : List ℕ). c ∈ l) (sym (after f c n)) (first refl)
-  listed (suc f) {d = d} (one {c = c} n k) l (tail q i) = subst (λ (l : List ℕ). d ∈ l) (sym (after f c n)) (later (listed f k (omega arith) i))
+  listed (suc f) {d = d} (one {c = c} n k) l (tail q i) =
+      subst (λ (l : List ℕ). d ∈ l) (sym (after f c n)) (later (listed f k (omega arith) i))
 
   module _ {o s : ℕ} where
     chain-falls : {c d : ℕ} → Chain p m o s c → OnChain p m c d → d ≤ c
@@ -73,7 +74,8 @@ module _ (p m : List ℕ) where
         rw (after f c (omega arith))
         (same c d
         (λ q.
-        let none : count d (membersFrom p m f (next m c)) ≡ 0 = count-none d _ .1 (λ i. let k = chain-falls r (members? f (next m c) i) in omega arith) in
+        let none : count d (membersFrom p m f (next m c)) ≡ 0 =
+        count-none d _ .1 (λ i. let k = chain-falls r (members? f (next m c) i) in omega arith) in
         let here : is d c ≡ 1 = is-same q in
         omega arith)
         (λ q. omega (arith, is-other q, members-once f d r)))
@@ -89,7 +91,8 @@ module _ (p m : List ℕ) where
     unfolding chainFrom
     ended f last seen = sym (stops _ (lt× (omega arith)) refl)
 
-    pub linked : (f last : ℕ) (seen : List ℕ) (c : ℕ) → c ≢ 0 → Accepts o s (suc f) last seen c ↔ Linked o s f last seen c
+    pub linked : (f last : ℕ) (seen : List ℕ) (c : ℕ) → c ≢ 0 →
+        Accepts o s (suc f) last seen c ↔ Linked o s f last seen c
     unfolding chainFrom
     linked f last seen c n =
         let g = guards (λ (b : Bool). b ≡ true) in (
@@ -119,7 +122,8 @@ module _ (p m : List ℕ) where
     falls? (suc f) last seen c e l = same c 0 (λ q. omega arith) (λ n. linked f last seen c n .0 e .falls)
 
     -- none of the chain's reactors was met before
-    pub new? : (f last : ℕ) (seen : List ℕ) {c d : ℕ} → Accepts o s f last seen c → OnChain p m c d → getD seen (reactor m d) 0 ≡ 0
+    pub new? : (f last : ℕ) (seen : List ℕ) {c d : ℕ} → Accepts o s f last seen c → OnChain p m c d →
+        getD seen (reactor m d) 0 ≡ 0
     new? zero last seen {c} e i = absurd (never last seen c e)
     new? (suc f) last seen {c} e (head n) = linked f last seen c n .0 e .new
     new? (suc f) last seen {c} {d} e (tail n i) =
@@ -128,10 +132,12 @@ module _ (p m : List ℕ) where
         (λ q. subst (λ (r : ℕ). getD seen r 0 ≡ 0) (sym q) (k .new))
         (λ q. sym (getD-set-other seen (reactor m c) (reactor m d) 1 0 q) ∙ new? f c _ (k .rest) i)
 
-    met : (seen : List ℕ) {c : ℕ} → length seen ≡ mostReactors → Deployed p m c → getD (set seen (reactor m c) 1) (reactor m c) 0 ≡ 1
+    met : (seen : List ℕ) {c : ℕ} → length seen ≡ mostReactors → Deployed p m c →
+        getD (set seen (reactor m c) 1) (reactor m c) 0 ≡ 1
     met seen {c} w h = getD-set-same seen (reactor m c) 1 0 (omega (arith, deployed-reactor p m laid h, laid .few))
 
-    pub chain? : (f last : ℕ) (seen : List ℕ) (c : ℕ) → length seen ≡ mostReactors → Accepts o s f last seen c → Chain p m o s c
+    pub chain? : (f last : ℕ) (seen : List ℕ) (c : ℕ) → length seen ≡ mostReactors →
+        Accepts o s f last seen c → Chain p m o s c
     chain? zero last seen c w e = absurd (never last seen c e)
     chain? (suc f) last seen c w e =
         same c 0
@@ -139,7 +145,11 @@ module _ (p m : List ℕ) where
         (λ n.
         let k = linked f last seen c n .0 e in
         link (k .deployed) (k .above) (k .shape) (falls? f c _ (next m c) (k .rest) (omega arith))
-        (λ d i q. omega (arith, met seen w (k .deployed), subst (λ (r : ℕ). getD (set seen (reactor m c) 1) r 0 ≡ 0) q (new? f c _ (k .rest) i)))
+        (λ d i q. omega (
+          arith,
+          met seen w (k .deployed),
+          subst (λ (r : ℕ). getD (set seen (reactor m c) 1) r 0 ≡ 0) q (new? f c _ (k .rest) i),
+        ))
         (chain? f c (set seen (reactor m c) 1) (next m c) (rw length-set w) (k .rest)))
 
     -- one step more than the chain has members is enough
@@ -170,13 +180,19 @@ module _ (p m : List ℕ) where
     low h empty = h
     low h (link a b e q u r) = in-to p a
 
-    accepted : {c : ℕ} → 0 < used m → Chain p m o s c → Accepts o s (reactors p + 1) (used m) (replicate mostReactors 0) c
+    accepted : {c : ℕ} → 0 < used m → Chain p m o s c →
+        Accepts o s (reactors p + 1) (used m) (replicate mostReactors 0) c
     accepted h r =
         let k = few-members (laid .tiles) r in
-        chain! (reactors p + 1) (used m) (replicate mostReactors 0) none-met (k .1) (omega (arith, k .2)) (low h r) (λ d i. zeros-at mostReactors (reactor m d)) r
+        chain! (reactors p + 1) (used m) (replicate mostReactors 0) none-met (k .1) (omega (arith, k .2)) (low h r)
+        (λ d i. zeros-at mostReactors (reactor m d)) r
 
-    pub chain : (c : ℕ) → 0 < used m → Accepts o s (reactors p + 1) (used m) (replicate mostReactors 0) c ↔ Chain p m o s c
+    pub chain : (c : ℕ) → 0 < used m →
+        Accepts o s (reactors p + 1) (used m) (replicate mostReactors 0) c ↔ Chain p m o s c
     chain c h = (λ e. chain? (reactors p + 1) (used m) (replicate mostReactors 0) c none-met e, λ r. accepted h r)
 
     pub members : {c : ℕ} (d : ℕ) → Chain p m o s c → (d ∈ membersFrom p m (reactors p) c) ↔ OnChain p m c d
-    members {c} d r = (λ i. members? (reactors p) c i, λ i. let k = few-members (laid .tiles) r in listed (reactors p) (k .1) (k .2) i)
+    members {c} d r = (
+      λ i. members? (reactors p) c i,
+      λ i. let k = few-members (laid .tiles) r in listed (reactors p) (k .1) (k .2) i,
+    )

@@ -1,10 +1,10 @@
--- Lists of indices: membership, rising lists, sums over a list, how often a number occurs, lists joined. Nothing here speaks of memory.
-use Prim.Native.Nat.{ℕ, zero, suc, _+_, _≤_, _<_}
-use mathlib.Core.Path.{_≡_, refl, sym, subst}
-use mathlib.Core.Logic.{_↔_, ⊎-elim, _≢_}
-use mathlib.Core.List.{List, [], _∷_, _++_, List·Memᴰ, List·Memᴰ·head as first, List·Memᴰ·tail as later, List·Memᴰ·cases-cons as in-cons, List·Memᴰ·not-nil as in-nil, List·Memᴰ·append-cases as in-append, Memᴰ·append-left as in-left, Memᴰ·append-right as in-right}
-use native.Mathlib.Omega.{arith}
-use lib.ListN.{length}
+-- Lists of indices: membership, rising lists, sums over a list, how often a number occurs, lists joined.
+-- Nothing here speaks of memory.
+use Rattle.value.specs.Prelude.{ℕ, zero, suc, _+_, _≤_, _<_, _≡_, refl, sym, subst, ⊎-elim, _↔_, _≢_, List, [], _∷_}
+use Rattle.value.specs.Prelude.{_++_, length, arith}
+use mathlib.Core.List.{List·Memᴰ, List·Memᴰ·head as first, List·Memᴰ·tail as later, List·Memᴰ·cases-cons as in-cons}
+use mathlib.Core.List.{List·Memᴰ·not-nil as in-nil, List·Memᴰ·append-cases as in-append, Memᴰ·append-left as in-left}
+use mathlib.Core.List.{Memᴰ·append-right as in-right}
 use Rattle.value.specs.Test.{pick, _=?_}
 use Rattle.value.proofs.Tests.{eq!, eq×, yes, no, same?}
 
@@ -46,7 +46,8 @@ from (suc n) j = j ∷ from n (j + 1)
 pub from-rising : (n j : ℕ) → Rising j (from n j)
 unfolding from
 from-rising zero j = ends
-from-rising (suc n) j = rises {a = j} {b = j} (omega arith) (subst (λ (k : ℕ). Rising k (from n (j + 1))) (omega arith) (from-rising n (j + 1)))
+from-rising (suc n) j = rises {a = j} {b = j} (omega arith)
+    (subst (λ (k : ℕ). Rising k (from n (j + 1))) (omega arith) (from-rising n (j + 1)))
 
 pub from-in : (n j i : ℕ) → (i ∈ from n j) ↔ ((j ≤ i) × (i < j + n))
 unfolding from
@@ -85,8 +86,12 @@ module _ (f : ℕ → ℕ) where
       (λ h. e .1 (omega arith, w .0 (omega arith)), λ h. let k = e .0 h in let y = w .1 (k .1) in omega (arith, k .0))
 
   total-one-first : {a : ℕ} {l : List ℕ} → f a ≡ 1 → total f l ≡ 0 → OneOf f (a ∷ l)
-  total-one-first {a} {l} e z =
-      record { which = a; there = first refl; one = e; others = λ b i n. ⊎-elim (λ q. absurd (n q)) (λ k. total-zero l .0 z b k) (in-cons i) }
+  total-one-first {a} {l} e z = record {
+    which = a;
+    there = first refl;
+    one = e;
+    others = λ b i n. ⊎-elim (λ q. absurd (n q)) (λ k. total-zero l .0 z b k) (in-cons i);
+  }
 
   total-one-later : {a : ℕ} {l : List ℕ} → f a ≡ 0 → OneOf f l → OneOf f (a ∷ l)
   total-one-later {a} {l} e o =
@@ -103,16 +108,19 @@ module _ (f : ℕ → ℕ) where
   total-one ends = (λ h. absurd (omega arith), λ o. absurd (in-nil (o .there)))
   total-one (rises {b = a} {l = l} h r) =
       let w = total-one r in (
-        λ e. same (f a) 0 (λ z. total-one-later z (w .0 (omega arith))) (λ z. total-one-first (omega arith) (omega arith)),
+        λ e. same (f a) 0 (λ z. total-one-later z (w .0 (omega arith)))
+            (λ z. total-one-first (omega arith) (omega arith)),
         λ o.
             ⊎-elim
             (λ q.
             let here : f a ≡ 1 = subst (λ (x : ℕ). f x ≡ 1) q (o .one) in
-            let rest : total f l ≡ 0 = total-zero l .1 (λ b i. o .others b (later i) (let k = rising-from r i in omega arith)) in
+            let rest : total f l ≡ 0 =
+            total-zero l .1 (λ b i. o .others b (later i) (let k = rising-from r i in omega arith)) in
             omega arith)
             (λ i.
             let here : f a ≡ 0 = o .others a (first refl) (let k = rising-from r i in omega arith) in
-            let rest : total f l ≡ 1 = w .1 (record { which = o .which; there = i; one = o .one; others = λ b k n. o .others b (later k) n }) in
+            let rest : total f l ≡ 1 =
+            w .1 (record { which = o .which; there = i; one = o .one; others = λ b k n. o .others b (later k) n }) in
             omega arith)
             (in-cons (o .there)),
       )
@@ -135,19 +143,24 @@ is-other n = sym (no 1 (eq× n) refl)
 
 pub count-none : (d : ℕ) (l : List ℕ) → (count d l ≡ 0) ↔ (d ∈ l → ⊥)
 count-none d l =
-    let w = total-zero (is d) l in
-    (λ h i. omega (arith, w .0 h d i, is-same {d = d} refl), λ h. w .1 (λ a i. is-other (λ e. h (subst (λ (x : ℕ). x ∈ l) e i))))
+    let w = total-zero (is d) l in (
+      λ h i. omega (arith, w .0 h d i, is-same {d = d} refl),
+      λ h. w .1 (λ a i. is-other (λ e. h (subst (λ (x : ℕ). x ∈ l) e i))),
+    )
 
 -- what occurs is in the list
 pub count-in : (d : ℕ) (l : List ℕ) → count d l ≢ 0 → d ∈ l
 unfolding total
 count-in d [] h = absurd (h refl)
-count-in d (a ∷ l) h = same d a (λ e. first e) (λ e. later (count-in d l (λ z. h (omega (arith, is-other {d = d} {a = a} (λ q. e (sym q)))))))
+count-in d (a ∷ l) h = same d a (λ e. first e)
+    (λ e. later (count-in d l (λ z. h (omega (arith, is-other {d = d} {a = a} (λ q. e (sym q)))))))
 
 pub count-most : (d : ℕ) (l : List ℕ) → count d l ≤ length l
 unfolding total
 count-most d [] = omega arith
-count-most d (a ∷ l) = let q = count-most d l in same a d (λ e. omega (arith, is-same e)) (λ e. omega (arith, is-other e))
+count-most d (a ∷ l) =
+    let q = count-most d l in
+    same a d (λ e. omega (arith, is-same e)) (λ e. omega (arith, is-other e))
 
 -- ---- lists joined
 

@@ -1,28 +1,31 @@
 -- Names: the lists of children against `Owner`, and the table that counts names against `NamedOnce`.
-use Prim.Native.Nat.{ℕ, zero, suc, _+_, _/_, _≤_, _<_, min}
-use mathlib.Core.Path.{_≡_, refl, sym, _∙_, ap, subst}
-use mathlib.Core.Bool.{true}
-use mathlib.Core.Logic.{_↔_, _≢_}
-use mathlib.Core.List.{List, [], _∷_, _++_, List·Memᴰ·head as first, List·Memᴰ·tail as later, List·Memᴰ·not-nil as in-nil, List·Memᴰ·eq-of-singleton as in-one}
-use native.Mathlib.Omega.{arith}
-use lib.ListN.{length}
+use Rattle.value.specs.Prelude.{ℕ, zero, suc, _+_, _/_, _≤_, _<_, min, _≡_, refl, sym, _∙_, ap, subst, _↔_, _≢_, true}
+use Rattle.value.specs.Prelude.{List, [], _∷_, _++_, length, arith}
+use mathlib.Core.List.{List·Memᴰ·head as first, List·Memᴰ·tail as later, List·Memᴰ·not-nil as in-nil}
+use mathlib.Core.List.{List·Memᴰ·eq-of-singleton as in-one}
 use Rattle.value.specs.Test.{pick, _<?_}
 use Rattle.value.proofs.Tests.{cases, lt?, lt×?, eq!, eq?, yes, no}
-use Rattle.program.specs.Bytes.{reactors, declared}
-use Rattle.program.specs.Command.{allocMono, makePoly, cell, nothing, madeBy, cmdOf}
+use Rattle.program.specs.Bytes.{reactors, commandsD}
+use Rattle.program.specs.Command.{allocMono, makePoly, cell, nought, madeBy, cmdOf}
 use Rattle.program.specs.Location.{commandLoc}
 use Rattle.image.specs.Memory.{mainAt, reactor, content}
 use Rattle.image.specs.Sound.{Deployed, Names as NamedBy, by-mono, by-point, Owner, NamedOnce}
 use Rattle.image.specs.Fault.{SlotsRight}
-use Rattle.image.specs.Passes.{over, entry, blankTable, name, membersFrom, namedBy, childrenFrom, childrenOf, visit, tableAfter, fits}
+use Rattle.image.specs.Passes.{over, tableByte, blankTable, name, membersFrom, namedBy, childrenFrom, childrenOf}
+use Rattle.image.specs.Passes.{visit, tableAfter, fits}
 use Rattle.image.specs.declared.Pass.the-variants.{Names}
-use Rattle.image.proofs.Exact.Lists.{_∈_, same, from, from-in, from-rising, total, OneOf, total-one, is, is-same, is-other, count, count-none, count-in, count-most, flat, flat-in, count-flat}
-use Rattle.image.proofs.Exact.Tables.{over-flat, entry-near, entry-here, entry-other, entry-length, blank-main, blank-other}
-use Rattle.image.proofs.Exact.Tiling.{Laid, starts, tableOf, start-in, start-rising, main-deployed, deployed-one, deployed-entry}
+use Rattle.image.proofs.Exact.Lists.{_∈_, same, from, from-in, from-rising, total, OneOf, total-one, is, is-same}
+use Rattle.image.proofs.Exact.Lists.{is-other, count, count-none, count-in, count-most, flat, flat-in}
+use Rattle.image.proofs.Exact.Lists.{count-flat}
+use Rattle.image.proofs.Exact.Tables.{over-flat, entry-near, entry-here, entry-other, entry-length, blank-main}
+use Rattle.image.proofs.Exact.Tables.{blank-other}
+use Rattle.image.proofs.Exact.Tiling.{Laid, starts, tableOf, start-in, start-rising, main-deployed, deployed-one}
+use Rattle.image.proofs.Exact.Tiling.{deployed-entry}
 use Rattle.image.proofs.Memory.Tiles.{in-ge}
 use Rattle.image.proofs.Exact.Chains.{members, members-once}
 use Rattle.image.proofs.Memory.Slots.{names-above}
-use Rattle.image.proofs.Exact.SlotTests.{Makes, a-deployment, a-point, a-cell, neither, makes, made-mono, made-point, made-cell}
+use Rattle.image.proofs.Exact.SlotTests.{Makes, a-deployment, a-point, a-cell, neither, makes, made-mono}
+use Rattle.image.proofs.Exact.SlotTests.{made-point, made-cell}
 
 module _ (p m : List ℕ) where
   -- what D command j of o names, as a list
@@ -30,7 +33,8 @@ module _ (p m : List ℕ) where
   owned o j = namedBy p m o (commandLoc p (reactor m o) j) (madeBy (cmdOf p (reactor m o) j))
 
   module _ (o j : ℕ) where
-    owned-mono : {x : ℕ} → cmdOf p (reactor m o) j ≡ allocMono x → owned o j ≡ content p m o (commandLoc p (reactor m o) j) ∷ []
+    owned-mono : {x : ℕ} → cmdOf p (reactor m o) j ≡ allocMono x →
+        owned o j ≡ content p m o (commandLoc p (reactor m o) j) ∷ []
     unfolding namedBy
     owned-mono e = ap (namedBy p m o (commandLoc p (reactor m o) j)) (made-mono e)
 
@@ -43,16 +47,18 @@ module _ (p m : List ℕ) where
     unfolding namedBy
     owned-cell e = ap (namedBy p m o (commandLoc p (reactor m o) j)) (made-cell e)
 
-    owned-none : madeBy (cmdOf p (reactor m o) j) ≡ nothing → owned o j ≡ []
+    owned-none : madeBy (cmdOf p (reactor m o) j) ≡ nought → owned o j ≡ []
     unfolding namedBy
     owned-none e = ap (namedBy p m o (commandLoc p (reactor m o) j)) e
 
   -- the D commands of o
   abbrev commands : ℕ → List ℕ
-  commands o = from (declared p (reactor m o)) 0
+  commands o = from (commandsD p (reactor m o)) 0
 
-  command-in : (o j : ℕ) → (j ∈ commands o) ↔ (j < declared p (reactor m o))
-  command-in o j = let w = from-in (declared p (reactor m o)) 0 j in (λ i. omega (arith, w .0 i), λ l. w .1 (omega arith))
+  command-in : (o j : ℕ) → (j ∈ commands o) ↔ (j < commandsD p (reactor m o))
+  command-in o j =
+      let w = from-in (commandsD p (reactor m o)) 0 j in
+      (λ i. omega (arith, w .0 i), λ l. w .1 (omega arith))
 
   children-flat : (n j o : ℕ) → childrenFrom p m n j o ≡ flat (owned o) (from n j)
   unfolding childrenFrom flat from
@@ -61,7 +67,7 @@ module _ (p m : List ℕ) where
 
   children-list : (o : ℕ) → childrenOf p m o ≡ flat (owned o) (commands o)
   unfolding childrenOf
-  children-list o = children-flat (declared p (reactor m o)) 0 o
+  children-list o = children-flat (commandsD p (reactor m o)) 0 o
 
   -- how often o names d
   abbrev times : ℕ → ℕ → ℕ
@@ -72,27 +78,27 @@ module _ (p m : List ℕ) where
 
   -- ---- the lists of children
 
-  module _ (laid : Laid p m) {o : ℕ} (right : SlotsRight p m o) {j : ℕ} (l : j < declared p (reactor m o)) where
+  module _ (laid : Laid p m) {o : ℕ} (right : SlotsRight p m o) {j : ℕ} (l : j < commandsD p (reactor m o)) where
     owned-above : {d : ℕ} → NamedBy p m o j d → (Deployed p m d × (o < d))
     owned-above k = names-above p (λ x e. right .monos j x l e) (λ x e. right .points j x l e) k
 
     names-owned : {d : ℕ} → NamedBy p m o j d → d ∈ owned o j
     names-owned {d} (by-mono x e q) = subst (λ (k : List ℕ). d ∈ k) (sym (owned-mono o j e)) (first (sym q))
-    names-owned {d} (by-point x e i) =
-        subst (λ (k : List ℕ). d ∈ k) (sym (owned-point o j e)) (members p m laid o x d (right .points j x l e .chain) .1 i)
+    names-owned {d} (by-point x e i) = subst (λ (k : List ℕ). d ∈ k) (sym (owned-point o j e))
+        (members p m laid o x d (right .points j x l e .chain) .1 i)
 
     owned-names : (d : ℕ) → Makes (cmdOf p (reactor m o) j) → d ∈ owned o j → NamedBy p m o j d
     owned-names d (a-deployment x e) i = by-mono x e (sym (in-one (subst (λ (k : List ℕ). d ∈ k) (owned-mono o j e) i)))
-    owned-names d (a-point x e) i =
-        by-point x e (members p m laid o x d (right .points j x l e .chain) .0 (subst (λ (k : List ℕ). d ∈ k) (owned-point o j e) i))
+    owned-names d (a-point x e) i = by-point x e
+        (members p m laid o x d (right .points j x l e .chain) .0 (subst (λ (k : List ℕ). d ∈ k) (owned-point o j e) i))
     owned-names d (a-cell x v e) i = absurd (in-nil (subst (λ (k : List ℕ). d ∈ k) (owned-cell o j e) i))
     owned-names d (neither e) i = absurd (in-nil (subst (λ (k : List ℕ). d ∈ k) (owned-none o j e) i))
 
     -- one command names none twice
     owned-once : (d : ℕ) → Makes (cmdOf p (reactor m o) j) → count d (owned o j) ≤ 1
     owned-once d (a-deployment x e) = omega (arith, count-most d (owned o j), ap length (owned-mono o j e))
-    owned-once d (a-point x e) =
-        subst (λ (k : List ℕ). count d k ≤ 1) (sym (owned-point o j e)) (members-once p m (reactors p) d (right .points j x l e .chain))
+    owned-once d (a-point x e) = subst (λ (k : List ℕ). count d k ≤ 1) (sym (owned-point o j e))
+        (members-once p m (reactors p) d (right .points j x l e .chain))
     owned-once d (a-cell x v e) = omega (arith, count-most d (owned o j), ap length (owned-cell o j e))
     owned-once d (neither e) = omega (arith, count-most d (owned o j), ap length (owned-none o j e))
 
@@ -104,12 +110,13 @@ module _ (p m : List ℕ) where
     owner-owned : {o j d : ℕ} → Owner p m o j d → d ∈ owned o j
     owner-owned {o} w = names-owned laid (right o (w .deployed)) (w .low) (w .names)
 
-    owned-owner : {o j d : ℕ} → Deployed p m o → j < declared p (reactor m o) → d ∈ owned o j → Owner p m o j d
-    owned-owner {o} {j} {d} h l i = record { deployed = h; low = l; names = owned-names laid (right o h) l d (makes (cmdOf p (reactor m o) j)) i }
+    owned-owner : {o j d : ℕ} → Deployed p m o → j < commandsD p (reactor m o) → d ∈ owned o j → Owner p m o j d
+    owned-owner {o} {j} {d} h l i =
+        record { deployed = h; low = l; names = owned-names laid (right o h) l d (makes (cmdOf p (reactor m o) j)) i }
 
     pub owner-child : {o j d : ℕ} → Owner p m o j d → d ∈ childrenOf p m o
-    owner-child {o} {j} {d} w =
-        subst (λ (l : List ℕ). d ∈ l) (sym (children-list o)) (flat-in d (owned o) (commands o) .1 (j, command-in o j .1 (w .low), owner-owned w))
+    owner-child {o} {j} {d} w = subst (λ (l : List ℕ). d ∈ l) (sym (children-list o))
+        (flat-in d (owned o) (commands o) .1 (j, command-in o j .1 (w .low), owner-owned w))
 
     pub child-owner : {o d : ℕ} → Deployed p m o → d ∈ childrenOf p m o → (j : ℕ) × Owner p m o j d
     child-owner {o} {d} h i =
@@ -125,16 +132,22 @@ module _ (p m : List ℕ) where
     once? d h =
         let a = total-one (times d) (start-rising p m laid) .0 h in
         let o = a .which in
-        let b = total-one (λ j. count d (owned o j)) (from-rising (declared p (reactor m o)) 0) .0 (sym (times-total d o) ∙ a .one) in
+        let b = total-one (λ j. count d (owned o j)) (from-rising (commandsD p (reactor m o)) 0) .0
+        (sym (times-total d o) ∙ a .one) in
         let j = b .which in
         record {
           owner = o;
           command = j;
-          named = owned-owner (start-in p m laid o .0 (a .there)) (command-in o j .0 (b .there)) (count-in d (owned o j) (omega (arith, b .one)));
+          named = owned-owner (start-in p m laid o .0 (a .there)) (command-in o j .0 (b .there))
+              (count-in d (owned o j) (omega (arith, b .one)));
           only = λ o′ j′ w.
-              let e : o′ ≡ o = same o′ o (λ q. q) (λ n. absurd (count-none d _ .0 (a .others o′ (start-in p m laid o′ .1 (w .deployed)) n) (owner-child w))) in
-              let v : Owner p m o j′ d = subst (λ (x : ℕ). Owner p m x j′ d) e w in
-              (e, same j′ j (λ q. q) (λ n. absurd (count-none d _ .0 (b .others j′ (command-in o j′ .1 (v .low)) n) (owner-owned v))));
+              let e : o′ ≡ o = same o′ o (λ q. q) (λ n.
+              absurd (count-none d _ .0 (a .others o′ (start-in p m laid o′ .1 (w .deployed)) n) (owner-child w))) in
+              let v : Owner p m o j′ d = subst (λ (x : ℕ). Owner p m x j′ d) e w in (
+                e,
+                same j′ j (λ q. q)
+                    (λ n. absurd (count-none d _ .0 (b .others j′ (command-in o j′ .1 (v .low)) n) (owner-owned v))),
+              );
         }
 
     once! : (d : ℕ) → NamedOnce p m d → total (times d) (starts p m) ≡ 1
@@ -149,15 +162,18 @@ module _ (p m : List ℕ) where
           one =
               let some : count d (owned o j) ≢ 0 = (λ z. count-none d (owned o j) .0 z (owner-owned w)) in
               omega (arith, owned-once laid (right o (w .deployed)) (w .low) d (makes (cmdOf p (reactor m o) j)));
-          others = λ k i n. count-none d (owned o k) .1 (λ e. n (h .only o k (owned-owner (w .deployed) (command-in o k .0 i) e) .1));
+          others = λ k i n.
+              count-none d (owned o k) .1 (λ e. n (h .only o k (owned-owner (w .deployed) (command-in o k .0 i) e) .1));
         } in
         total-one (times d) (start-rising p m laid) .1
         (record {
           which = o;
           there = start-in p m laid o .1 (w .deployed);
-          one = times-total d o ∙ total-one (λ k. count d (owned o k)) (from-rising (declared p (reactor m o)) 0) .1 by-one;
+          one = times-total d o
+              ∙ total-one (λ k. count d (owned o k)) (from-rising (commandsD p (reactor m o)) 0) .1 by-one;
           others = λ a i n.
-              count-none d (childrenOf p m a) .1 (λ e. let k = child-owner (start-in p m laid a .0 i) e in n (h .only a (k .0) (k .1) .0));
+              count-none d (childrenOf p m a) .1
+              (λ e. let k = child-owner (start-in p m laid a .0 i) e in n (h .only a (k .0) (k .1) .0));
         })
 
 -- ---- the table
@@ -174,22 +190,32 @@ more-entry v h =
     (λ e. let l : 2 ≤ v = lt×? e in sym (no (v + 1) e (omega arith)))
 
 module _ (d : ℕ) where
-  name-entry : (a : ℕ) (t : List ℕ) → (d / 3 ≡ a / 3 → d ≡ a) → d / 3 < length t → entry t d ≤ 2 → entry (name t a) d ≡ min 2 (entry t d + is d a)
+  name-entry : (a : ℕ) (t : List ℕ) → (d / 3 ≡ a / 3 → d ≡ a) → d / 3 < length t → tableByte t d ≤ 2 →
+      tableByte (name t a) d ≡ min 2 (tableByte t d + is d a)
   unfolding name more
   name-entry a t one h g =
       same (d / 3) (a / 3)
       (λ e.
       let before = entry-near t d a e in
-      omega (arith, entry-here t a (more (entry t a)) d e h, more-entry (entry t a) (omega arith), is-same {d = d} {a = a} (sym (one e))))
-      (λ n. omega (arith, entry-other t a (more (entry t a)) d n, is-other {d = d} {a = a} (λ q. n (ap (λ (x : ℕ). x / 3) (sym q)))))
+      omega (
+        arith,
+        entry-here t a (more (tableByte t a)) d e h,
+        more-entry (tableByte t a) (omega arith),
+        is-same {d = d} {a = a} (sym (one e)),
+      ))
+      (λ n. omega (
+        arith,
+        entry-other t a (more (tableByte t a)) d n,
+        is-other {d = d} {a = a} (λ q. n (ap (λ (x : ℕ). x / 3) (sym q))),
+      ))
 
   name-length : (a : ℕ) (t : List ℕ) → length (name t a) ≡ length t
   unfolding name
   name-length a t = entry-length t a _
 
   -- an entry grows by the number of times that it is named, up to 2, where no other of its three words is
-  names-entry : (l t : List ℕ) → ((a : ℕ) → a ∈ l → d / 3 ≡ a / 3 → d ≡ a) → d / 3 < length t → entry t d ≤ 2 →
-      entry (over name t l) d ≡ min 2 (entry t d + count d l)
+  names-entry : (l t : List ℕ) → ((a : ℕ) → a ∈ l → d / 3 ≡ a / 3 → d ≡ a) → d / 3 < length t → tableByte t d ≤ 2 →
+      tableByte (over name t l) d ≡ min 2 (tableByte t d + count d l)
   unfolding over total
   names-entry [] t one h g = omega arith
   names-entry (a ∷ l) t one h g =
@@ -208,30 +234,33 @@ module _ (p m : List ℕ) (laid : Laid p m) (right : (o : ℕ) → Deployed p m 
       let a = child-above p m laid right o (k .2) in
       (a .0, omega (arith, in-ge p o, a .1))
 
-  named-entry : {d : ℕ} → Deployed p m d → entry blankTable d ≤ 2 → entry (tableOf p m Names) d ≡ min 2 (entry blankTable d + count d named)
+  named-entry : {d : ℕ} → Deployed p m d → tableByte blankTable d ≤ 2 →
+      tableByte (tableOf p m Names) d ≡ min 2 (tableByte blankTable d + count d named)
   unfolding tableAfter visit
   named-entry {d} i g =
-      ap (λ (t : List ℕ). entry t d) (over-flat name (childrenOf p m) (starts p m) blankTable)
+      ap (λ (t : List ℕ). tableByte t d) (over-flat name (childrenOf p m) (starts p m) blankTable)
       ∙ names-entry d named blankTable (λ a j. deployed-one p m laid i (named-above j .0)) (deployed-entry p m laid i) g
 
   -- main begins as named once, and nothing names it
-  main-named : entry (tableOf p m Names) mainAt ≡ 1
+  main-named : tableByte (tableOf p m Names) mainAt ≡ 1
   main-named =
       let none : count mainAt named ≡ 0 = count-none mainAt named .1 (λ i. omega (arith, named-above i .1)) in
       omega (arith, blank-main, named-entry (main-deployed p m laid) (omega (arith, blank-main)))
 
-  other-named : {d : ℕ} → Deployed p m d → d ≢ mainAt → entry (tableOf p m Names) d ≡ min 2 (total (times p m d) (starts p m))
+  other-named : {d : ℕ} → Deployed p m d → d ≢ mainAt →
+      tableByte (tableOf p m Names) d ≡ min 2 (total (times p m d) (starts p m))
   other-named {d} i n =
       let blank = blank-other d (λ e. n (deployed-one p m laid i (main-deployed p m laid) e)) in
       omega (arith, named-entry i (omega arith), count-flat d (childrenOf p m) (starts p m))
 
-  pub named-test : {d : ℕ} → Deployed p m d → (fits p m Names (tableOf p m Names) d ≡ true) ↔ (d ≢ mainAt → NamedOnce p m d)
+  pub named-test : {d : ℕ} → Deployed p m d →
+      (fits p m Names (tableOf p m Names) d ≡ true) ↔ (d ≢ mainAt → NamedOnce p m d)
   unfolding fits
   named-test {d} i = (
     λ e n. once? p m laid right d (omega (arith, eq? e, other-named i n)),
     λ h.
         eq!
         (same d mainAt
-        (λ e. ap (entry (tableOf p m Names)) e ∙ main-named)
+        (λ e. ap (tableByte (tableOf p m Names)) e ∙ main-named)
         (λ n. omega (arith, other-named i n, once! p m laid right d (h n)))),
   )

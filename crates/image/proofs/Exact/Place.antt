@@ -1,42 +1,41 @@
 -- Exact place: the ladder of soundness stops where the image is at fault.
-use Prim.Native.Nat.{ℕ, _+_, _≤_, _<_}
-use mathlib.Core.Path.{_≡_, refl, sym, _∙_, ap, subst}
-use mathlib.Core.Bool.{Bool, true, false, true≢false, false≢true}
-use mathlib.Core.Logic.{_↔_, _⊎_, inl, inr, _≢_}
-use mathlib.Core.List.{List}
-use native.Mathlib.Omega.{arith}
-use lib.ListN.{length}
+use Rattle.value.specs.Prelude.{ℕ, _+_, _≤_, _<_, _≡_, refl, sym, _∙_, ap, subst, _⊎_, inl, inr, _↔_, _≢_, Bool, true}
+use Rattle.value.specs.Prelude.{false, true≢false, false≢true, List, length, arith}
 use Rattle.value.specs.Test.{guard, _=?_}
 use Rattle.value.proofs.Tests.{cases, eq!, eq×, eq?, eq×?, says×}
 use Rattle.program.specs.Bytes.{reactors, mostReactors, mainOf}
 use Rattle.program.specs.Location.{sizeOf}
 use Rattle.image.specs.Memory.{mostWords, mainAt, used, turns, reactor, next, sizeAt}
 use Rattle.image.specs.Sound.{Tiles, done, more, In, here, there, Deployed}
-use Rattle.image.specs.Passes.{Judged, sound, unsound, freshSound, grownSound, byTurns, soundOf}
-use Rattle.image.specs.Fault.{Framed, Own, Lowest, FreshFault, main, second, GrownFault, own, named, depth, FaultAt, frame, fresh, grown, ExactPlace}
+use Rattle.image.specs.Passes.{freshSound, grownSound, byTurns, soundOf}
+use Rattle.image.specs.declared.Judged.{Judged}
+use Rattle.image.specs.declared.Judged.the-variants.{Sound, Unsound}
+use Rattle.image.specs.Fault.{Framed, Own, Lowest, FreshFault, main, second, GrownFault, own, named, depth}
+use Rattle.image.specs.Fault.{FaultAt, frame, fresh, grown, ExactPlace}
 use Rattle.image.proofs.Memory.Tiles.{in-ge, in-to}
 use Rattle.image.proofs.Exact.Tiling.{Laid, starts}
-use Rattle.image.proofs.Exact.Rungs.{unsound-not, framed-says, framed-laid, main-says, lowest-one, own-says, own-stops, named-says, named-stops, depth-says}
+use Rattle.image.proofs.Exact.Rungs.{unsound-not, framed-says, framed-laid, main-says, lowest-one, own-says}
+use Rattle.image.proofs.Exact.Rungs.{own-stops, named-says, named-stops, depth-says}
 
 -- a ladder stops at a rung, with the rung's place, or goes on
 rung : (t : Bool) (n q : ℕ) (go-on : Unit {0} → Judged) →
-    (guard t (unsound n) go-on ≡ unsound q) ↔ (((t ≡ false) × (n ≡ q)) ⊎ ((t ≡ true) × (go-on tt ≡ unsound q)))
+    (guard t (Unsound n) go-on ≡ Unsound q) ↔ (((t ≡ false) × (n ≡ q)) ⊎ ((t ≡ true) × (go-on tt ≡ Unsound q)))
 unfolding guard
 rung true n q go-on = (λ e. inr (refl, e), λ h. elim h [ inl k ↦ absurd (true≢false (k .0)) | inr k ↦ k .1 ])
 rung false n q go-on =
-    (λ e. inl (refl, cc), λ h. elim h [ inl k ↦ ap unsound (k .1) | inr k ↦ absurd (false≢true (k .0)) ])
+    (λ e. inl (refl, cc), λ h. elim h [ inl k ↦ ap Unsound (k .1) | inr k ↦ absurd (false≢true (k .0)) ])
 
 -- the last rung
-last-rung : (t : Bool) (n q : ℕ) → (guard t (unsound n) (λ _. sound) ≡ unsound q) ↔ ((t ≡ false) × (n ≡ q))
+last-rung : (t : Bool) (n q : ℕ) → (guard t (Unsound n) (λ _. Sound) ≡ Unsound q) ↔ ((t ≡ false) × (n ≡ q))
 last-rung t n q =
-    let w = rung t n q (λ _. sound) in
+    let w = rung t n q (λ _. Sound) in
     (λ e. elim (w .0 e) [ inl k ↦ k | inr k ↦ absurd (unsound-not q (sym (k .1))) ], λ h. w .1 (inl h))
 
 module _ (p m : List ℕ) where
   -- ---- turns above 0
 
   module _ (laid : Laid p m) (z : next m mainAt ≡ 0) where
-    grown-fault : (q : ℕ) → grownSound p m (starts p m) ≡ unsound q → GrownFault p m q
+    grown-fault : (q : ℕ) → grownSound p m (starts p m) ≡ Unsound q → GrownFault p m q
     unfolding grownSound
     grown-fault q e =
         elim (rung _ _ q _ .0 e) [
@@ -52,7 +51,7 @@ module _ (p m : List ℕ) where
               ]
         ]
 
-    grown-stops : {q : ℕ} → GrownFault p m q → grownSound p m (starts p m) ≡ unsound q
+    grown-stops : {q : ℕ} → GrownFault p m q → grownSound p m (starts p m) ≡ Unsound q
     unfolding grownSound
     grown-stops {q} (own l) = rung _ _ q _ .1 (inl (own-stops p m laid z q .1 l))
     grown-stops {q} (named o l) =
@@ -77,7 +76,7 @@ module _ (p m : List ℕ) where
       subst (Deployed p m) size (second-in (used m) (f .tiles) (in-to p (f .main)) (λ z. n (sym z ∙ size)))
 
   module _ (f : Framed p m) (z : next m mainAt ≡ 0) where
-    fresh-fault : (q : ℕ) → freshSound p m ≡ unsound q → FreshFault p m q
+    fresh-fault : (q : ℕ) → freshSound p m ≡ Unsound q → FreshFault p m q
     unfolding freshSound
     fresh-fault q e =
         let says = main-says p m (f .first) z in
@@ -88,7 +87,7 @@ module _ (p m : List ℕ) where
               subst (FreshFault p m) (l .1) (second (says .0 (h .0)) (second-at f (eq×? (l .0))))
         ]
 
-    fresh-stops : {q : ℕ} → FreshFault p m q → freshSound p m ≡ unsound q
+    fresh-stops : {q : ℕ} → FreshFault p m q → freshSound p m ≡ Unsound q
     unfolding freshSound
     fresh-stops (main n) = rung _ _ mainAt _ .1 (inl (says× (main-says p m (f .first) z) .1 n, refl))
     fresh-stops {q} (second g d) =
@@ -124,12 +123,12 @@ module _ (p m : List ℕ) where
 
   module _ (few : reactors p ≤ mostReactors) (small : length m ≤ mostWords) where
     turns-fault : (q : ℕ) → Framed p m → next m mainAt ≡ 0 → (t : Bool) → (turns m =? 0) ≡ t →
-        byTurns p m t ≡ unsound q → FaultAt p m q
+        byTurns p m t ≡ Unsound q → FaultAt p m q
     unfolding byTurns
     turns-fault q f z true w e = fresh f (eq? w) (fresh-fault f z q e)
     turns-fault q f z false w e = grown f (eq×? w) (grown-fault (framed-laid p m few small f) z q e)
 
-    fault-at : (q : ℕ) → soundOf p m ≡ unsound q → FaultAt p m q
+    fault-at : (q : ℕ) → soundOf p m ≡ Unsound q → FaultAt p m q
     unfolding soundOf
     fault-at q e =
         elim (rung _ _ q _ .0 e) [
@@ -144,7 +143,7 @@ module _ (p m : List ℕ) where
 
     -- past the frame, where main's next is the fault and where it is not
     stops-at : (q : ℕ) → Framed p m → (next m mainAt ≢ 0 → mainAt ≡ q) →
-        (next m mainAt ≡ 0 → byTurns p m (turns m =? 0) ≡ unsound q) → soundOf p m ≡ unsound q
+        (next m mainAt ≡ 0 → byTurns p m (turns m =? 0) ≡ Unsound q) → soundOf p m ≡ Unsound q
     unfolding soundOf
     stops-at q f at-main past =
         rung _ _ q _ .1 (inr (
@@ -152,7 +151,7 @@ module _ (p m : List ℕ) where
           rung _ _ q _ .1 (cases (next m mainAt =? 0) (λ e. inr (e, past (eq? e))) (λ e. inl (e, at-main (eq×? e)))),
         ))
 
-    fault-stops : {q : ℕ} → FaultAt p m q → soundOf p m ≡ unsound q
+    fault-stops : {q : ℕ} → FaultAt p m q → soundOf p m ≡ Unsound q
     unfolding soundOf byTurns
     fault-stops (frame n) = rung _ _ 0 _ .1 (inl (says× (framed-says p m) .1 n, refl))
     fault-stops {q} (fresh f t g) =

@@ -1,18 +1,15 @@
 -- What the tests of the ladder of soundness say: the frame, main before any turn, and the passes.
-use Prim.Native.Nat.{ℕ, suc, _+_, _-_, _≤_, _<_}
-use mathlib.Core.Path.{_≡_, refl, sym, _∙_, subst}
-use mathlib.Core.Bool.{Bool, true, false}
-use mathlib.Core.Logic.{_↔_, _≢_}
-use mathlib.Core.List.{List, [], _∷_, List·Memᴰ·head as first-in, List·Memᴰ·tail as later}
-use native.Mathlib.Omega.{arith}
-use lib.ListN.{length}
+use Rattle.value.specs.Prelude.{ℕ, suc, _+_, _-_, _≤_, _<_, _≡_, refl, sym, _∙_, subst, _↔_, _≢_, Bool, true, false}
+use Rattle.value.specs.Prelude.{List, [], _∷_, length, arith}
+use mathlib.Core.List.{List·Memᴰ·head as first-in, List·Memᴰ·tail as later}
 use Rattle.value.specs.Test.{_and_, _<?_, _=?_}
 use Rattle.value.proofs.Tests.{cases, clash, goes, stops, lt!, lt?, lt×?, le!, le?, eq!, eq?, eq×?, both!, both?, Says}
 use Rattle.program.specs.Bytes.{reactors, mostReactors, mainOf}
 use Rattle.program.specs.Location.{sizeOf}
 use Rattle.image.specs.Memory.{mostWords, mainAt, used, reactor, wired, next, zeroAt}
 use Rattle.image.specs.Sound.{here, Deployed}
-use Rattle.image.specs.Passes.{sound, unsound, lowest, fits, lowestUnfit, framed}
+use Rattle.image.specs.Passes.{lowest, fits, lowestUnfit, framed}
+use Rattle.image.specs.declared.Judged.the-variants.{Sound, Unsound}
 use Rattle.image.specs.Fault.{Framed, Own, FreshMain, Named, Shallow, All, Lowest}
 use Rattle.image.specs.declared.Pass.{Pass}
 use Rattle.image.specs.declared.Pass.the-variants.{Starts, Names, Depths}
@@ -25,7 +22,7 @@ use Rattle.image.proofs.Exact.Names.{named-test}
 use Rattle.image.proofs.Exact.Depths.{depth-test}
 use Rattle.image.proofs.Memory.Tiles.{in-to}
 
-pub unsound-not : (q : ℕ) → unsound q ≡ sound → ⊥
+pub unsound-not : (q : ℕ) → Unsound q ≡ Sound → ⊥
 unsound-not q e = let z : _≡_ {A = ℕ} 0 1 = cc in omega arith
 
 module _ (p m : List ℕ) where

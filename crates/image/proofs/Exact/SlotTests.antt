@@ -1,14 +1,10 @@
 -- One deployment's own words: the test of each, against what a sound image asks of it.
-use Prim.Native.Nat.{ℕ, _<_}
-use mathlib.Core.Path.{_≡_, refl, sym, _∙_, ap, subst}
-use mathlib.Core.Bool.{true}
-use mathlib.Core.Logic.{_↔_}
-use mathlib.Core.List.{List}
-use native.Mathlib.Omega.{arith}
+use Rattle.value.specs.Prelude.{ℕ, _<_, _≡_, refl, sym, _∙_, ap, subst, _↔_, true, List, arith}
 use Rattle.value.proofs.Tests.{lt!, lt?, eq!, eq?, both!, both?}
 use Rattle.value.proofs.Sweeps.{sweeps?}
-use Rattle.program.specs.Bytes.{declared}
-use Rattle.program.specs.Command.{Cmd, allocMono, makePoly, constant, global, supply, react, consume, sink, allocPoly, primitive, cell, fetch, keep, none, Made, deployment, point, held, nothing, madeBy, cmdOf}
+use Rattle.program.specs.Bytes.{commandsD}
+use Rattle.program.specs.Command.{Cmd, allocMono, makePoly, supply, react, sink, allocPoly, cell, keep, none, Made}
+use Rattle.program.specs.Command.{deployment, point, held, nought, madeBy, cmdOf, gives}
 use Rattle.program.specs.Location.{commandLoc}
 use Rattle.program.proofs.OfKind.{legal-kind}
 use Rattle.image.specs.Memory.{mainAt, used, reactor, next, content, valueAt}
@@ -26,22 +22,18 @@ pub data Makes (c : Cmd) : Type 0 where
   a-deployment : (x : ℕ) → c ≡ allocMono x → Makes c
   a-point : (x : ℕ) → c ≡ makePoly x → Makes c
   a-cell : (x v : ℕ) → c ≡ cell x v → Makes c
-  neither : madeBy c ≡ nothing → Makes c
+  neither : madeBy c ≡ nought → Makes c
 
 pub makes : (c : Cmd) → Makes c
 unfolding madeBy
 makes (allocMono x) = a-deployment x refl
 makes (makePoly x) = a-point x refl
-makes (constant x v) = neither refl
-makes (global x) = neither refl
+makes (cell x v) = a-cell x v refl
+makes (gives g) = neither refl
 makes (supply x a b) = neither refl
 makes (react b) = neither refl
-makes (consume x b) = neither refl
 makes (sink x a) = neither refl
 makes (allocPoly a b) = neither refl
-makes (primitive x a b c) = neither refl
-makes (cell x v) = a-cell x v refl
-makes (fetch b) = neither refl
 makes (keep a b) = neither refl
 makes none = neither refl
 
@@ -63,11 +55,12 @@ module _ (p m : List ℕ) where
   SlotRight o l (deployment x) = MonoSlot p m o l x
   SlotRight o l (point x) = PointSlot p m o l x
   SlotRight o l (held x) = CellSlot p m o l x
-  SlotRight o l nothing = Unit {0}
+  SlotRight o l nought = Unit {0}
 
   -- the same of all D slots, by commands
-  slots-right : (o : ℕ) →
-      ((j : ℕ) → j < declared p (reactor m o) → SlotRight o (commandLoc p (reactor m o) j) (madeBy (cmdOf p (reactor m o) j))) ↔ SlotsRight p m o
+  slots-right : (o : ℕ) → ((j : ℕ) → j < commandsD p (reactor m o) →
+      SlotRight o (commandLoc p (reactor m o) j) (madeBy (cmdOf p (reactor m o) j)))
+      ↔ SlotsRight p m o
   slots-right o = (
     λ h.
         record {
@@ -78,10 +71,12 @@ module _ (p m : List ℕ) where
     λ r j l. by r j l (cmdOf p (reactor m o) j) refl (makes (cmdOf p (reactor m o) j)),
   )
     where
-      by : SlotsRight p m o → (j : ℕ) → j < declared p (reactor m o) → (c : Cmd) → cmdOf p (reactor m o) j ≡ c → Makes c →
-          SlotRight o (commandLoc p (reactor m o) j) (madeBy c)
-      by r j l c q (a-deployment x e) = subst (SlotRight o (commandLoc p (reactor m o) j)) (sym (made-mono e)) (r .monos j x l (q ∙ e))
-      by r j l c q (a-point x e) = subst (SlotRight o (commandLoc p (reactor m o) j)) (sym (made-point e)) (r .points j x l (q ∙ e))
+      by : SlotsRight p m o → (j : ℕ) → j < commandsD p (reactor m o) → (c : Cmd) → cmdOf p (reactor m o) j ≡ c →
+          Makes c → SlotRight o (commandLoc p (reactor m o) j) (madeBy c)
+      by r j l c q (a-deployment x e) =
+          subst (SlotRight o (commandLoc p (reactor m o) j)) (sym (made-mono e)) (r .monos j x l (q ∙ e))
+      by r j l c q (a-point x e) =
+          subst (SlotRight o (commandLoc p (reactor m o) j)) (sym (made-point e)) (r .points j x l (q ∙ e))
       by r j l c q (a-cell x v e) =
           subst (SlotRight o (commandLoc p (reactor m o) j)) (sym (made-cell e)) (r .cells j x v l (q ∙ e))
       by r j l c q (neither e) = subst (SlotRight o (commandLoc p (reactor m o) j)) (sym e) tt
@@ -95,10 +90,17 @@ module _ (p m : List ℕ) where
           let b = both? (a .1) in
           let c = both? (b .1) in
           let d = both? (c .1) in
-          record { marked = eq? (a .0); child = start-test p m laid (content p m o l) .0 (c .0); its = eq? (d .0); alone = eq? (d .1); above = lt? (b .0) },
+          record {
+            marked = eq? (a .0);
+            child = start-test p m laid (content p m o l) .0 (c .0);
+            its = eq? (d .0);
+            alone = eq? (d .1);
+            above = lt? (b .0);
+          },
       λ r.
           both! (eq! (r .marked))
-          (both! (lt! (r .above)) (both! (start-test p m laid (content p m o l) .1 (r .child)) (both! (eq! (r .its)) (eq! (r .alone))))),
+          (both! (lt! (r .above))
+          (both! (start-test p m laid (content p m o l) .1 (r .child)) (both! (eq! (r .its)) (eq! (r .alone))))),
     )
     slot-test o l (point x) h =
         let w = chain p m laid o x (content p m o l) h in (
@@ -108,7 +110,7 @@ module _ (p m : List ℕ) where
     slot-test o l (held x) h =
         let w = legal-kind p x (valueAt p m o l) in
         (λ e. record { holds = w .0 e }, λ r. w .1 (r .holds))
-    slot-test o l nothing h = (λ e. tt, λ r. refl)
+    slot-test o l nought h = (λ e. tt, λ r. refl)
 
     -- main's next is asked before the passes
     pub own-test : {o : ℕ} → next m mainAt ≡ 0 → Deployed p m o →
@@ -117,17 +119,20 @@ module _ (p m : List ℕ) where
     own-test {o} z i =
         let r = reactor m o in
         let some : 0 < used m = omega (arith, in-to p i) in
-        let w = sweeps? (λ j. slotSound p m (tableOf p m Starts) o (commandLoc p r j) (madeBy (cmdOf p r j))) 0 (declared p r) (declared p r) (omega arith) in (
+        let w = sweeps? (λ j. slotSound p m (tableOf p m Starts) o (commandLoc p r j) (madeBy (cmdOf p r j))) 0
+        (commandsD p r) (commandsD p r) (omega arith) in (
           λ e.
               let a = both? e in
               let b = both? (a .1) in
               record {
                 is-wired = eq? (a .0);
                 empty = clear p m o .0 (b .0);
-                slots = slots-right o .0 (λ j l. slot-test o _ (madeBy (cmdOf p r j)) some .0 (w .0 (b .1) j (omega arith) l));
+                slots = slots-right o .0
+                    (λ j l. slot-test o _ (madeBy (cmdOf p r j)) some .0 (w .0 (b .1) j (omega arith) l));
                 last = λ q. subst (λ (a : ℕ). next m a ≡ 0) (sym q) z;
               },
           λ h.
               both! (eq! (h .is-wired))
-              (both! (clear p m o .1 (h .empty)) (w .1 (λ j g l. slot-test o _ (madeBy (cmdOf p r j)) some .1 (slots-right o .1 (h .slots) j l)))),
+              (both! (clear p m o .1 (h .empty))
+              (w .1 (λ j g l. slot-test o _ (madeBy (cmdOf p r j)) some .1 (slots-right o .1 (h .slots) j l)))),
         )

@@ -1,17 +1,14 @@
 -- Tiling: the test for it, the list of starts, and the table of starts, against `Tiles` and `Deployed`.
-use Prim.Native.Nat.{ℕ, zero, suc, _+_, _/_, _≤_, _<_}
-use mathlib.Core.Path.{_≡_, refl, sym, _∙_, ap, subst}
-use mathlib.Core.Bool.{Bool, true, false≢true}
-use mathlib.Core.Logic.{_↔_, ⊎-elim, _≢_}
-use mathlib.Core.List.{List, [], List·Memᴰ·head as first, List·Memᴰ·tail as later, List·Memᴰ·cases-cons as in-cons, List·Memᴰ·not-nil as in-nil}
-use native.Mathlib.Omega.{arith}
-use lib.ListN.{length}
+use Rattle.value.specs.Prelude.{ℕ, zero, suc, _+_, _/_, _≤_, _<_, _≡_, refl, sym, _∙_, ap, subst, ⊎-elim, _↔_, _≢_}
+use Rattle.value.specs.Prelude.{Bool, true, false≢true, List, [], length, arith}
+use mathlib.Core.List.{List·Memᴰ·head as first, List·Memᴰ·tail as later, List·Memᴰ·cases-cons as in-cons}
+use mathlib.Core.List.{List·Memᴰ·not-nil as in-nil}
 use Rattle.value.specs.Test.{_<?_}
 use Rattle.value.proofs.Tests.{cases, lt!, lt×, lt?, eq!, eq?, goes, stops, guards}
 use Rattle.program.specs.Bytes.{reactors, mostReactors}
 use Rattle.image.specs.Memory.{mostWords, mainAt, used, reactor, sizeAt, startsFrom, startsBelow}
 use Rattle.image.specs.Sound.{Tiles, done, more, In, here, there, Deployed}
-use Rattle.image.specs.Passes.{entry, blankTable, startByte, isStart, tilesFrom, visit, tableAfter}
+use Rattle.image.specs.Passes.{tableByte, blankTable, startByte, isStart, tilesFrom, visit, tableAfter}
 use Rattle.image.specs.declared.Pass.{Pass}
 use Rattle.image.specs.declared.Pass.the-variants.{Starts}
 use Rattle.image.proofs.Tiles.{grows}
@@ -36,7 +33,8 @@ module _ (p m : List ℕ) where
   tiles! zero u a l done = eq! refl
   tiles! zero u a l (more h r t) = absurd (omega arith)
   tiles! (suc f) u a l done = sym (stops _ (lt× (omega arith)) (sym (eq! refl)))
-  tiles! (suc f) u a l (more h r t) = sym (goes _ _ (lt! h) (goes _ _ (lt! r) (sym (tiles! f u (a + sizeAt p m a) (omega (arith, grows p m a)) t))))
+  tiles! (suc f) u a l (more h r t) =
+      sym (goes _ _ (lt! h) (goes _ _ (lt! r) (sym (tiles! f u (a + sizeAt p m a) (omega (arith, grows p m a)) t))))
 
   -- ---- the list of starts
 
@@ -46,7 +44,8 @@ module _ (p m : List ℕ) where
   starts? (suc f) u a d i =
       cases (a <? u)
       (λ t.
-      ⊎-elim (λ e. subst (λ (x : ℕ). In p m u a x) (sym e) (here (lt? t))) (λ k. there (lt? t) (starts? f u (a + sizeAt p m a) d k))
+      ⊎-elim (λ e. subst (λ (x : ℕ). In p m u a x) (sym e) (here (lt? t)))
+      (λ k. there (lt? t) (starts? f u (a + sizeAt p m a) d k))
       (in-cons (subst (λ (l : List ℕ). d ∈ l) (sym (goes [] _ t refl)) i)))
       (λ t. absurd (in-nil (subst (λ (l : List ℕ). d ∈ l) (sym (stops _ t refl)) i)))
 
@@ -54,8 +53,8 @@ module _ (p m : List ℕ) where
   unfolding startsFrom
   starts! zero u a d l i = let q = in-ge p i in let r = in-to p i in absurd (omega arith)
   starts! (suc f) u a d l (here h) = subst (λ (k : List ℕ). a ∈ k) (goes [] _ (lt! h) refl) (first refl)
-  starts! (suc f) u a d l (there h i) =
-      subst (λ (k : List ℕ). d ∈ k) (goes [] _ (lt! h) refl) (later (starts! f u (a + sizeAt p m a) d (omega (arith, grows p m a)) i))
+  starts! (suc f) u a d l (there h i) = subst (λ (k : List ℕ). d ∈ k) (goes [] _ (lt! h) refl)
+      (later (starts! f u (a + sizeAt p m a) d (omega (arith, grows p m a)) i))
 
   pub starts-rising : (f u a : ℕ) → Rising a (startsFrom p f m u a)
   unfolding startsFrom
@@ -63,7 +62,8 @@ module _ (p m : List ℕ) where
   starts-rising (suc f) u a =
       cases (a <? u)
       (λ t.
-      let rest : Rising (suc a) (startsFrom p f m u (a + sizeAt p m a)) = rising-low (omega (arith, grows p m a)) (starts-rising f u (a + sizeAt p m a)) in
+      let rest : Rising (suc a) (startsFrom p f m u (a + sizeAt p m a)) =
+      rising-low (omega (arith, grows p m a)) (starts-rising f u (a + sizeAt p m a)) in
       subst (Rising a) (goes [] _ t refl) (rises {a = a} {b = a} (omega arith) rest))
       (λ t. subst (Rising a) (stops _ t refl) ends)
 
@@ -85,7 +85,10 @@ tableOf p m pass = tableAfter p m pass (starts p m)
 module _ (p m : List ℕ) (laid : Laid p m) where
   pub start-in : (d : ℕ) → (d ∈ starts p m) ↔ Deployed p m d
   unfolding startsBelow
-  start-in d = (λ i. starts? p m (length m) (used m) mainAt d i, λ i. starts! p m (length m) (used m) mainAt d (omega (arith, laid .fits)) i)
+  start-in d = (
+    λ i. starts? p m (length m) (used m) mainAt d i,
+    λ i. starts! p m (length m) (used m) mainAt d (omega (arith, laid .fits)) i,
+  )
 
   pub start-rising : Rising mainAt (starts p m)
   unfolding startsBelow
@@ -103,15 +106,17 @@ module _ (p m : List ℕ) (laid : Laid p m) where
   pub deployed-reactor : {d : ℕ} → Deployed p m d → reactor m d < reactors p
   deployed-reactor i = in-reactor p (laid .tiles) i
 
-  start-entry : {d : ℕ} → Deployed p m d → entry (tableOf p m Starts) d ≡ startByte d
+  start-entry : {d : ℕ} → Deployed p m d → tableByte (tableOf p m Starts) d ≡ startByte d
   unfolding tableAfter visit
   start-entry {d} i =
       writes-set (λ s a. startByte a) (λ (s : List ℕ). Unit {0}) (startByte d) d (starts p m) blankTable (λ s a j u. tt)
-      (λ s a j e u. ap (λ (c : ℕ). startByte c) (sym (deployed-one i (start-in a .0 j) e))) tt (deployed-entry i) (start-in d .1 i)
+      (λ s a j e u. ap (λ (c : ℕ). startByte c) (sym (deployed-one i (start-in a .0 j) e))) tt
+      (deployed-entry i) (start-in d .1 i)
 
-  start-none : (d : ℕ) → ((a : ℕ) → a ∈ starts p m → d / 3 ≢ a / 3) → entry (tableOf p m Starts) d ≡ 0
+  start-none : (d : ℕ) → ((a : ℕ) → a ∈ starts p m → d / 3 ≢ a / 3) → tableByte (tableOf p m Starts) d ≡ 0
   unfolding tableAfter visit
-  start-none d n = writes-keep (λ s a. startByte a) d (starts p m) blankTable n ∙ blank-other d (n mainAt (start-in mainAt .1 main-deployed))
+  start-none d n = writes-keep (λ s a. startByte a) d (starts p m) blankTable n
+      ∙ blank-other d (n mainAt (start-in mainAt .1 main-deployed))
 
   pub start-test : (d : ℕ) → (isStart (tableOf p m Starts) d ≡ true) ↔ Deployed p m d
   unfolding isStart

@@ -1,10 +1,7 @@
--- Distinct numbers below n are at most n; so a chain, on which no reactor comes twice, has at most as many members as the program has reactors.
-use Prim.Native.Nat.{ℕ, zero, suc, _+_, _≤_, _<_}
-use mathlib.Core.Path.{_≡_, refl}
-use mathlib.Core.List.{List, [], _∷_}
-use mathlib.Core.Logic.{_⊎_, inl, inr, _≢_}
-use native.Mathlib.Omega.{arith}
-use lib.ListN.{length}
+-- Distinct numbers below n are at most n; so a chain, on which no reactor comes twice, has at most as many
+-- members as the program has reactors.
+use Rattle.value.specs.Prelude.{ℕ, zero, suc, _+_, _≤_, _<_, _≡_, refl, _⊎_, inl, inr, _≢_, List, [], _∷_, length}
+use Rattle.value.specs.Prelude.{arith}
 use Rattle.value.proofs.Tests.{same?}
 use Rattle.program.specs.Bytes.{reactors}
 use Rattle.image.specs.Memory.{used, mainAt, reactor, next}
@@ -37,9 +34,17 @@ without n none = ([], record { distinct = none; few = omega arith; from = λ y h
 without n (and {x = x} {xs = xs} a d) = by (same? x n) (without n d)
   where
     by : (x ≡ n) ⊎ (x ≢ n) → (ys : List ℕ) × Without n xs ys → (ys : List ℕ) × Without n (x ∷ xs) ys
-    by (inl e) w = let z = absent {n = n} xs d (rw e at a) in (xs, record { distinct = d; few = omega arith; from = λ y h. (other h, z .from y h .1) })
-    by (inr e) w =
-        (x ∷ (w .0), record { distinct = and (λ h. a (w .1 .from x h .0)) (w .1 .distinct); few = let q = w .1 .few in omega arith; from = λ y h. pick y h })
+    by (inl e) w =
+        let z = absent {n = n} xs d (rw e at a) in
+        (xs, record { distinct = d; few = omega arith; from = λ y h. (other h, z .from y h .1) })
+    by (inr e) w = (
+      x ∷ (w .0),
+      record {
+        distinct = and (λ h. a (w .1 .from x h .0)) (w .1 .distinct);
+        few = let q = w .1 .few in omega arith;
+        from = λ y h. pick y h;
+      },
+    )
       where
         pick : (y : ℕ) → Has y (x ∷ (w .0)) → Has y (x ∷ xs) × (y ≢ n)
         pick y this = (this, e)
@@ -53,7 +58,8 @@ at-most : (n : ℕ) (xs : List ℕ) → Distinct xs → ((x : ℕ) → Has x xs 
 at-most zero xs d f = none-below xs f
 at-most (suc n) xs d f =
     let w = without n d in
-    let q = at-most n (w .0) (w .1 .distinct) (λ y h. let z = w .1 .from y h in let l = f y (z .0) in let k = z .1 in omega arith) in
+    let q = at-most n (w .0) (w .1 .distinct)
+    (λ y h. let z = w .1 .from y h in let l = f y (z .0) in let k = z .1 in omega arith) in
     let k = w .1 .few in
     omega arith
 
@@ -69,8 +75,19 @@ record Listed (p m : List ℕ) (c n : ℕ) (xs : List ℕ) : Type 0 where
   low : (x : ℕ) → Has x xs → x < reactors p
   from : (x : ℕ) → Has x xs → (d : ℕ) × OnChain p m c d × (reactor m d ≡ x)
 
-listed : {p m : List ℕ} → Tiles p m (used m) mainAt → {o s c : ℕ} → Chain p m o s c → (n : ℕ) × (xs : List ℕ) × Listed p m c n xs
-listed t empty = (0, [], record { count = end; long = refl; distinct = none; low = λ x h. absurd (has-none h); from = λ x h. absurd (has-none h) })
+listed : {p m : List ℕ} → Tiles p m (used m) mainAt → {o s c : ℕ} → Chain p m o s c →
+    (n : ℕ) × (xs : List ℕ) × Listed p m c n xs
+listed t empty = (
+  0,
+  [],
+  record {
+    count = end;
+    long = refl;
+    distinct = none;
+    low = λ x h. absurd (has-none h);
+    from = λ x h. absurd (has-none h);
+  },
+)
 listed {p} {m} t (link {c = c} k h₁ h₂ h₃ h₄ ch) = by (listed t ch)
   where
     ne : c ≢ 0
@@ -98,5 +115,10 @@ listed {p} {m} t (link {c = c} k h₁ h₂ h₃ h₄ ch) = by (listed t ch)
         from x this = (c, head ne, refl)
         from x (other h) = let f = z .2 .from x h in (f .0, tail ne (f .1), f .2)
 
-pub few-members : {p m : List ℕ} → Tiles p m (used m) mainAt → {o s c : ℕ} → Chain p m o s c → (n : ℕ) × Members m c n × (n ≤ reactors p)
-few-members {p} t ch = let w = listed t ch in let q = at-most (reactors p) (w .1) (w .2 .distinct) (w .2 .low) in let e = w .2 .long in (w .0, w .2 .count, omega arith)
+pub few-members : {p m : List ℕ} → Tiles p m (used m) mainAt → {o s c : ℕ} → Chain p m o s c →
+    (n : ℕ) × Members m c n × (n ≤ reactors p)
+few-members {p} t ch =
+    let w = listed t ch in
+    let q = at-most (reactors p) (w .1) (w .2 .distinct) (w .2 .low) in
+    let e = w .2 .long in
+    (w .0, w .2 .count, omega arith)

@@ -1,9 +1,7 @@
 -- Words put together, and words with a stretch put in: what stands where.
-use Prim.Native.Nat.{ℕ, _+_, _-_, _≤_, _<_}
-use mathlib.Core.Path.{_≡_, refl, ap, _∙_, sym}
-use mathlib.Core.List.{List, _++_}
-use native.Mathlib.Omega.{arith}
-use lib.ListN.{length, getD, take, drop, replicate, length-append, length-drop, List·getD-append}
+use Rattle.value.specs.Prelude.{ℕ, _+_, _-_, _≤_, _<_, _≡_, refl, sym, _∙_, ap, List, _++_, length, getD, take, drop}
+use Rattle.value.specs.Prelude.{replicate, arith}
+use lib.ListN.{length-append, length-drop, List·getD-append}
 use lib.Seq.{length-take-le, getD-append-add, getD-take, getD-drop}
 use Rattle.image.specs.Memory.{word, patch}
 use Rattle.value.proofs.Zeros.{zeros-at}
@@ -47,7 +45,8 @@ module _ (m : List ℕ) (i : ℕ) (ws : List ℕ) (inside : i ≤ length m) wher
   patch-above j h =
       let tail = ws ++ drop (i + length ws) m in
       let q = j - (i + length ws) in
-      word-right (take i m) tail j (length ws + q) (omega (arith, before)) ∙ word-right ws (drop (i + length ws) m) (length ws + q) q refl
+      word-right (take i m) tail j (length ws + q) (omega (arith, before))
+      ∙ word-right ws (drop (i + length ws) m) (length ws + q) q refl
       ∙ word-drop (i + length ws) m q ∙ ap (word m) (omega arith)
 
 pub patch-length : (m : List ℕ) (i : ℕ) (ws : List ℕ) → i + length ws ≤ length m → length (patch m i ws) ≡ length m

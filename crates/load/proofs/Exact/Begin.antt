@@ -1,27 +1,25 @@
 -- Before the first command the tables hold what they should: sources are values, own sinks are not set.
-use Prim.Native.Nat.{ℕ, zero, suc, _≤_, _<_}
-use mathlib.Core.Path.{_≡_, refl, sym, _∙_, subst}
-use mathlib.Core.Logic.{_⊎_, inl, inr}
-use mathlib.Core.List.{List}
-use native.Mathlib.Omega.{arith}
+use Rattle.value.specs.Prelude.{ℕ, zero, suc, _≤_, _<_, _≡_, refl, sym, _∙_, subst, _⊎_, inl, inr, List, replicate}
+use Rattle.value.specs.Prelude.{arith}
 use native.Mathlib.Nat.{not-suc-le-zero}
-use lib.ListN.{replicate, length-replicate}
+use lib.ListN.{length-replicate}
 use Rattle.program.specs.Bytes.{reactors, shapeOf, sourceKind}
-use Rattle.program.specs.Location.{sources, sinks, commandLoc, sinkLoc, locations}
+use Rattle.program.specs.Location.{mostLocations, sourceCount, sinkCount, commandLoc, sinkLoc, locations}
 use Rattle.load.specs.Scan.{standingAt, kindAt, stand, withSources, withSinks, beginOf, aValue, unsetSink}
 use Rattle.load.specs.Rules.{Sets, TablesRight}
 use Rattle.load.specs.declared.Scan.{Scan}
 use Rattle.value.proofs.Zeros.{zeros-at}
 use Rattle.value.proofs.Below.{last-or-below}
 use Rattle.load.proofs.Exact.Seen.{never-start}
-use Rattle.load.proofs.Exact.Class.{a-value, a-sink, nothing}
+use Rattle.program.specs.Command.{a-value, a-sink, nothing}
 use Rattle.load.proofs.Exact.Places.{by-place}
 use Rattle.load.proofs.Exact.KindLaws.{source-kind}
 use Rattle.load.proofs.Exact.Holds.{Touches, HoldsAt, as-read, Holding}
-use Rattle.load.proofs.Exact.Stand.{Sized, Reads, stand-sized, stand-next, reads-there, reads-else, few-locations}
+use Rattle.load.proofs.Exact.Stand.{Sized, Reads, stand-sized, stand-next, reads-there, reads-else}
+use Rattle.load.proofs.Exact.Stand.{few-locations}
 
 abbrev blank : Scan
-blank = record { standing = replicate 174 0; kind = replicate 174 0; next = 0 }
+blank = record { standing = replicate mostLocations 0; kind = replicate mostLocations 0; next = 0 }
 
 module _ (p : List ℕ) (r : ℕ) where
   -- ---- the first n sources
@@ -31,7 +29,8 @@ module _ (p : List ℕ) (r : ℕ) where
 
   sourced-sized : (n : ℕ) → Sized (sourced n)
   unfolding sourced withSources
-  sourced-sized zero = record { long = length-replicate {A = ℕ} 174 0; wide = length-replicate {A = ℕ} 174 0 }
+  sourced-sized zero =
+      record { long = length-replicate {A = ℕ} mostLocations 0; wide = length-replicate {A = ℕ} mostLocations 0 }
   sourced-sized (suc n) = stand-sized _ n aValue _ (sourced-sized n)
 
   sourced-next : (n : ℕ) → sourced n .next ≡ 0
@@ -39,7 +38,7 @@ module _ (p : List ℕ) (r : ℕ) where
   sourced-next zero = refl
   sourced-next (suc n) = stand-next _ n aValue _ ∙ sourced-next n
 
-  source-set : (n l : ℕ) → l < n → n ≤ 174 → Reads (sourced n) l aValue (sourceKind p (shapeOf p r) l)
+  source-set : (n l : ℕ) → l < n → n ≤ mostLocations → Reads (sourced n) l aValue (sourceKind p (shapeOf p r) l)
   unfolding sourced withSources
   source-set zero l h few = absurd (not-suc-le-zero h)
   source-set (suc n) l h few =
@@ -56,31 +55,31 @@ module _ (p : List ℕ) (r : ℕ) where
 
   source-clear : (n l : ℕ) → n ≤ l → standingAt (sourced n) l ≡ 0
   unfolding sourced withSources
-  source-clear zero l h = unfold standingAt in zeros-at 174 l
+  source-clear zero l h = unfold standingAt in zeros-at mostLocations l
   source-clear (suc n) l h =
       reads-else (sourced n) n aValue (sourceKind p (shapeOf p r) n) l (omega arith) .0 ∙ source-clear n l (omega arith)
 
   -- ---- and the first n sinks
 
   started : ℕ → Scan
-  started n = withSinks n p r (sourced (sources p r))
+  started n = withSinks n p r (sourced (sourceCount p r))
 
   started-sized : (n : ℕ) → Sized (started n)
   unfolding started withSinks
-  started-sized zero = sourced-sized (sources p r)
+  started-sized zero = sourced-sized (sourceCount p r)
   started-sized (suc n) = stand-sized _ (sinkLoc p r n) unsetSink 0 (started-sized n)
 
   started-next : (n : ℕ) → started n .next ≡ 0
   unfolding started withSinks
-  started-next zero = sourced-next (sources p r)
+  started-next zero = sourced-next (sourceCount p r)
   started-next (suc n) = stand-next _ (sinkLoc p r n) unsetSink 0 ∙ started-next n
 
-  sink-set : (n x : ℕ) → x < n → sinkLoc p r n ≤ 174 → standingAt (started n) (sinkLoc p r x) ≡ unsetSink
+  sink-set : (n x : ℕ) → x < n → sinkLoc p r n ≤ mostLocations → standingAt (started n) (sinkLoc p r x) ≡ unsetSink
   unfolding started withSinks
   sink-set zero x h room = absurd (not-suc-le-zero h)
   sink-set (suc n) x h room =
       let l = sinkLoc p r n in
-      let less : l < 174 = unfold sinkLoc in omega arith in
+      let less : l < mostLocations = unfold sinkLoc in omega arith in
       last-or-below x n h
       (λ e.
       subst (λ j. standingAt (stand (started n) l unsetSink 0) (sinkLoc p r j) ≡ unsetSink) (sym e)
@@ -94,7 +93,7 @@ module _ (p : List ℕ) (r : ℕ) where
   Apart n l = (l < sinkLoc p r 0) ⊎ (sinkLoc p r n ≤ l)
 
   sink-clear : (n l : ℕ) → Apart n l →
-      Reads (started n) l (standingAt (sourced (sources p r)) l) (kindAt (sourced (sources p r)) l)
+      Reads (started n) l (standingAt (sourced (sourceCount p r)) l) (kindAt (sourced (sourceCount p r)) l)
   unfolding started withSinks
   sink-clear zero l h = (refl, refl)
   sink-clear (suc n) l h =
@@ -114,35 +113,37 @@ module _ (p : List ℕ) (r : ℕ) where
 
   module _ (t : TablesRight p) (low : r < reactors p) where
     begun : Scan
-    begun = started (sinks p r)
+    begun = started (sinkCount p r)
 
-    room : locations p r ≤ 174
+    room : locations p r ≤ mostLocations
     room = few-locations p r t low
 
-    source-holds : (l : ℕ) → l < sources p r → HoldsAt p r 0 begun l a-value
+    source-holds : (l : ℕ) → l < sourceCount p r → HoldsAt p r 0 begun l a-value
     unfolding begun
     source-holds l h =
         let before : l < sinkLoc p r 0 = unfold sinkLoc in omega arith in
-        let few : sources p r ≤ 174 = unfold locations sinkLoc in omega (arith, room) in
-        let c = sink-clear (sinks p r) l (inl before) in
-        let i = source-set (sources p r) l h few in
+        let few : sourceCount p r ≤ mostLocations = unfold locations sinkLoc in omega (arith, room) in
+        let c = sink-clear (sinkCount p r) l (inl before) in
+        let i = source-set (sourceCount p r) l h few in
         as-read p r 0 l a-value begun (c .0 ∙ i .0, c .1 ∙ i .1) (refl, λ f m. sym (source-kind p r f l h m))
 
-    nothing-holds : (l : ℕ) → sources p r ≤ l → (l < sinkLoc p r 0) ⊎ (locations p r ≤ l) → HoldsAt p r 0 begun l nothing
+    nothing-holds : (l : ℕ) → sourceCount p r ≤ l → (l < sinkLoc p r 0) ⊎ (locations p r ≤ l) →
+        HoldsAt p r 0 begun l nothing
     unfolding begun locations
-    nothing-holds l h o = (sink-clear (sinks p r) l o .0 ∙ source-clear (sources p r) l h, never-start p r (Touches p r l))
+    nothing-holds l h o =
+        (sink-clear (sinkCount p r) l o .0 ∙ source-clear (sourceCount p r) l h, never-start p r (Touches p r l))
 
-    sink-holds : (x : ℕ) → x < sinks p r → HoldsAt p r 0 begun (sinkLoc p r x) (a-sink x)
+    sink-holds : (x : ℕ) → x < sinkCount p r → HoldsAt p r 0 begun (sinkLoc p r x) (a-sink x)
     unfolding begun locations
-    sink-holds x h = (refl, inl (sink-set (sinks p r) x h room, never-start p r (Sets p r x)))
+    sink-holds x h = (refl, inl (sink-set (sinkCount p r) x h room, never-start p r (Sets p r x)))
 
     begins : Holding p r 0 begun
     unfolding begun
     begins =
         record {
-          next = started-next (sinks p r);
+          next = started-next (sinkCount p r);
           few = omega arith;
-          sized = started-sized (sinks p r);
+          sized = started-sized (sinkCount p r);
           holds =
               by-place p r 0 (HoldsAt p r 0 begun) (omega arith)
               source-holds

@@ -1,9 +1,7 @@
--- The supply mask in a standing from 128 on: bit x is source x. Computed for every mask, count of sources and bit, then read off.
-use Prim.Native.Nat.{ℕ, _+_, _-_, _/_, _%_, _^_, _≤_, _<_}
-use mathlib.Core.Path.{_≡_, refl, sym, _∙_, ap, subst}
-use mathlib.Core.Logic.{_↔_}
-use mathlib.Core.Bool.{Bool, true, false, not, _&&_, _||_, false≢true}
-use native.Mathlib.Omega.{arith}
+-- The supply mask in a standing from 128 on: bit x is source x. Computed for every mask, count of
+-- sources and bit, then read off.
+use Rattle.value.specs.Prelude.{ℕ, _+_, _-_, _/_, _%_, _^_, _≤_, _<_, _≡_, refl, sym, _∙_, ap, subst, _↔_, Bool, true}
+use Rattle.value.specs.Prelude.{false, not, _&&_, _||_, false≢true, arith}
 use lib.Dec.{eqb, ltb}
 use borrow.Author.Tests.{eqb-true, eq-eqb, ne-eqb, ltb-true, lt-ltb}
 use Rattle.value.proofs.Below.{allBelow, both, at, all}
@@ -29,7 +27,8 @@ none-yet x h = eqb-true _ _ (at 7 (λ x. eqb (bit waiting x) 0) refl x h)
 pub some-room : (n : ℕ) → n ≤ 7 → waiting < waiting + 2 ^ n
 some-room n h = ltb-true _ _ (at 8 (λ n. ltb waiting (waiting + 2 ^ n)) refl n (omega arith))
 
--- ---- one source more: with a mask of n bits, adding bit x where it is clear sets it, keeps the others and stays within n bits
+-- ---- one source more: with a mask of n bits, adding bit x where it is clear sets it, keeps the
+-- others and stays within n bits
 
 abbrev fits : ℕ → ℕ → Bool
 fits n m = ltb (waiting + m) (waiting + 2 ^ n)
@@ -118,7 +117,8 @@ module _ (n st : ℕ) (few : n ≤ 7) (low : waiting ≤ st) (high : st < waitin
   pub ready-exact : (st ≡ readyAt n) ↔ ((x : ℕ) → x < n → bit st x ≡ 1)
   unfolding readyAt
   ready-exact =
-      let t = at 128 (λ m. readies n m) (at 8 (λ n. allBelow 128 (λ m. readies n m)) readies-all n (omega arith)) m m-small in
+      let t = at 128 (λ m. readies n m)
+      (at 8 (λ n. allBelow 128 (λ m. readies n m)) readies-all n (omega arith)) m m-small in
       let e : full n m ≡ eqb (waiting + m) (waiting + (2 ^ n - 1)) = same-eq _ _ (implied _ _ t m-fits) in (
         (λ q x h.
             let t = at n (λ x. eqb (bit (waiting + m) x) 1) (e ∙ eq-eqb _ _ (masked ∙ q)) x h in

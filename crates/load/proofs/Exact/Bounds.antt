@@ -1,8 +1,5 @@
 -- Where the commands of reactors lie, and that main is the last reactor.
-use Prim.Native.Nat.{ℕ, zero, suc, _≤_, _<_}
-use mathlib.Core.Path.{_≡_, ap}
-use mathlib.Core.List.{List}
-use native.Mathlib.Omega.{arith}
+use Rattle.value.specs.Prelude.{ℕ, zero, suc, _≤_, _<_, _≡_, ap, List, arith}
 use native.Mathlib.Nat.{le-of-eq}
 use Rattle.value.specs.Test.{_<?_}
 use Rattle.value.proofs.Tests.{cases, lt?, lt×?}

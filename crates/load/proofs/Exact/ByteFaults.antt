@@ -1,10 +1,6 @@
 -- The lowest byte that fails its test is the lowest at fault: in the header, and where that is right in the tables.
-use Prim.Native.Nat.{ℕ, _+_, _*_, _-_, _≤_, _<_}
-use mathlib.Core.Path.{_≡_, refl, sym, _∙_, ap, subst}
-use mathlib.Core.Bool.{Bool, false, not}
-use mathlib.Core.Logic.{_↔_, ⊎-elim}
-use mathlib.Core.List.{List}
-use native.Mathlib.Omega.{arith}
+use Rattle.value.specs.Prelude.{ℕ, _+_, _-_, _*_, _≤_, _<_, _≡_, refl, sym, _∙_, ap, subst, ⊎-elim, _↔_, Bool, false}
+use Rattle.value.specs.Prelude.{not, List, arith}
 use native.Mathlib.Nat.{mul-le-mul-left, mul-suc}
 use Rattle.value.specs.Test.{sweep, _<?_, _=?_, _or_}
 use Rattle.value.specs.Value.{reactorKind}

@@ -1,17 +1,16 @@
--- Which bytes of the header and the tables are legal, against the rules: each byte passes its test where the rules hold.
-use Prim.Native.Nat.{ℕ, _+_, _*_, _-_, _≤_, _<_}
-use mathlib.Core.Path.{_≡_, refl, sym, _∙_, ap, ap₂, subst}
-use mathlib.Core.Bool.{true, not}
-use mathlib.Core.List.{List}
-use mathlib.Core.Logic.{_↔_}
-use native.Mathlib.Omega.{arith}
+-- Which bytes of the header and the tables are legal, against the rules: each byte passes
+-- its test where the rules hold.
+use Rattle.value.specs.Prelude.{ℕ, _+_, _-_, _*_, _≤_, _<_, _≡_, refl, sym, _∙_, ap, ap₂, subst, _↔_, true, not, List}
+use Rattle.value.specs.Prelude.{arith}
 use native.Mathlib.Nat.{le-trans}
 use Rattle.value.specs.Test.{pick, _=?_, _≤?_, _<?_, _and_, _or_}
 use Rattle.value.specs.Value.{reactorKind, truthKind}
 use Rattle.value.proofs.Tests.{cases, lt!, lt×, lt?, lt×?, le!, le?, eq!, eq×, eq?, both!, both?, implies, yes, no}
 use Rattle.value.proofs.Sweeps.{Passes, sweeps?}
-use Rattle.program.specs.Bytes.{byte, headerEnd, mostShapes, mostReactors, mostGlobals, shapes, reactors, globals, shapeAt, sourcesIn, sinksIn, sourceKind, sinkKind, entryAt, shapeOf, declared, running, mainOf, globalKind, tablesEnd}
-use Rattle.program.specs.Location.{sources, sinks}
+use Rattle.program.specs.Bytes.{byte, headerEnd, mostShapes, mostReactors, mostGlobals, shapes, reactors, globals}
+use Rattle.program.specs.Bytes.{shapeAt, sourcesIn, sinksIn, sourceKind, sinkKind, entryAt, shapeOf, commandsD}
+use Rattle.program.specs.Bytes.{commandsR, mainOf, globalKind, tablesEnd}
+use Rattle.program.specs.Location.{sourceCount, sinkCount}
 use Rattle.load.specs.Tables.{between, headerLegal, portLegal, shapeLegal, mainLegal, entryLegal, tableLegal}
 use Rattle.load.specs.Rules.{HeaderRule, ShapeRule, EntryRule, MainRule}
 use Rattle.load.proofs.Exact.Widths.{chosen, parted, by-rows, sixteen, first-four}
@@ -28,10 +27,14 @@ record Ports (s count : ℕ) (kind : ℕ → ℕ) : Type 0 where
   used : (x : ℕ) → x < count → kind x < reactorKind s
   unused : (x : ℕ) → count ≤ x → x < 7 → kind x ≡ 0
 
-ports : (s count : ℕ) (kind : ℕ → ℕ) → count ≤ 7 → ((x : ℕ) → x < 7 → portLegal s count x (kind x) ≡ true) ↔ Ports s count kind
+ports : (s count : ℕ) (kind : ℕ → ℕ) → count ≤ 7 →
+    ((x : ℕ) → x < 7 → portLegal s count x (kind x) ≡ true) ↔ Ports s count kind
 unfolding portLegal
 ports s count kind few = (
-  λ h. record { used = λ x l. lt? (chosen x count _ _ .0 (h x (omega arith)) .0 l); unused = λ x l m. eq? (chosen x count _ _ .0 (h x m) .1 l) },
+  λ h. record {
+    used = λ x l. lt? (chosen x count _ _ .0 (h x (omega arith)) .0 l);
+    unused = λ x l m. eq? (chosen x count _ _ .0 (h x m) .1 l);
+  },
   λ r x l. chosen x count _ _ .1 (λ m. lt! (r .used x m), λ m. eq! (r .unused x m l)),
 )
 
@@ -56,8 +59,8 @@ module _ (p : List ℕ) where
 
   pub zero-byte : (i : ℕ) → 4 ≤ i → headerLegal p i ≡ (byte p i =? 0)
   unfolding headerLegal
-  zero-byte i l =
-      sym (no _ (eq× (λ e. omega arith)) (no _ (eq× (λ e. omega arith)) (no _ (eq× (λ e. omega arith)) (no _ (eq× (λ e. omega arith)) refl))))
+  zero-byte i l = sym (no _ (eq× (λ e. omega arith))
+      (no _ (eq× (λ e. omega arith)) (no _ (eq× (λ e. omega arith)) (no _ (eq× (λ e. omega arith)) refl))))
 
   pub header : Passes (headerLegal p) 0 headerEnd ↔ HeaderRule p
   header = (
@@ -94,26 +97,29 @@ module _ (p : List ℕ) where
     sinks-byte = refl
 
     -- the kind of port x, counted from column `first`
-    port-byte : (first count x : ℕ) → portLegal s count (first + x - first) (byte p (shapeAt p s + (first + x))) ≡ portLegal s count x (byte p (shapeAt p s + first + x))
+    port-byte : (first count x : ℕ) → portLegal s count (first + x - first) (byte p (shapeAt p s + (first + x)))
+        ≡ portLegal s count x (byte p (shapeAt p s + first + x))
     port-byte first count x = ap₂ (portLegal s count) (omega arith) (ap (byte p) (omega arith))
 
     pub source-byte : (x : ℕ) → x < 7 → shapeLegal p s (2 + x) ≡ portLegal s (sourcesIn p s) x (sourceKind p s x)
     unfolding shapeLegal sourceKind
-    source-byte x l =
-        sym (no _ (eq× (λ e. omega arith)) (no _ (eq× (λ e. omega arith)) (yes _ (lt! (omega arith)) (sym (port-byte 2 (sourcesIn p s) x)))))
+    source-byte x l = sym (no _ (eq× (λ e. omega arith))
+        (no _ (eq× (λ e. omega arith)) (yes _ (lt! (omega arith)) (sym (port-byte 2 (sourcesIn p s) x)))))
 
     pub sink-byte : (x : ℕ) → x < 7 → shapeLegal p s (9 + x) ≡ portLegal s (sinksIn p s) x (sinkKind p s x)
     unfolding shapeLegal sinkKind
-    sink-byte x l =
-        sym (no _ (eq× (λ e. omega arith)) (no _ (eq× (λ e. omega arith)) (no _ (lt× (omega arith)) (sym (port-byte 9 (sinksIn p s) x)))))
+    sink-byte x l = sym (no _ (eq× (λ e. omega arith))
+        (no _ (eq× (λ e. omega arith)) (no _ (lt× (omega arith)) (sym (port-byte 9 (sinksIn p s) x)))))
 
     pub shape : ((k : ℕ) → k < 16 → shapeLegal p s k ≡ true) ↔ ShapeRule p s
     shape = (
       λ h.
           let few : sourcesIn p s ≤ 7 = le? (sym sources-byte ∙ h 0 (omega arith)) in
           let some = between? (sym sinks-byte ∙ h 1 (omega arith)) in
-          let source = ports s (sourcesIn p s) (sourceKind p s) few .0 (λ x l. sym (source-byte x l) ∙ h (2 + x) (omega arith)) in
-          let sink = ports s (sinksIn p s) (sinkKind p s) (some .1) .0 (λ x l. sym (sink-byte x l) ∙ h (9 + x) (omega arith)) in
+          let source = ports s (sourcesIn p s) (sourceKind p s) few .0
+          (λ x l. sym (source-byte x l) ∙ h (2 + x) (omega arith)) in
+          let sink = ports s (sinksIn p s) (sinkKind p s) (some .1) .0
+          (λ x l. sym (sink-byte x l) ∙ h (9 + x) (omega arith)) in
           record {
             few-sources = few;
             some-sink = some .0;
@@ -124,8 +130,10 @@ module _ (p : List ℕ) where
             no-sink = sink .unused;
           },
       λ r.
-          let source = ports s (sourcesIn p s) (sourceKind p s) (r .few-sources) .1 (record { used = r .source-kinds; unused = r .no-source }) in
-          let sink = ports s (sinksIn p s) (sinkKind p s) (r .few-sinks) .1 (record { used = r .sink-kinds; unused = r .no-sink }) in
+          let source = ports s (sourcesIn p s) (sourceKind p s) (r .few-sources) .1
+          (record { used = r .source-kinds; unused = r .no-source }) in
+          let sink = ports s (sinksIn p s) (sinkKind p s) (r .few-sinks) .1
+          (record { used = r .sink-kinds; unused = r .no-sink }) in
           sixteen (λ (k : ℕ). shapeLegal p s k ≡ true)
           (sources-byte ∙ le! (r .few-sources))
           (sinks-byte ∙ between! (r .some-sink) (r .few-sinks))
@@ -139,30 +147,32 @@ module _ (p : List ℕ) where
     pub shape-byte :
         entryLegal p r 0 ≡ ((shapeOf p r <? shapes p) and (not (r =? mainOf p) or mainLegal p (shapeOf p r)))
     unfolding entryLegal shapeOf pick _=?_
-    shape-byte = ap (λ (i : ℕ). (byte p i <? shapes p) and (not (r =? mainOf p) or mainLegal p (byte p i))) (omega arith)
+    shape-byte =
+        ap (λ (i : ℕ). (byte p i <? shapes p) and (not (r =? mainOf p) or mainLegal p (byte p i))) (omega arith)
 
-    pub declared-byte : entryLegal p r 1 ≡ (declared p r ≤? 32)
-    unfolding entryLegal declared pick _=?_
+    pub declared-byte : entryLegal p r 1 ≡ (commandsD p r ≤? 32)
+    unfolding entryLegal commandsD pick _=?_
     declared-byte = refl
 
-    pub running-byte : entryLegal p r 2 ≡ between 1 128 (running p r)
-    unfolding entryLegal running pick _=?_
+    pub running-byte : entryLegal p r 2 ≡ between 1 128 (commandsR p r)
+    unfolding entryLegal commandsR pick _=?_
     running-byte = refl
 
     pub last-byte : entryLegal p r 3 ≡ (byte p (entryAt p r + 3) =? 0)
     unfolding entryLegal pick _=?_
     last-byte = refl
 
-    entry : ((k : ℕ) → k < 4 → entryLegal p r k ≡ true) ↔ (EntryRule p r × (r ≡ mainOf p → mainLegal p (shapeOf p r) ≡ true))
+    entry : ((k : ℕ) → k < 4 → entryLegal p r k ≡ true)
+        ↔ (EntryRule p r × (r ≡ mainOf p → mainLegal p (shapeOf p r) ≡ true))
     entry = (
       λ h.
           let first = both? (sym shape-byte ∙ h 0 (omega arith)) in
-          let running = between? (sym running-byte ∙ h 2 (omega arith)) in (
+          let commandsR = between? (sym running-byte ∙ h 2 (omega arith)) in (
             record {
               shape = lt? (first .0);
               few-declared = le? (sym declared-byte ∙ h 1 (omega arith));
-              some-running = running .0;
-              few-running = running .1;
+              some-running = commandsR .0;
+              few-running = commandsR .1;
               zero-byte = eq? (sym last-byte ∙ h 3 (omega arith));
             },
             λ e. implies _ _ .0 (first .1) (eq! e),
@@ -180,7 +190,7 @@ module _ (p : List ℕ) where
 
   -- the test asks all seven sinks, and may: those past the last are of kind 0
   pub main-legal : ShapeRule p (shapeOf p (mainOf p)) → (mainLegal p (shapeOf p (mainOf p)) ≡ true) ↔ MainRule p
-  unfolding mainLegal sources sinks
+  unfolding mainLegal sourceCount sinkCount
   main-legal shape =
       let s = shapeOf p (mainOf p) in
       let w = sweeps? (λ x. sinkKind p s x <? 2) 0 7 7 refl in (
@@ -188,7 +198,9 @@ module _ (p : List ℕ) where
             let b = both? h in
             record {
               no-sources = eq? (b .0);
-              plain-sinks = λ x l. let k : sinkKind p s x < 2 = lt? (w .0 (b .1) x (omega arith) (omega arith)) in omega arith;
+              plain-sinks = λ x l.
+                  let k : sinkKind p s x < 2 = lt? (w .0 (b .1) x (omega arith) (omega arith)) in
+                  omega arith;
             },
         λ r.
             both! (eq! (r .no-sources))
@@ -205,10 +217,13 @@ module _ (p : List ℕ) where
   unfolding globalKind
   global-byte x l = sym (no _ (eq× (λ e. omega arith)) refl)
 
-  global-kinds : Passes (λ i. byte p i <? 2) headerEnd (shapeAt p 0) ↔ ((x : ℕ) → 1 ≤ x → x ≤ globals p → globalKind p x ≤ truthKind)
+  global-kinds : Passes (λ i. byte p i <? 2) headerEnd (shapeAt p 0)
+      ↔ ((x : ℕ) → 1 ≤ x → x ≤ globals p → globalKind p x ≤ truthKind)
   unfolding shapeAt
   global-kinds = (
-    λ h x l m. let k : byte p (7 + x) < 2 = lt? (h (7 + x) (omega arith) (omega arith)) in omega (arith, global-byte x l),
+    λ h x l m.
+        let k : byte p (7 + x) < 2 = lt? (h (7 + x) (omega arith) (omega arith)) in
+        omega (arith, global-byte x l),
     λ r i l m.
         lt! (let k : globalKind p (i - 7) ≤ 1 = r (i - 7) (omega arith) (omega arith) in
         let e : byte p (7 + (i - 7)) ≡ byte p i = ap (byte p) (omega arith) in
@@ -237,11 +252,14 @@ module _ (p : List ℕ) where
       ((r : ℕ) → r < reactors p → (k : ℕ) → k < 4 → entryLegal p r k ≡ true))
   unfolding tableLegal
   three-tables =
-      let shape = by-rows 16 (shapeAt p 0) (omega arith) (λ s k. shapeLegal p s k ≡ true) (shapes p) (entryAt p 0) shapes-end in
-      let entry = by-rows 4 (entryAt p 0) (omega arith) (λ r k. entryLegal p r k ≡ true) (reactors p) (tablesEnd p) entries-end in
+      let shape = by-rows 16 (shapeAt p 0) (omega arith) (λ s k. shapeLegal p s k ≡ true) (shapes p)
+      (entryAt p 0) shapes-end in
+      let entry = by-rows 4 (entryAt p 0) (omega arith) (λ r k. entryLegal p r k ≡ true) (reactors p)
+      (tablesEnd p) entries-end in
       let first : shapeAt p 0 ≤ entryAt p 0 = omega (arith, shapes-end) in
       let second : entryAt p 0 ≤ tablesEnd p = omega (arith, entries-end) in
-      let after = parted _ _ headerEnd (shapeAt p 0) (tablesEnd p) (omega (arith, globals-end)) (le-trans first second) in
+      let after = parted _ _ headerEnd (shapeAt p 0) (tablesEnd p) (omega (arith, globals-end))
+      (le-trans first second) in
       let within = parted _ _ (shapeAt p 0) (entryAt p 0) (tablesEnd p) first second in (
         λ h. let a = after .0 h in let b = within .0 (a .1) in (a .0, shape .0 (b .0), entry .0 (b .1)),
         λ h. after .1 (h .0, within .1 (shape .1 (h .1), entry .1 (h .2))),
@@ -256,8 +274,12 @@ module _ (p : List ℕ) where
     λ h.
         let t = three-tables .0 h in
         let every-shape : (s : ℕ) → s < shapes p → ShapeRule p s = (λ s l. shape s .0 (t .1 s l)) in
-        let last = entry (mainOf p) .0 (t .2 (mainOf p) (main-last header)) in
-        (global-kinds .0 (t .0), every-shape, λ r l. entry r .0 (t .2 r l) .0, main-legal (every-shape _ (last .0 .shape)) .0 (last .1 refl)),
+        let last = entry (mainOf p) .0 (t .2 (mainOf p) (main-last header)) in (
+          global-kinds .0 (t .0),
+          every-shape,
+          λ r l. entry r .0 (t .2 r l) .0,
+          main-legal (every-shape _ (last .0 .shape)) .0 (last .1 refl),
+        ),
     λ h.
         let main = main-legal (h .1 _ (h .2 (mainOf p) (main-last header) .shape)) .1 (h .3) in
         three-tables .1 (

@@ -1,36 +1,33 @@
 -- The test at a reactor's end: every standing may stay exactly where no React, AllocPoly, Keep or Sink is missing.
-use Prim.Native.Nat.{ℕ, _≤_, _<_}
-use mathlib.Core.Path.{_≡_, refl, sym, _∙_, ap, subst}
-use mathlib.Core.Bool.{true, false}
-use mathlib.Core.Logic.{_↔_, _⊎_, inl, inr, Iff·trans}
-use mathlib.Core.List.{List}
-use native.Mathlib.Omega.{arith}
+use Rattle.value.specs.Prelude.{ℕ, _≤_, _<_, _≡_, refl, sym, _∙_, ap, subst, _⊎_, inl, inr, _↔_, Iff·trans, true, false}
+use Rattle.value.specs.Prelude.{List, arith}
 use lib.ListN.{List·getD-eq-default}
 use Rattle.value.specs.Test.{sweep, _<?_}
 use Rattle.value.proofs.Sweeps.{swept, sweeps}
 use Rattle.value.proofs.Tests.{cases, Says, says-lt, says-eq, says-or, says×, lt?, lt×?, eq×?}
 use Rattle.program.specs.Bytes.{sourcesIn, commandsIn}
-use Rattle.program.specs.Command.{Cmd, cmdOf, allocMono, makePoly, constant, global, supply, react, consume, sink, allocPoly, primitive, cell, fetch, keep, none}
-use Rattle.program.specs.Location.{commandLoc, cmdAt, shapeThere}
-use Rattle.load.specs.Scan.{standingAt, kindAt, settled, complete, freeCell, keptCell, freePoint, usedPoint, unsetSink, setSink, reacted}
+use Rattle.program.specs.Command.{Cmd, cmdOf, allocMono, makePoly, supply, react, sink, allocPoly, cell, keep, none}
+use Rattle.program.specs.Command.{gives, Class, a-value, a-cell, a-point, a-deployment, a-sink, nothing, classOf}
+use Rattle.program.specs.Location.{mostLocations, commandLoc, cmdAt, shapeThere}
+use Rattle.load.specs.Scan.{standingAt, kindAt, settled, complete, freeCell, keptCell, freePoint, usedPoint}
+use Rattle.load.specs.Scan.{unsetSink, setSink, hasRun}
 use Rattle.load.specs.Rules.{Allocates, Keeps, Sets}
 use Rattle.load.specs.declared.Scan.{Scan}
 use Rattle.load.proofs.Exact.Seen.{tells-hi}
 use Rattle.load.specs.Fault.{Lacks, react-missing, poly-missing, keep-missing, sink-missing}
-use Rattle.load.proofs.Exact.Class.{Class, a-value, a-cell, a-point, a-deployment, a-sink, nothing, classOf}
 use Rattle.load.proofs.Exact.Places.{classAt, loc-lt, cmd-there, by-place}
 use Rattle.load.proofs.Exact.Fits.{Ended}
 use Rattle.load.proofs.Exact.Stand.{Sized}
 use Rattle.load.proofs.Exact.Holds.{Holds, Holding, standing-of, deployed-reacted}
 
 settled-says : (st : ℕ)
-    → Says (settled st) ((st < freeCell) ⊎ ((st ≡ keptCell) ⊎ ((st ≡ usedPoint) ⊎ ((st ≡ setSink) ⊎ (st ≡ reacted)))))
+    → Says (settled st) ((st < freeCell) ⊎ ((st ≡ keptCell) ⊎ ((st ≡ usedPoint) ⊎ ((st ≡ setSink) ⊎ (st ≡ hasRun)))))
 unfolding settled
 settled-says st = says-or says-lt (says-or says-eq (says-or says-eq (says-or says-eq says-eq)))
 
 -- from 2 on, where only v of the standings that may stay is possible
 settled-at : (st v : ℕ) → settled v ≡ true → freeCell ≤ st →
-    (st ≡ keptCell → st ≡ v) → (st ≡ usedPoint → st ≡ v) → (st ≡ setSink → st ≡ v) → (st ≡ reacted → st ≡ v) →
+    (st ≡ keptCell → st ≡ v) → (st ≡ usedPoint → st ≡ v) → (st ≡ setSink → st ≡ v) → (st ≡ hasRun → st ≡ v) →
     (settled st ≡ true) ↔ (st ≡ v)
 settled-at st v ok low kept used set done = (
   (λ e. elim (settled-says st .0 e) [
@@ -62,9 +59,9 @@ module _ (p : List ℕ) (r : ℕ) where
       Iff·trans (settled-at st usedPoint ok (omega arith) (omega arith) (omega arith) (omega arith) (omega arith))
       (tells-hi p r (Allocates p r l) freePoint usedPoint (commandsIn p r) st (omega arith) (h .0))
   settled-exact l st kd a-deployment h =
-      let w : reacted ≤ st = standing-of p r (commandsIn p r) l st kd a-deployment h in
-      let ok = settled-says reacted .1 (inr (inr (inr (inr refl)))) in
-      Iff·trans (settled-at st reacted ok (omega arith) (omega arith) (omega arith) (omega arith) (omega arith))
+      let w : hasRun ≤ st = standing-of p r (commandsIn p r) l st kd a-deployment h in
+      let ok = settled-says hasRun .1 (inr (inr (inr (inr refl)))) in
+      Iff·trans (settled-at st hasRun ok (omega arith) (omega arith) (omega arith) (omega arith) (omega arith))
       (deployed-reacted p r (commandsIn p r) l st (sourcesIn p (shapeThere p r l)) (h .0))
   settled-exact l st kd (a-sink x) h =
       let w = standing-of p r (commandsIn p r) l st kd (a-sink x) h in
@@ -74,7 +71,7 @@ module _ (p : List ℕ) (r : ℕ) where
   settled-exact l st kd nothing h = ((λ e. tt), (λ u. settled-low st (omega (arith, h .0))))
 
   -- past the tables nothing stands
-  beyond : (s : Scan) → Sized s → (l : ℕ) → 174 ≤ l → settled (standingAt s l) ≡ true
+  beyond : (s : Scan) → Sized s → (l : ℕ) → mostLocations ≤ l → settled (standingAt s l) ≡ true
   unfolding standingAt
   beyond s z l h =
       let e : standingAt s l ≡ 0 = List·getD-eq-default (s .standing) 0 (subst (λ m. m ≤ l) (sym (z .long)) h) in
@@ -88,10 +85,10 @@ module _ (p : List ℕ) (r : ℕ) where
       (complete s ≡ true) ↔ ((l : ℕ) → Ended p r l (classAt p r (commandsIn p r) l))
   unfolding complete
   complete-exact s g =
-      Iff·trans says-eq (Iff·trans (sweeps (λ l. settled (standingAt s l)) 0 174 174 refl) (
+      Iff·trans says-eq (Iff·trans (sweeps (λ l. settled (standingAt s l)) 0 mostLocations mostLocations refl) (
         (λ h l.
             exact-at s g l .0
-            (cases (l <? 174) (λ y. h l (omega arith) (lt? y)) (λ y. beyond s (g .sized) l (lt×? y)))),
+            (cases (l <? mostLocations) (λ y. h l (omega arith) (lt? y)) (λ y. beyond s (g .sized) l (lt×? y)))),
         (λ h i l m. exact-at s g i .1 (h i)),
       ))
 
@@ -102,16 +99,12 @@ module _ (p : List ℕ) (r : ℕ) where
   unfolding classOf
   lacking-made i h (allocMono x) e n = react-missing (inl (x, e)) (λ j l q. n (j, l, q))
   lacking-made i h (makePoly x) e n = poly-missing (x, e) (λ j l q. n (j, l, q))
-  lacking-made i h (constant x v) e n = absurd (n tt)
-  lacking-made i h (global x) e n = absurd (n tt)
+  lacking-made i h (cell x v) e n = keep-missing (x, v, e) (λ j l q. n (j, l, q))
+  lacking-made i h (gives g) e n = absurd (n tt)
   lacking-made i h (supply x a b) e n = absurd (n tt)
   lacking-made i h (react b) e n = absurd (n tt)
-  lacking-made i h (consume x b) e n = absurd (n tt)
   lacking-made i h (sink x a) e n = absurd (n tt)
   lacking-made i h (allocPoly a b) e n = react-missing (inr (loc-lt p r h, (a, b, e))) (λ j l q. n (j, l, q))
-  lacking-made i h (primitive x a b c) e n = absurd (n tt)
-  lacking-made i h (cell x v) e n = keep-missing (x, v, e) (λ j l q. n (j, l, q))
-  lacking-made i h (fetch b) e n = absurd (n tt)
   lacking-made i h (keep a b) e n = absurd (n tt)
   lacking-made i h none e n = absurd (n tt)
 
@@ -127,8 +120,8 @@ module _ (p : List ℕ) (r : ℕ) where
   pub lacking : (s : Scan) → Holding p r (commandsIn p r) s → complete s ≡ false → Lacks p r
   unfolding complete
   lacking s g e =
-      let found = swept (λ l. settled (standingAt s l)) 0 174 in
-      let l = sweep (λ l. settled (standingAt s l)) 0 174 in
+      let found = swept (λ l. settled (standingAt s l)) 0 mostLocations in
+      let l = sweep (λ l. settled (standingAt s l)) 0 mostLocations in
       let end = eq×? e in
       let fails = found .stopped (let t = found .to in omega arith) in
       lacking-at l (says× (exact-at s g l) .0 fails)

@@ -1,11 +1,6 @@
 -- A program is refused for its first fault, with its place: `first-fault`, and with it `check-numbers`.
-use Prim.Native.Nat.{ℕ, zero, suc, _+_, _-_, _≤_, _<_}
-use mathlib.Core.Path.{_≡_, refl, sym, _∙_, ap, subst₂}
-use mathlib.Core.Bool.{Bool, true, false}
-use mathlib.Core.Logic.{_↔_, _≢_, inl, inr, ⊎-elim, Iff·trans}
-use mathlib.Core.List.{List}
-use native.Mathlib.Omega.{arith}
-use lib.ListN.{length}
+use Rattle.value.specs.Prelude.{ℕ, zero, suc, _+_, _-_, _≤_, _<_, _≡_, refl, sym, _∙_, ap, subst₂, inl, inr, ⊎-elim}
+use Rattle.value.specs.Prelude.{_↔_, Iff·trans, _≢_, Bool, true, false, List, length, arith}
 use Rattle.value.specs.Test.{pick, guard, sweep, _and_, _≤?_, _=?_}
 use Rattle.value.proofs.Tests.{cases, clash, below, same?, le!, le×, eq!, eq?, eq×, both!, both?, goes, stops, Says}
 use Rattle.value.proofs.Tests.{says-le, says-eq, says-and, says×, says-guard}
@@ -15,30 +10,29 @@ use Rattle.program.specs.Bytes.{commandAt}
 use Rattle.program.specs.Command.{Cmd, cmdOf, bytesOf, decode}
 use Rattle.program.specs.Location.{sizeOf}
 use Rattle.load.specs.Scan.{Scanned, refusalOf, scanned, scanOf, beginOf, complete}
-use Rattle.load.specs.Refusal.{refusalNumber, refusalPlace, atCommand}
+use Rattle.load.specs.Refusal.{atCommand}
+use Rattle.answer.specs.Answer.{refusalNumber, refusalPlace, numberOf}
 use Rattle.load.specs.Tables.{headerLegal, tableLegal}
-use Rattle.load.specs.Check.{numberOf, ended, reactorsOf, checkOf}
+use Rattle.load.specs.Check.{ended, reactorsOf, checkOf}
 use Rattle.load.specs.Rules.{HeaderRule, ReactorRule, TablesRight}
 use Rattle.load.specs.Order.{OutOfOrder, source-again, sink-again, early-react, early-consume, late-supply}
 use Rattle.load.specs.Order.{second-react, second-poly, second-keep, not-lower}
-use Rattle.load.specs.Accepted.{ReactorAccepted}
+use Rattle.load.proofs.Accepted.{ReactorAccepted}
 use Rattle.load.specs.Fault.{Between, HeaderFault, TableFault, Lowest, First, misformed, withdrawn, misplaced}
 use Rattle.load.specs.Fault.{unlike, disordered, Passed, Lacks, react-missing, poly-missing, keep-missing}
-use Rattle.load.specs.Fault.{sink-missing, Reached}
-use Rattle.load.specs.Fault.{Fault, length-wrong, header-byte, tables-cut, table-byte, not-whole, command}
-use Rattle.load.specs.Fault.{missing}
-use Rattle.load.specs.Fault.{FirstFault, CheckNumber, CheckNumbers}
-use Rattle.load.specs.declared.Refusal.{Refusal}
-use Rattle.load.specs.declared.Refusal.the-variants.{ProgramLength, TableByte, Missing}
-use Rattle.load.specs.declared.Checked.{Checked}
-use Rattle.load.specs.declared.Checked.the-variants.{Accepted, Refused}
-use Rattle.load.proofs.Refusals.{Told, told}
+use Rattle.load.specs.Fault.{sink-missing, Reached, Fault, length-wrong, header-byte, tables-cut, table-byte}
+use Rattle.load.specs.Fault.{not-whole, command, missing, FirstFault, CheckNumber, CheckNumbers}
+use Rattle.answer.specs.declared.Refusal.{Refusal}
+use Rattle.answer.specs.declared.Refusal.the-variants.{ProgramLength, TableByte, Missing}
+use Rattle.answer.specs.declared.Answer.{Answer}
+use Rattle.answer.specs.declared.Answer.the-variants.{Done, Refused}
+use Rattle.answer.proofs.Refusals.{Told, told}
 use Rattle.load.proofs.Exact.Bytes.{header, tables, header-first}
 use Rattle.load.proofs.Exact.ByteFaults.{none-exact, lowest-found, lowest-is, header-exact, header-bounds}
 use Rattle.load.proofs.Exact.ByteFaults.{table-exact, table-bounds}
-use Rattle.load.proofs.Exact.Parts.{tables-inside}
+use Rattle.load.proofs.Exact.Acceptance.{tables-inside}
 use Rattle.load.proofs.Exact.Holds.{Holding}
-use Rattle.load.proofs.Exact.Taken.{taken-exact}
+use Rattle.load.proofs.Exact.PassesIfFits.{taken-exact}
 use Rattle.load.proofs.Exact.Complete.{lacking}
 use Rattle.load.proofs.Exact.Scanning.{refusal, scan-stops, scan-on, scan-found}
 use Rattle.load.proofs.Exact.Reactor.{first-run, first-fits, reactor-exact}
@@ -143,26 +137,26 @@ module _ (p : List ℕ) (t : TablesRight p) where
   abbrev whole : ℕ → Scanned
   whole r = scanOf (commandsIn p r) p r (beginOf p r)
 
-  abbrev rest : ℕ → ℕ → Checked
-  rest n r = reactorsOf (Accepted (sizeOf p (mainOf p))) n p r
+  abbrev rest : ℕ → ℕ → Answer
+  rest n r = reactorsOf (Done (sizeOf p (mainOf p))) n p r
 
   -- what reactor r comes to, `more` being what the reactors after it come to
-  abbrev at : (Unit {0} → Checked) → ℕ → Checked
+  abbrev at : (Unit {0} → Answer) → ℕ → Answer
   at more r = ended more (entryAt p r) (whole r) (whole r .code)
 
-  ended-goes : (more : Unit {0} → Checked) (entry : ℕ) (u : Scanned) (n : ℕ) → n ≡ 0 → complete (u .scan) ≡ true →
+  ended-goes : (more : Unit {0} → Answer) (entry : ℕ) (u : Scanned) (n : ℕ) → n ≡ 0 → complete (u .scan) ≡ true →
       ended more entry u n ≡ more tt
   unfolding ended
   ended-goes more entry u zero z e = sym (goes _ _ e refl)
   ended-goes more entry u (suc n) z e = absurd (omega arith)
 
-  ended-misses : (more : Unit {0} → Checked) (entry : ℕ) (u : Scanned) (n : ℕ) → n ≡ 0 → complete (u .scan) ≡ false →
+  ended-misses : (more : Unit {0} → Answer) (entry : ℕ) (u : Scanned) (n : ℕ) → n ≡ 0 → complete (u .scan) ≡ false →
       ended more entry u n ≡ Refused (Missing entry)
   unfolding ended
   ended-misses more entry u zero z e = sym (stops _ e refl)
   ended-misses more entry u (suc n) z e = absurd (omega arith)
 
-  ended-stops : (more : Unit {0} → Checked) (entry : ℕ) (u : Scanned) (n : ℕ) → n ≢ 0 →
+  ended-stops : (more : Unit {0} → Answer) (entry : ℕ) (u : Scanned) (n : ℕ) → n ≢ 0 →
       ended more entry u n ≡ Refused (atCommand n (u .place))
   unfolding ended
   ended-stops more entry u zero h = absurd (h refl)
@@ -172,7 +166,7 @@ module _ (p : List ℕ) (t : TablesRight p) where
   unfolding reactorsOf
   step n r = refl
 
-  none-left : (r : ℕ) → rest 0 r ≡ Accepted (sizeOf p (mainOf p))
+  none-left : (r : ℕ) → rest 0 r ≡ Done (sizeOf p (mainOf p))
   unfolding reactorsOf
   none-left r = refl
 
@@ -202,7 +196,7 @@ module _ (p : List ℕ) (t : TablesRight p) where
   abbrev accepts : ℕ → Bool
   accepts r = (whole r .code =? 0) and complete (whole r .scan)
 
-  accepted-not : (z : ℕ) (w : Refusal) → Accepted z ≡ Refused w → ⊥
+  accepted-not : (z : ℕ) (w : Refusal) → Done z ≡ Refused w → ⊥
   accepted-not z w e = let x : _≡_ {A = ℕ} 0 1 = cc in omega arith
 
   module _ (w : Refusal) where
@@ -332,19 +326,19 @@ module _ (p : List ℕ) where
           whole = e;
         }
 
-  abbrev last : Checked
-  last = reactorsOf (Accepted (sizeOf p (mainOf p))) (reactors p) p 0
+  abbrev last : Answer
+  last = reactorsOf (Done (sizeOf p (mainOf p))) (reactors p) p 0
 
-  abbrev from-whole : Checked
+  abbrev from-whole : Answer
   from-whole = guard (length p =? wholeLength p) (Refused (ProgramLength (length p))) (λ _. last)
 
-  abbrev from-table : Checked
+  abbrev from-table : Answer
   from-table = guard (tablePlace =? tablesEnd p) (Refused (TableByte tablePlace)) (λ _. from-whole)
 
-  abbrev from-cut : Checked
+  abbrev from-cut : Answer
   from-cut = guard (tablesEnd p ≤? length p) (Refused (ProgramLength (length p))) (λ _. from-table)
 
-  abbrev from-header : Checked
+  abbrev from-header : Answer
   from-header = guard (headerPlace =? headerEnd) (Refused (TableByte headerPlace)) (λ _. from-cut)
 
   ladder : checkOf p ≡ guard lengthTest (Refused (ProgramLength (length p))) (λ _. from-header)
@@ -355,7 +349,7 @@ module _ (p : List ℕ) where
     abbrev Found : Type 0
     Found = Fault p (refusalNumber w) (refusalPlace w)
 
-    abbrev Is : Checked → Type 0
+    abbrev Is : Answer → Type 0
     Is c = c ≡ Refused w
 
     found-table : Between (tablesEnd p) mostBytes (length p) → HeaderRule p → Is from-table → Found
@@ -385,22 +379,22 @@ module _ (p : List ℕ) where
 
   -- past each rung
 
-  length-past : Between headerEnd mostBytes (length p) → {c : Checked} → from-header ≡ c → checkOf p ≡ c
+  length-past : Between headerEnd mostBytes (length p) → {c : Answer} → from-header ≡ c → checkOf p ≡ c
   length-past b e = ladder ∙ sym (goes _ _ (length-says .1 b) (sym e))
 
-  header-past : Between headerEnd mostBytes (length p) → HeaderRule p → {c : Checked} → from-cut ≡ c → checkOf p ≡ c
+  header-past : Between headerEnd mostBytes (length p) → HeaderRule p → {c : Answer} → from-cut ≡ c → checkOf p ≡ c
   header-past b h e = length-past b (sym (goes _ _ (header-says .1 h) (sym e)))
 
-  cut-past : Between (tablesEnd p) mostBytes (length p) → HeaderRule p → {c : Checked} → from-table ≡ c → checkOf p ≡ c
+  cut-past : Between (tablesEnd p) mostBytes (length p) → HeaderRule p → {c : Answer} → from-table ≡ c → checkOf p ≡ c
   cut-past b h e =
       header-past (omega (arith, b .0, header-first p), b .1) h (sym (goes _ _ (le! (b .0)) (sym e)))
 
   table-past : Between (tablesEnd p) mostBytes (length p) → HeaderRule p → ((i : ℕ) → TableFault p i → ⊥) →
-      {c : Checked} → from-whole ≡ c → checkOf p ≡ c
+      {c : Answer} → from-whole ≡ c → checkOf p ≡ c
   table-past b h none e = cut-past b h (sym (goes _ _ (table-says h .1 none) (sym e)))
 
   -- the commands are come to where the tables are right
-  tables-past : TablesRight p → {c : Checked} → last ≡ c → checkOf p ≡ c
+  tables-past : TablesRight p → {c : Answer} → last ≡ c → checkOf p ≡ c
   tables-past t e =
       let h = t .header in
       let passes = tables p h .1 (t .global-kinds, t .every-shape, t .entries, t .main) in
@@ -468,6 +462,6 @@ fault-number (missing a passed lacks) = inl (omega arith)
 pub check-numbers : CheckNumbers
 check-numbers p = by (checkOf p) refl
   where
-    by : (c : Checked) → checkOf p ≡ c → CheckNumber (numberOf (checkOf p))
-    by (Accepted size) e = rw e (inl (omega arith))
+    by : (c : Answer) → checkOf p ≡ c → CheckNumber (numberOf (checkOf p))
+    by (Done size) e = rw e (inl (omega arith))
     by (Refused w) e = rw e (fault-number (first-fault p w .0 e))

@@ -1,13 +1,9 @@
 -- A command is refused for the first test that it fails, where the tables hold what they should: `refusal-first`.
-use Prim.Native.Nat.{ℕ, _≤_}
-use mathlib.Core.Path.{_≡_, refl, sym, _∙_, subst}
-use mathlib.Core.Logic.{_↔_, _≢_, inl, inr, ⊎-map, Iff·trans}
-use mathlib.Core.List.{List}
-use native.Mathlib.Omega.{arith}
+use Rattle.value.specs.Prelude.{ℕ, _≤_, _≡_, refl, sym, _∙_, subst, inl, inr, ⊎-map, _↔_, Iff·trans, _≢_, List, arith}
 use Rattle.value.specs.Test.{need, _<?_}
 use Rattle.value.proofs.Tests.{cases, Says, says×, says-rung}
-use Rattle.program.specs.Bytes.{declared, commandsIn}
-use Rattle.program.specs.Command.{Cmd, cmdOf, bytesOf, sequenceOf, allocMono, makePoly, constant, global, supply}
+use Rattle.program.specs.Bytes.{commandsD, commandsIn}
+use Rattle.program.specs.Command.{Cmd, cmdOf, bytesOf, sequenceOf, allocMono, makePoly, constant, global, supply, gives}
 use Rattle.program.specs.Command.{react, consume, sink, allocPoly, primitive, cell, fetch, keep, none}
 use Rattle.load.specs.Scan.{inSequence, formed, remaining, located, agreed, disorder, refusalOf}
 use Rattle.load.specs.Rules.{ZeroBytes, TablesRight}
@@ -20,7 +16,7 @@ use Rattle.load.proofs.Exact.Places.{value-exact, deployment-exact, poi
 use Rattle.load.proofs.Exact.Fits.{PlacedAt}
 use Rattle.load.proofs.Exact.Formed.{formed-says}
 use Rattle.load.proofs.Exact.Holds.{Holding}
-use Rattle.load.proofs.Exact.Taken.{sequence-says, remaining-says, located-says, agreed-says}
+use Rattle.load.proofs.Exact.PassesIfFits.{sequence-says, remaining-says, located-says, agreed-says}
 use Rattle.load.proofs.Exact.Order.{refused-for, refuses}
 
 -- ---- where operands are: what stands there, in the words of the rules
@@ -30,16 +26,17 @@ places-map : {A B C E J K L M : ℕ → Type 0} →
     (c : Cmd) → Placed A B C E c → Placed J K L M c
 places-map f g h i (allocMono x) u = u
 places-map f g h i (makePoly x) u = u
-places-map f g h i (constant x v) u = u
-places-map f g h i (global x) u = u
+places-map f g h i (cell x v) u = u
+places-map f g h i (gives (constant x v)) u = u
+places-map f g h i (gives (global x)) u = u
+places-map f g h i (gives (consume x b)) u = g b u
+places-map f g h i (gives (primitive x a b c)) u =
+    (f a (u .0), ⊎-map (λ q. q) (f b) (u .1), ⊎-map (λ q. q) (f c) (u .2))
+places-map f g h i (gives (fetch b)) u = i b u
 places-map f g h i (supply x a b) u = (f a (u .0), g b (u .1))
 places-map f g h i (react b) u = g b u
-places-map f g h i (consume x b) u = g b u
 places-map f g h i (sink x a) u = f a u
 places-map f g h i (allocPoly a b) u = (f a (u .0), h b (u .1))
-places-map f g h i (primitive x a b c) u = (f a (u .0), ⊎-map (λ q. q) (f b) (u .1), ⊎-map (λ q. q) (f c) (u .2))
-places-map f g h i (cell x v) u = u
-places-map f g h i (fetch b) u = i b u
 places-map f g h i (keep a b) u = (f a (u .0), i b (u .1))
 places-map f g h i none u = u
 
@@ -68,9 +65,9 @@ module _ {p : List ℕ} {r k : ℕ} {s : Scan} (g : Holding p r k s) (t : Tables
   abbrev c : Cmd
   c = cmdOf p r k
 
-  sequence-test : Says (inSequence (sequenceOf c) (s .next <? declared p r)) (InSequence p r k (sequenceOf c))
+  sequence-test : Says (inSequence (sequenceOf c) (s .next <? commandsD p r)) (InSequence p r k (sequenceOf c))
   sequence-test =
-      subst (λ j. Says (inSequence (sequenceOf c) (s .next <? declared p r)) (InSequence p r j (sequenceOf c)))
+      subst (λ j. Says (inSequence (sequenceOf c) (s .next <? commandsD p r)) (InSequence p r j (sequenceOf c)))
       (g .next) (sequence-says p r (s .next) (sequenceOf c))
 
   formed-test : Says (formed p (bytesOf p r k) c) (ZeroBytes (bytesOf p r k) c × Ranged p c)
@@ -101,7 +98,7 @@ module _ {p : List ℕ} {r k : ℕ} {s : Scan} (g : Holding p r k s) (t : Tables
   abbrev from-3 : ℕ
   from-3 = need (formed p (bytesOf p r k) c) 3 from-25
 
-  ladder : refusalOf p r s (bytesOf p r k) c ≡ need (inSequence (sequenceOf c) (s .next <? declared p r)) 3 from-3
+  ladder : refusalOf p r s (bytesOf p r k) c ≡ need (inSequence (sequenceOf c) (s .next <? commandsD p r)) 3 from-3
   unfolding refusalOf
   ladder = refl
 
@@ -148,7 +145,7 @@ module _ {p : List ℕ} {r k : ℕ} {s : Scan} (g : Holding p r k s) (t : Tables
   given : {n : ℕ} → First p r k c n → refusalOf p r s (bytesOf p r k) c ≡ n
   given (misformed h) =
       ladder
-      ∙ cases (inSequence (sequenceOf c) (s .next <? declared p r))
+      ∙ cases (inSequence (sequenceOf c) (s .next <? commandsD p r))
       (λ y.
       let q = sequence-test .0 y in
       let bytes = says-rung formed-test 3 3 from-25 .1 (inl ((λ f. h (q, f .0, f .1)), refl)) in

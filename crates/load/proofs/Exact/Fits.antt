@@ -1,15 +1,14 @@
 -- The rules, read as the check reads them: what one command asks of those before it. `Fits p r k c`: c may be command
 -- k of reactor r.
-use Prim.Native.Nat.{ℕ, _<_}
-use mathlib.Core.Path.{_≡_}
-use mathlib.Core.List.{List}
+use Rattle.value.specs.Prelude.{ℕ, _<_, _≡_, List}
 use Rattle.program.specs.Bytes.{sourcesIn, commandsIn}
-use Rattle.program.specs.Command.{Cmd, cmdOf, bytesOf, sequenceOf, allocMono, makePoly, constant, global, supply, react, consume, sink, allocPoly, primitive, cell, fetch, keep, none}
+use Rattle.program.specs.Command.{Cmd, cmdOf, bytesOf, sequenceOf, allocMono, makePoly, constant, global, supply, react}
+use Rattle.program.specs.Command.{consume, sink, allocPoly, primitive, cell, fetch, keep, none, gives, Class, a-value}
+use Rattle.program.specs.Command.{a-cell, a-point, a-deployment, a-sink, nothing}
 use Rattle.program.specs.Location.{shapeThere}
 use Rattle.load.specs.Rules.{ZeroBytes, Supplies, Reacts, Allocates, Keeps, Sets}
 use Rattle.load.specs.Order.{Never, Already}
 use Rattle.load.specs.Fault.{Ranged, Remaining, Placed, Agreed, InSequence}
-use Rattle.load.proofs.Exact.Class.{Class, a-value, a-cell, a-point, a-deployment, a-sink, nothing}
 use Rattle.load.proofs.Exact.Places.{classAt}
 
 module _ (p : List ℕ) (r k : ℕ) where
@@ -26,17 +25,17 @@ module _ (p : List ℕ) (r k : ℕ) where
   abbrev pub Timely : Cmd → Type 0
   Timely (allocMono x) = x < r
   Timely (makePoly x) = Unit {0}
-  Timely (constant x v) = Unit {0}
-  Timely (global x) = Unit {0}
+  Timely (cell x v) = Unit {0}
+  Timely (gives (constant x v)) = Unit {0}
+  Timely (gives (global x)) = Unit {0}
+  Timely (gives (consume x b)) = Already p r (Reacts p r b) k
+  Timely (gives (primitive x a b c)) = Unit {0}
+  Timely (gives (fetch b)) = Unit {0}
   Timely (supply x a b) = Never p r (Reacts p r b) k × Never p r (Supplies p r x b) k
   Timely (react b) =
       Never p r (Reacts p r b) k × ((x : ℕ) → x < sourcesIn p (shapeThere p r b) → Already p r (Supplies p r x b) k)
-  Timely (consume x b) = Already p r (Reacts p r b) k
   Timely (sink x a) = Never p r (Sets p r x) k
   Timely (allocPoly a b) = Never p r (Allocates p r b) k
-  Timely (primitive x a b c) = Unit {0}
-  Timely (cell x v) = Unit {0}
-  Timely (fetch b) = Unit {0}
   Timely (keep a b) = Never p r (Keeps p r b) k
   Timely none = Unit {0}
 

@@ -1,12 +1,10 @@
--- The tests of a command's bytes, number 3: they say that the bytes not named are zero, and the ranges and constants right.
-use Prim.Native.Nat.{ℕ, zero, suc, _+_, _<_}
-use mathlib.Core.Path.{_≡_}
-use mathlib.Core.Logic.{_↔_, inl, inr, Iff·trans}
-use mathlib.Core.List.{List}
-use native.Mathlib.Omega.{arith}
+-- The tests of a command's bytes, number 3: they say that the bytes not named are zero, and
+-- the ranges and constants right.
+use Rattle.value.specs.Prelude.{ℕ, zero, suc, _+_, _<_, _≡_, inl, inr, _↔_, Iff·trans, List, arith}
 use Rattle.value.specs.Test.{_≤?_, _=?_, _or_}
 use Rattle.value.specs.Primitive.{isPrimitive}
-use Rattle.value.proofs.Tests.{Says, says-lt, says-le, says-eq, says-true, says-false, says-and, says-or, cases, le?, le×?, eq?, eq! }
+use Rattle.value.proofs.Tests.{Says, says-lt, says-le, says-eq, says-true, says-false, says-and, says-or, cases, le?}
+use Rattle.value.proofs.Tests.{le×?, eq?, eq! }
 use Rattle.program.specs.Command.{decode, vOf}
 use Rattle.program.specs.Kind.{contentLegal, Content}
 use Rattle.program.specs.declared.Command.{Command}
@@ -42,7 +40,8 @@ content-says p (suc (suc s)) c = says-and says-lt says-eq
 only : {A : Type 0} → A ↔ (A × Unit {0})
 only = ((λ a. (a, tt)), (λ h. h .0))
 
-pub formed-says : (p : List ℕ) (c : Command) → Says (formed p c (decode c)) (ZeroBytes c (decode c) × Ranged p (decode c))
+pub formed-says : (p : List ℕ) (c : Command) →
+    Says (formed p c (decode c)) (ZeroBytes c (decode c) × Ranged p (decode c))
 unfolding formed isPrimitive
 formed-says p c =
     by-code (λ d. Says (formed p c d) (ZeroBytes c d × Ranged p d)) c

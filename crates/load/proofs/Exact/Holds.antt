@@ -1,21 +1,21 @@
--- What the scan's tables hold after the first k commands, location by location; and what its tests on a location therefore say.
-use Prim.Native.Nat.{ℕ, suc, _+_, _^_, _≤_, _<_}
-use mathlib.Core.Path.{_≡_, refl, sym, subst, subst₂}
-use mathlib.Core.Logic.{_↔_, _⊎_, inl, inr, Iff·trans}
-use mathlib.Core.List.{List}
-use native.Mathlib.Omega.{arith}
+-- What the scan's tables hold after the first k commands, location by location; and what its
+-- tests on a location therefore say.
+use Rattle.value.specs.Prelude.{ℕ, suc, _+_, _^_, _≤_, _<_, _≡_, refl, sym, subst, subst₂, _⊎_, inl, inr, _↔_}
+use Rattle.value.specs.Prelude.{Iff·trans, List, arith}
 use Rattle.value.proofs.Tests.{Says, says-eq, says-le, says-and}
 use Rattle.program.specs.Bytes.{shapes, sourcesIn, commandsIn}
-use Rattle.program.specs.Command.{Cmd, allocMono, makePoly, constant, global, supply, react, consume, sink, allocPoly, primitive, cell, fetch, keep, none}
+use Rattle.program.specs.Command.{Cmd, allocMono, makePoly, supply, react, sink, allocPoly, cell, keep, none, gives}
+use Rattle.program.specs.Command.{Class, a-value, a-cell, a-point, a-deployment, a-sink, nothing}
 use Rattle.program.specs.Location.{sinkLoc, shapeThere}
 use Rattle.program.specs.Kind.{kindIn, kindOf}
-use Rattle.load.specs.Scan.{standingAt, kindAt, isValue, isCell, isPoint, isDeployment, readyAt, aValue, freeCell, keptCell, freePoint, usedPoint, unsetSink, setSink, reacted, waiting}
+use Rattle.load.specs.Scan.{standingAt, kindAt, isValue, isCell, isPoint, isDeployment, readyAt, aValue, freeCell}
+use Rattle.load.specs.Scan.{keptCell, freePoint, usedPoint, unsetSink, setSink, hasRun, waiting}
 use Rattle.load.specs.Rules.{Supplies, Reacts, Allocates, Keeps, Sets}
 use Rattle.load.specs.declared.Scan.{Scan}
 use Rattle.load.proofs.Exact.Bits.{bit, ready-exact}
 use Rattle.load.specs.Order.{Never, Already}
 use Rattle.load.proofs.Exact.Seen.{Tells, tells-lo, tells-hi}
-use Rattle.load.proofs.Exact.Class.{Class, a-value, a-cell, a-point, a-deployment, a-sink, nothing, rank, clash}
+use Rattle.load.proofs.Exact.Class.{rank, clash}
 use Rattle.load.proofs.Exact.Places.{classAt}
 use Rattle.load.proofs.Exact.Stand.{Sized, Reads}
 
@@ -24,23 +24,19 @@ module _ (p : List ℕ) (r : ℕ) where
   abbrev pub Touches : ℕ → Cmd → Type 0
   Touches l (allocMono x) = ⊥
   Touches l (makePoly x) = ⊥
-  Touches l (constant x v) = ⊥
-  Touches l (global x) = ⊥
+  Touches l (cell x v) = ⊥
+  Touches l (gives g) = ⊥
   Touches l (supply x a b) = b ≡ l
   Touches l (react b) = b ≡ l
-  Touches l (consume x b) = ⊥
   Touches l (sink x a) = sinkLoc p r x ≡ l
   Touches l (allocPoly a b) = b ≡ l
-  Touches l (primitive x a b c) = ⊥
-  Touches l (cell x v) = ⊥
-  Touches l (fetch b) = ⊥
   Touches l (keep a b) = b ≡ l
   Touches l none = ⊥
 
   -- the standing of a deployment with n sources at l: it has reacted, or bit x tells whether source x is supplied
   abbrev pub Deployed : ℕ → ℕ → ℕ → ℕ → Type 0
   Deployed n k l st =
-      ((st ≡ reacted) × Already p r (Reacts p r l) k)
+      ((st ≡ hasRun) × Already p r (Reacts p r l) k)
       ⊎ ((waiting ≤ st) × (st < waiting + 2 ^ n) × Never p r (Reacts p r l) k
       × ((x : ℕ) → x < n → Tells p r 0 1 (Supplies p r x l) k (bit st x)))
 
@@ -76,7 +72,7 @@ module _ (p : List ℕ) (r : ℕ) where
   Standing a-value st = st ≡ aValue
   Standing a-cell st = (freeCell ≤ st) × (st ≤ keptCell)
   Standing a-point st = (freePoint ≤ st) × (st ≤ usedPoint)
-  Standing a-deployment st = reacted ≤ st
+  Standing a-deployment st = hasRun ≤ st
   Standing (a-sink x) st = (unsetSink ≤ st) × (st ≤ setSink)
   Standing nothing st = st ≡ 0
 
@@ -84,7 +80,7 @@ module _ (p : List ℕ) (r : ℕ) where
   tells-standing P lo hi k st l (inl h) = let e = h .0 in (omega arith, omega arith)
   tells-standing P lo hi k st l (inr h) = let e = h .0 in (omega arith, omega arith)
 
-  deployed-standing : (n k l st : ℕ) → Deployed n k l st → reacted ≤ st
+  deployed-standing : (n k l st : ℕ) → Deployed n k l st → hasRun ≤ st
   deployed-standing n k l st (inl h) = let e = h .0 in omega arith
   deployed-standing n k l st (inr h) = let e = h .0 in omega arith
 
@@ -99,7 +95,7 @@ module _ (p : List ℕ) (r : ℕ) where
   -- ---- what a deployment's standing tells
 
   module _ (k l st n : ℕ) where
-    pub deployed-reacted : Deployed n k l st → (st ≡ reacted) ↔ Already p r (Reacts p r l) k
+    pub deployed-reacted : Deployed n k l st → (st ≡ hasRun) ↔ Already p r (Reacts p r l) k
     deployed-reacted (inl h) = ((λ q. h .1), (λ a. h .0))
     deployed-reacted (inr h) = ((λ q. absurd (let w = h .0 in omega arith)), (λ a. absurd (h .2 (a .0) (a .1) (a .2))))
 
@@ -111,7 +107,8 @@ module _ (p : List ℕ) (r : ℕ) where
     -- a Supply of source x is in order
     deployed-open : (x : ℕ) → x < n → Deployed n k l st →
         ((waiting ≤ st) × (bit st x ≡ 1 → ⊥)) ↔ (Never p r (Reacts p r l) k × Never p r (Supplies p r x l) k)
-    deployed-open x i (inl h) = ((λ q. absurd (let w = h .0 in omega arith)), (λ a. absurd (a .0 (h .1 .0) (h .1 .1) (h .1 .2))))
+    deployed-open x i (inl h) =
+        ((λ q. absurd (let w = h .0 in omega arith)), (λ a. absurd (a .0 (h .1 .0) (h .1 .1) (h .1 .2))))
     deployed-open x i (inr h) = (
       (λ q. (h .2, λ j m z. q .1 (supplied x i (h .3) .1 (j, m, z)))),
       (λ a. (h .0, λ q. let t = supplied x i (h .3) .0 q in a .1 (t .0) (t .1) (t .2))),
@@ -120,11 +117,15 @@ module _ (p : List ℕ) (r : ℕ) where
     -- a React is in order
     deployed-ready : n ≤ 7 → Deployed n k l st →
         (st ≡ readyAt n) ↔ (Never p r (Reacts p r l) k × ((x : ℕ) → x < n → Already p r (Supplies p r x l) k))
-    deployed-ready few (inl h) =
-        ((λ q. absurd (let w = h .0 in unfold readyAt in omega arith)), (λ a. absurd (a .0 (h .1 .0) (h .1 .1) (h .1 .2))))
+    deployed-ready few (inl h) = (
+      (λ q. absurd (let w = h .0 in unfold readyAt in omega arith)),
+      (λ a. absurd (a .0 (h .1 .0) (h .1 .1) (h .1 .2))),
+    )
     deployed-ready few (inr h) =
-        let b = ready-exact n st few (h .0) (h .1) in
-        ((λ q. (h .2, λ x i. supplied x i (h .3) .0 (b .0 q x i))), (λ a. b .1 (λ x i. supplied x i (h .3) .1 (a .1 x i))))
+        let b = ready-exact n st few (h .0) (h .1) in (
+          (λ q. (h .2, λ x i. supplied x i (h .3) .0 (b .0 q x i))),
+          (λ a. b .1 (λ x i. supplied x i (h .3) .1 (a .1 x i))),
+        )
 
   -- ---- what the tests on a location say
 
@@ -132,7 +133,7 @@ module _ (p : List ℕ) (r : ℕ) where
   Shown st c =
       ((st ≡ aValue) ↔ (c ≡ a-value))
       × (((freePoint ≤ st) × (st ≤ usedPoint)) ↔ (c ≡ a-point))
-      × ((reacted ≤ st) ↔ (c ≡ a-deployment))
+      × ((hasRun ≤ st) ↔ (c ≡ a-deployment))
       × (((freeCell ≤ st) × (st ≤ keptCell)) ↔ (c ≡ a-cell))
 
   is : {A : Type 0} {c : Class} → A → A ↔ (c ≡ c)
@@ -235,7 +236,7 @@ module _ {p : List ℕ} {r k : ℕ} {s : Scan} (g : Holding p r k s) (l : ℕ) w
   pub point-free : classAt p r k l ≡ a-point → (standingAt s l ≡ freePoint) ↔ Never p r (Allocates p r l) k
   point-free e = tells-lo p r (Allocates p r l) freePoint usedPoint k _ (omega arith) (holds-as e .0)
 
-  pub deployment-reacted : classAt p r k l ≡ a-deployment → (standingAt s l ≡ reacted) ↔ Already p r (Reacts p r l) k
+  pub deployment-reacted : classAt p r k l ≡ a-deployment → (standingAt s l ≡ hasRun) ↔ Already p r (Reacts p r l) k
   deployment-reacted e = deployed-reacted p r k l (standingAt s l) (sourcesIn p (shapeThere p r l)) (holds-as e .0)
 
   pub deployment-open : (x : ℕ) → classAt p r k l ≡ a-deployment → x < sourcesIn p (shapeThere p r l) →

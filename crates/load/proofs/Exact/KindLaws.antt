@@ -1,12 +1,7 @@
 -- The kind of each location, class by class; the shape of what a command makes; and the kind that a primitive gives.
-use Prim.Native.Nat.{ℕ, zero, suc, _+_, _-_, _≤_, _<_}
-use mathlib.Core.Path.{_≡_, refl, sym, _∙_, ap}
-use mathlib.Core.Bool.{Bool, true}
-use mathlib.Core.Logic.{_⊎_}
-use mathlib.Core.List.{List}
-use native.Mathlib.Omega.{arith}
+use Rattle.value.specs.Prelude.{ℕ, zero, suc, _+_, _-_, _≤_, _<_, _≡_, refl, sym, _∙_, ap, _⊎_, Bool, true, List}
+use Rattle.value.specs.Prelude.{length, arith}
 use native.Mathlib.Nat.{not-suc-le-zero}
-use lib.ListN.{length}
 use lib.Dec.{leb}
 use borrow.Author.Tests.{leb-true}
 use Rattle.value.specs.Primitive.{rowOf, table, operands, countOf, kindGiven}
@@ -15,13 +10,13 @@ use Rattle.value.specs.declared.Gives.the-variants.{ANumber, ATruth, TheirKind}
 use Rattle.value.proofs.Tests.{remains, yes, no, lt!, lt×}
 use Rattle.program.specs.Bytes.{shapeOf, sourceKind, sinkKind, commandsIn}
 use Rattle.program.specs.Command.{cmdOf, madeBy, makePoly}
-use Rattle.program.specs.Location.{sources, commandLoc, sinkLoc, cmdAt, pointShape, shapeMade, shapeThere}
+use Rattle.program.specs.Location.{sourceCount, commandLoc, sinkLoc, cmdAt, pointShape, shapeMade, shapeThere}
 use Rattle.program.specs.Kind.{kindMade, kindIn, kindOf}
 use Rattle.value.proofs.Below.{allBelow, at}
 use Rattle.load.proofs.Exact.Places.{cmd-there}
 
 module _ (p : List ℕ) (r : ℕ) where
-  pub source-kind : (f l : ℕ) → l < sources p r → l < f → kindIn f p r l ≡ sourceKind p (shapeOf p r) l
+  pub source-kind : (f l : ℕ) → l < sourceCount p r → l < f → kindIn f p r l ≡ sourceKind p (shapeOf p r) l
   unfolding kindIn
   source-kind zero l h m = absurd (not-suc-le-zero m)
   source-kind (suc f) l h m = sym (yes _ (lt! h) refl)
@@ -29,7 +24,7 @@ module _ (p : List ℕ) (r : ℕ) where
   pub sink-kind : (x : ℕ) → kindOf p r (sinkLoc p r x) ≡ sinkKind p (shapeOf p r) x
   unfolding kindOf kindIn sinkLoc
   sink-kind x =
-      let e : sources p r + commandsIn p r + x - (sources p r + commandsIn p r + 0) ≡ x = omega arith in
+      let e : sourceCount p r + commandsIn p r + x - (sourceCount p r + commandsIn p r + 0) ≡ x = omega arith in
       sym (no _ (lt× (omega arith)) (no _ (lt× (omega arith)) (ap (sinkKind p (shapeOf p r)) (sym e))))
 
   -- a branch point's shape is the one that its MakePoly names

@@ -1,27 +1,21 @@
 -- The ladder of the check: a program is accepted where it passes each step.
-use Prim.Native.Nat.{ℕ, zero, suc, _+_, _-_, _≤_, _<_}
-use mathlib.Core.Path.{_≡_, refl, ap}
-use mathlib.Core.Bool.{true}
-use mathlib.Core.List.{List}
-use mathlib.Core.Logic.{_↔_}
-use native.Mathlib.Omega.{arith}
-use lib.ListN.{length}
+use Rattle.value.specs.Prelude.{ℕ, zero, suc, _+_, _-_, _≤_, _<_, _≡_, refl, ap, _↔_, true, List, length, arith}
 use Rattle.value.proofs.Tests.{le!, le?, eq!, eq?, both!, both?, guards}
 use Rattle.value.proofs.Sweeps.{from-more, Passes, sweeps?}
 use Rattle.program.specs.Bytes.{mostBytes, headerEnd, reactors, mainOf, entryAt, tablesEnd, wholeLength, commandsIn}
 use Rattle.program.specs.Location.{sizeOf}
 use Rattle.load.specs.Tables.{headerLegal, tableLegal}
 use Rattle.load.specs.Scan.{Scanned, scanOf, beginOf, complete}
-use Rattle.load.specs.Refusal.{refusalNumber}
-use Rattle.load.specs.Check.{numberOf, ended, reactorsOf, checkOf, IsAccepted}
+use Rattle.answer.specs.Answer.{refusalNumber, numberOf}
+use Rattle.load.specs.Check.{ended, reactorsOf, checkOf, IsAccepted}
 use Rattle.load.specs.Rules.{AcceptedSize}
-use Rattle.load.specs.Accepted.{ReactorAccepted}
-use Rattle.load.proofs.Refusals.{refusal-counts}
+use Rattle.load.proofs.Accepted.{ReactorAccepted}
+use Rattle.answer.proofs.Refusals.{refusal-counts}
 use Rattle.load.proofs.Exact.Bytes.{header-first}
-use Rattle.load.specs.declared.Refusal.{Refusal}
-use Rattle.load.specs.declared.Refusal.the-variants.{Missing}
-use Rattle.load.specs.declared.Checked.{Checked}
-use Rattle.load.specs.declared.Checked.the-variants.{Accepted, Refused}
+use Rattle.answer.specs.declared.Refusal.{Refusal}
+use Rattle.answer.specs.declared.Refusal.the-variants.{Missing}
+use Rattle.answer.specs.declared.Answer.{Answer}
+use Rattle.answer.specs.declared.Answer.the-variants.{Done, Refused}
 
 -- the steps, in the order of the check
 pub record Passed (p : List ℕ) : Type 0 where
@@ -34,15 +28,16 @@ pub record Passed (p : List ℕ) : Type 0 where
   pub every-reactor : (r : ℕ) → r < reactors p → ReactorAccepted p r
 
 -- Of a property that no refusal has: the check's answer has it where each step is passed and the last answer has it.
-module _ (P : Checked → Type 0) (never : (w : Refusal) → P (Refused w) → ⊥) where
-  ends : (more : Unit {0} → Checked) (entry : ℕ) (t : Scanned) (n : ℕ) → P (ended more entry t n) ↔ ((n ≡ 0) × (complete (t .scan) ≡ true) × P (more tt))
+module _ (P : Answer → Type 0) (never : (w : Refusal) → P (Refused w) → ⊥) where
+  ends : (more : Unit {0} → Answer) (entry : ℕ) (t : Scanned) (n : ℕ) →
+      P (ended more entry t n) ↔ ((n ≡ 0) × (complete (t .scan) ≡ true) × P (more tt))
   unfolding ended
   ends more entry t zero =
       let g = guards P (complete (t .scan)) (Refused (Missing entry)) more (never _) in
       (λ h. let a = g .0 h in (refl, a .0, a .1), λ h. g .1 (h .1, h .2))
   ends more entry t (suc n) = (λ h. absurd (never _ h), λ h. absurd (omega (arith, h .0)))
 
-  reactors-pass : (accepted : Checked) (n : ℕ) (p : List ℕ) (r : ℕ) →
+  reactors-pass : (accepted : Answer) (n : ℕ) (p : List ℕ) (r : ℕ) →
       P (reactorsOf accepted n p r) ↔ (((i : ℕ) → r ≤ i → i < r + n → ReactorAccepted p i) × P accepted)
   unfolding reactorsOf
   reactors-pass accepted zero p r = (λ h. (λ i l m. absurd (omega arith), h), λ h. h .1)
@@ -59,13 +54,13 @@ module _ (P : Checked → Type 0) (never : (w : Refusal) → P (Refused w) → �
             here .1 (a .0, a .1, rest .1 (λ i l m. h .0 i (omega arith) (omega arith), h .1)),
       )
 
-  passes : (p : List ℕ) → P (checkOf p) ↔ (Passed p × P (Accepted (sizeOf p (mainOf p))))
+  passes : (p : List ℕ) → P (checkOf p) ↔ (Passed p × P (Done (sizeOf p (mainOf p))))
   unfolding checkOf
   passes p =
       let header = sweeps? (headerLegal p) 0 headerEnd headerEnd refl in
       let after = header-first p in
       let table = sweeps? (tableLegal p) headerEnd (tablesEnd p - headerEnd) (tablesEnd p) (omega arith) in
-      let rest = reactors-pass (Accepted (sizeOf p (mainOf p))) (reactors p) p 0 in (
+      let rest = reactors-pass (Done (sizeOf p (mainOf p))) (reactors p) p 0 in (
         λ h.
             let a = guards P _ _ _ (never _) .0 h in
             let b = guards P _ _ _ (never _) .0 (a .1) in
@@ -107,11 +102,11 @@ module _ (P : Checked → Type 0) (never : (w : Refusal) → P (Refused w) → �
 
 pub accepted : (p : List ℕ) → IsAccepted p ↔ Passed p
 accepted p =
-    let w = passes (λ (c : Checked). numberOf c ≡ 0) (λ w e. omega (arith, refusal-counts w)) p in
+    let w = passes (λ (c : Answer). numberOf c ≡ 0) (λ w e. omega (arith, refusal-counts w)) p in
     (λ h. w .0 h .0, λ h. w .1 (h, refl))
 
 pub accepted-size : AcceptedSize
 accepted-size p h =
-    passes (λ (c : Checked). c ≡ Accepted (sizeOf p (mainOf p)))
+    passes (λ (c : Answer). c ≡ Done (sizeOf p (mainOf p)))
     (λ w e. let z : refusalNumber w ≡ 0 = ap numberOf e in omega (arith, refusal-counts w)) p .1
     (accepted p .0 h, refl)

@@ -1,29 +1,28 @@
 -- Exact order: where the tables hold what they should, a command out of order has the number that those before it
 -- call for.
-use Prim.Native.Nat.{ℕ}
-use mathlib.Core.Path.{_≡_, refl, sym, _∙_, ap, subst}
-use mathlib.Core.Bool.{Bool, true, false, not}
-use mathlib.Core.Logic.{_↔_, inl, inr, _≢_}
-use mathlib.Core.List.{List}
-use native.Mathlib.Omega.{arith}
+use Rattle.value.specs.Prelude.{ℕ, _≡_, refl, sym, _∙_, ap, subst, inl, inr, _↔_, _≢_, Bool, true, false, not, List}
+use Rattle.value.specs.Prelude.{arith}
 use Rattle.value.specs.Test.{need, _<?_, _=?_}
 use Rattle.value.proofs.Tests.{cases, yes, no, lt×, le!, le×, eq!, eq×, lt×?, eq?, eq×?, picks}
 use Rattle.program.specs.Bytes.{sourcesIn}
-use Rattle.program.specs.Command.{Cmd, cmdOf, allocMono, makePoly, constant, global, supply, react, consume, sink, allocPoly, primitive, cell, fetch, keep, none}
+use Rattle.program.specs.Command.{Cmd, cmdOf, allocMono, makePoly, constant, global, supply, react, consume, sink}
+use Rattle.program.specs.Command.{allocPoly, primitive, cell, fetch, keep, none, gives, a-deployment}
 use Rattle.program.specs.Location.{sinkLoc, shapeThere}
-use Rattle.load.specs.Scan.{standingAt, kindAt, isSupplied, readyAt, disorder, freeCell, keptCell}
-use Rattle.load.specs.Scan.{freePoint, usedPoint, unsetSink, setSink}
+use Rattle.load.specs.Scan.{standingAt, kindAt, isSupplied, readyAt, disorder, freeCell, keptCell, freePoint}
+use Rattle.load.specs.Scan.{usedPoint, unsetSink, setSink}
 use Rattle.load.specs.Rules.{Reacts, Allocates, Keeps, Sets, TablesRight}
-use Rattle.load.specs.Order.{Never, Already, Supplied, OutOfOrder, source-again, sink-again, early-react, early-consume, late-supply, second-react, second-poly, second-keep, not-lower, ExactOrder}
+use Rattle.load.specs.Order.{Never, Already, Supplied, OutOfOrder, source-again, sink-again, early-react}
+use Rattle.load.specs.Order.{early-consume, late-supply, second-react, second-poly, second-keep, not-lower}
+use Rattle.load.specs.Order.{ExactOrder}
 use Rattle.load.specs.declared.Scan.{Scan}
 use Rattle.load.proofs.Exact.Bits.{bit}
 use Rattle.load.proofs.Exact.Seen.{Tells}
-use Rattle.load.proofs.Exact.Class.{a-deployment}
 use Rattle.load.proofs.Exact.Places.{classAt, class-sink}
 use Rattle.load.specs.Fault.{Agreed}
 use Rattle.load.proofs.Exact.Fits.{PlacedAt}
-use Rattle.load.proofs.Exact.Holds.{Holding, Deployed, supplied, holds-as, shape-of-deployment, point-free, cell-free, deployment-reacted, deployment-ready}
-use Rattle.load.proofs.Exact.Taken.{located-says, agreed-says, sink-open, few-sources}
+use Rattle.load.proofs.Exact.Holds.{Holding, Deployed, supplied, holds-as, shape-of-deployment, point-free}
+use Rattle.load.proofs.Exact.Holds.{cell-free, deployment-reacted, deployment-ready}
+use Rattle.load.proofs.Exact.PassesIfFits.{located-says, agreed-says, sink-open, few-sources}
 use Rattle.load.proofs.Exact.Reactor.{first-run}
 
 -- a ladder that answers n: at its first rung, or past it
@@ -62,8 +61,19 @@ module _ {p : List ℕ} {r k : ℕ} {s : Scan} (g : Holding p r k s) (t : Tables
       (λ e. absurd (z (sym (past 21 n 0 q e))))
       (λ e. subst (OutOfOrder p r k (allocMono x)) (at-rung 21 n 0 q e) (not-lower (lt×? e)))
   refused-for (makePoly x) h a n z q = absurd (z (sym q))
-  refused-for (constant x v) h a n z q = absurd (z (sym q))
-  refused-for (global x) h a n z q = absurd (z (sym q))
+  refused-for (cell x v) h a n z q = absurd (z (sym q))
+  refused-for (gives (constant x v)) h a n z q = absurd (z (sym q))
+  refused-for (gives (global x)) h a n z q = absurd (z (sym q))
+  refused-for (gives (consume x b)) h a n z q =
+      elim (deployed b h) [
+        | inl d ↦ absurd (z (sym (past 19 n 0 q (eq! (d .0)))))
+        | inr d ↦
+            let w = d .0 in
+            subst (OutOfOrder p r k (gives (consume x b))) (at-rung 19 n 0 q (eq× (λ e. omega arith)))
+            (early-consume (d .2))
+      ]
+  refused-for (gives (primitive x d b c)) h a n z q = absurd (z (sym q))
+  refused-for (gives (fetch b)) h a n z q = absurd (z (sym q))
   refused-for (supply x v b) h a n z q =
       elim (deployed b (h .1)) [
         | inl d ↦
@@ -90,21 +100,11 @@ module _ {p : List ℕ} {r k : ℕ} {s : Scan} (g : Holding p r k s) (t : Tables
             let early = early-react (d .2) (λ all. eq×? e (ready b h .1 (d .2, all))) in
             subst (OutOfOrder p r k (react b)) (at-rung 19 n 0 w e) early)
       ]
-  refused-for (consume x b) h a n z q =
-      elim (deployed b h) [
-        | inl d ↦ absurd (z (sym (past 19 n 0 q (eq! (d .0)))))
-        | inr d ↦
-            let w = d .0 in
-            subst (OutOfOrder p r k (consume x b)) (at-rung 19 n 0 q (eq× (λ e. omega arith))) (early-consume (d .2))
-      ]
   refused-for (sink x v) h a n z q =
       let at = class-sink p r k x (a .0) (g .few) in
       again (Sets p r x) unsetSink setSink 6 (omega arith) (holds-as g (sinkLoc p r x) at .1) sink-again z q
   refused-for (allocPoly v b) h a n z q =
       again (Allocates p r b) freePoint usedPoint 20 (omega arith) (holds-as g b (h .1) .0) second-poly z q
-  refused-for (primitive x d b c) h a n z q = absurd (z (sym q))
-  refused-for (cell x v) h a n z q = absurd (z (sym q))
-  refused-for (fetch b) h a n z q = absurd (z (sym q))
   refused-for (keep v b) h a n z q =
       again (Keeps p r b) freeCell keptCell 20 (omega arith) (holds-as g b (h .1) .0) second-keep z q
   refused-for none h a n z q = absurd (z (sym q))

@@ -1,24 +1,20 @@
 -- Where a location lies, and what class of thing stands there after the first k commands of reactor r.
-use Prim.Native.Nat.{ℕ, suc, _+_, _-_, _≤_, _<_}
-use mathlib.Core.Path.{_≡_, refl, sym, _∙_, ap, subst}
-use mathlib.Core.Bool.{true≢false}
-use mathlib.Core.Logic.{_↔_, inl, inr}
-use mathlib.Core.List.{List}
-use native.Mathlib.Omega.{arith}
+use Rattle.value.specs.Prelude.{ℕ, suc, _+_, _-_, _≤_, _<_, _≡_, refl, sym, _∙_, ap, subst, inl, inr, _↔_, true≢false}
+use Rattle.value.specs.Prelude.{List, arith}
 use native.Mathlib.Numerals.{lt-of-le-of-ne}
 use Rattle.value.specs.Test.{pick, _<?_, _≤?_, _and_}
 use Rattle.value.proofs.Tests.{cases, yes, no, lt!, lt×, le!, lt?, lt×?, le?, both!, both?}
 use Rattle.program.specs.Bytes.{commandsIn}
-use Rattle.program.specs.Command.{Cmd, cmdOf, givesValue, allocMono, makePoly, allocPoly, cell, none}
-use Rattle.program.specs.Location.{sources, sinks, commandLoc, sinkLoc, locations, cmdAt}
-use Rattle.load.specs.Rules.{Value, Deployment, Point, Cell}
-use Rattle.load.proofs.Exact.Class.{Class, a-value, a-cell, a-point, a-deployment, a-sink, nothing, classOf, IsMade}
-use Rattle.load.proofs.Exact.Class.{clash, shows-as, value-class}
+use Rattle.program.specs.Command.{Cmd, cmdOf, givesValue, allocMono, makePoly, allocPoly, cell, none, Class, a-value}
+use Rattle.program.specs.Command.{a-cell, a-point, a-deployment, a-sink, nothing, classOf}
+use Rattle.program.specs.Location.{sourceCount, sinkCount, commandLoc, sinkLoc, locations, cmdAt}
+use Rattle.load.specs.Rules.{IsValue, IsDeployment, IsPoint, IsCell}
+use Rattle.load.proofs.Exact.Class.{IsMade, clash, shows-as, value-class}
 
 -- what stands at location l after the first k commands
 unfoldable pub classAt : List ℕ → ℕ → ℕ → ℕ → Class
 classAt p r k l =
-    pick (l <? sources p r) a-value
+    pick (l <? sourceCount p r) a-value
     (pick (l <? commandLoc p r k) (classOf (cmdAt p r l))
     (pick (l <? sinkLoc p r 0) nothing
     (pick (l <? locations p r) (a-sink (l - sinkLoc p r 0)) nothing)))
@@ -38,7 +34,7 @@ module _ (p : List ℕ) (r : ℕ) where
   pub cmd-there : (i : ℕ) → i < commandsIn p r → cmdAt p r (commandLoc p r i) ≡ cmdOf p r i
   unfolding cmdAt commandLoc sinkLoc
   cmd-there i h =
-      let e : sources p r + i - sources p r ≡ i = omega arith in
+      let e : sourceCount p r + i - sourceCount p r ≡ i = omega arith in
       sym (yes none (both! (le! (omega arith)) (lt! (omega arith))) (ap (cmdOf p r) (sym e)))
 
   -- a command is at a command's location
@@ -46,18 +42,18 @@ module _ (p : List ℕ) (r : ℕ) where
       (i : ℕ) × (i < commandsIn p r) × (l ≡ commandLoc p r i) × (cmdOf p r i ≡ c)
   unfolding cmdAt commandLoc sinkLoc
   cmd-where l c e d =
-      cases ((sources p r ≤? l) and (l <? sources p r + commandsIn p r + 0))
+      cases ((sourceCount p r ≤? l) and (l <? sourceCount p r + commandsIn p r + 0))
       (λ t.
       let u = both? t in
-      let a : sources p r ≤ l = le? (u .0) in
-      let b : l < sources p r + commandsIn p r + 0 = lt? (u .1) in
-      (l - sources p r, omega arith, omega arith, yes none t refl ∙ e))
+      let a : sourceCount p r ≤ l = le? (u .0) in
+      let b : l < sourceCount p r + commandsIn p r + 0 = lt? (u .1) in
+      (l - sourceCount p r, omega arith, omega arith, yes none t refl ∙ e))
       (λ t. absurd (d (sym e ∙ sym (no _ t refl))))
 
   -- ---- the class of a location
 
   module _ (k : ℕ) where
-    pub class-source : (l : ℕ) → l < sources p r → classAt p r k l ≡ a-value
+    pub class-source : (l : ℕ) → l < sourceCount p r → classAt p r k l ≡ a-value
     unfolding classAt
     class-source l h = sym (yes _ (lt! h) refl)
 
@@ -71,47 +67,47 @@ module _ (p : List ℕ) (r : ℕ) where
     unfolding classAt commandLoc sinkLoc
     class-ahead i h few = sym (no _ (lt× (omega arith)) (no _ (lt× (omega arith)) (yes _ (lt! (omega arith)) refl)))
 
-    pub class-sink : (x : ℕ) → x < sinks p r → k ≤ commandsIn p r → classAt p r k (sinkLoc p r x) ≡ a-sink x
+    pub class-sink : (x : ℕ) → x < sinkCount p r → k ≤ commandsIn p r → classAt p r k (sinkLoc p r x) ≡ a-sink x
     unfolding classAt commandLoc sinkLoc locations
     class-sink x h few =
-        let e : sources p r + commandsIn p r + x - (sources p r + commandsIn p r + 0) ≡ x = omega arith in
+        let e : sourceCount p r + commandsIn p r + x - (sourceCount p r + commandsIn p r + 0) ≡ x = omega arith in
         sym (no _ (lt× (omega arith)) (no _ (lt× (omega arith)) (no _ (lt× (omega arith))
         (yes _ (lt! (omega arith)) (sym (ap a-sink e))))))
 
     pub class-past : (l : ℕ) → locations p r ≤ l → k ≤ commandsIn p r → classAt p r k l ≡ nothing
     unfolding classAt commandLoc sinkLoc locations
-    class-past l h few =
-        sym (no _ (lt× (omega arith)) (no _ (lt× (omega arith)) (no _ (lt× (omega arith)) (no _ (lt× (omega arith)) refl))))
+    class-past l h few = sym (no _ (lt× (omega arith))
+        (no _ (lt× (omega arith)) (no _ (lt× (omega arith)) (no _ (lt× (omega arith)) refl))))
 
     -- every location is one of these five
     pub by-place : (P : ℕ → Class → Type 0) → k ≤ commandsIn p r →
-        ((l : ℕ) → l < sources p r → P l a-value) →
+        ((l : ℕ) → l < sourceCount p r → P l a-value) →
         ((i : ℕ) → i < k → P (commandLoc p r i) (classOf (cmdOf p r i))) →
         ((i : ℕ) → k ≤ i → i < commandsIn p r → P (commandLoc p r i) nothing) →
-        ((x : ℕ) → x < sinks p r → P (sinkLoc p r x) (a-sink x)) →
+        ((x : ℕ) → x < sinkCount p r → P (sinkLoc p r x) (a-sink x)) →
         ((l : ℕ) → locations p r ≤ l → P l nothing) →
         (l : ℕ) → P l (classAt p r k l)
     unfolding commandLoc sinkLoc locations
     by-place P few src made ahead snk past l =
-        cases (l <? sources p r) (λ y. subst (P l) (sym (class-source l (lt? y))) (src l (lt? y))) (λ y.
-        let a : sources p r ≤ l = lt×? y in
-        cases (l <? sources p r + commandsIn p r) (λ z.
-        let b : l < sources p r + commandsIn p r = lt? z in
-        let i : ℕ = l - sources p r in
-        let e : l ≡ sources p r + i = omega arith in
+        cases (l <? sourceCount p r) (λ y. subst (P l) (sym (class-source l (lt? y))) (src l (lt? y))) (λ y.
+        let a : sourceCount p r ≤ l = lt×? y in
+        cases (l <? sourceCount p r + commandsIn p r) (λ z.
+        let b : l < sourceCount p r + commandsIn p r = lt? z in
+        let i : ℕ = l - sourceCount p r in
+        let e : l ≡ sourceCount p r + i = omega arith in
         let c : i < commandsIn p r = omega arith in
         subst (λ j. P j (classAt p r k j)) (sym e)
         (cases (i <? k)
         (λ w. subst (P _) (sym (class-made i (lt? w) few)) (made i (lt? w)))
         (λ w. subst (P _) (sym (class-ahead i (lt×? w) c)) (ahead i (lt×? w) c)))) (λ z.
-        let b : sources p r + commandsIn p r ≤ l = lt×? z in
-        let x : ℕ = l - (sources p r + commandsIn p r) in
-        let e : l ≡ sources p r + commandsIn p r + x = omega arith in
-        cases (x <? sinks p r)
+        let b : sourceCount p r + commandsIn p r ≤ l = lt×? z in
+        let x : ℕ = l - (sourceCount p r + commandsIn p r) in
+        let e : l ≡ sourceCount p r + commandsIn p r + x = omega arith in
+        cases (x <? sinkCount p r)
         (λ w. subst (λ j. P j (classAt p r k j)) (sym e) (subst (P _) (sym (class-sink x (lt? w) few)) (snk x (lt? w))))
         (λ w.
-        let c : sinks p r ≤ x = lt×? w in
-        let d : sources p r + commandsIn p r + sinks p r ≤ l = omega arith in
+        let c : sinkCount p r ≤ x = lt×? w in
+        let d : sourceCount p r + commandsIn p r + sinkCount p r ≤ l = omega arith in
         subst (P l) (sym (class-past l d few)) (past l d))))
 
   -- one command more changes what stands at its own location only
@@ -119,7 +115,7 @@ module _ (p : List ℕ) (r : ℕ) where
   unfolding classAt
   class-step k l d =
       ap (λ t.
-      pick (l <? sources p r) a-value
+      pick (l <? sourceCount p r) a-value
       (pick t (classOf (cmdAt p r l))
       (pick (l <? sinkLoc p r 0) nothing
       (pick (l <? locations p r) (a-sink (l - sinkLoc p r 0)) nothing)))) same
@@ -131,14 +127,15 @@ module _ (p : List ℕ) (r : ℕ) where
       same =
           cases (l <? commandLoc p r k)
           (λ y. let h : l < commandLoc p r k = lt? y in lt! (omega (arith, next)) ∙ sym y)
-          (λ y. let h : commandLoc p r k < l = lt-of-le-of-ne (lt×? y) (λ e. d (sym e)) in lt× (omega (arith, next)) ∙ sym y)
+          (λ y.
+          let h : commandLoc p r k < l = lt-of-le-of-ne (lt×? y) (λ e. d (sym e)) in lt× (omega (arith, next)) ∙ sym y)
 
   -- ---- the classes in the words of the rules
 
   -- a value operand of the next command
-  pub value-exact : (k l : ℕ) → k ≤ commandsIn p r → (classAt p r k l ≡ a-value) ↔ Value p r (commandLoc p r k) l
+  pub value-exact : (k l : ℕ) → k ≤ commandsIn p r → (classAt p r k l ≡ a-value) ↔ IsValue p r (commandLoc p r k) l
   value-exact k l few = (
-    by-place k (λ j c. c ≡ a-value → Value p r (commandLoc p r k) j) few
+    by-place k (λ j c. c ≡ a-value → IsValue p r (commandLoc p r k) j) few
         (λ j h e. inl h)
         (λ i h e. inr (loc-lt h, ap givesValue (cmd-there i (omega arith)) ∙ shows-as (cmdOf p r i) e))
         (λ i h n e. clash e (omega arith))
@@ -147,9 +144,11 @@ module _ (p : List ℕ) (r : ℕ) where
     (λ v. elim v [
       | inl h ↦ class-source k l h
       | inr h ↦
-          (let w = cmd-where l (cmdAt p r l) refl (λ e. true≢false (sym (h .1) ∙ ap givesValue e ∙ unfold givesValue in refl)) in
+          (let w = cmd-where l (cmdAt p r l) refl
+          (λ e. true≢false (sym (h .1) ∙ ap givesValue e ∙ unfold givesValue in refl)) in
           let i : w .0 < k = loc-lt-back (subst (λ j. j < commandLoc p r k) (w .2) (h .0)) in
-          ap (classAt p r k) (w .2) ∙ class-made k (w .0) i few ∙ value-class (cmdOf p r (w .0)) (ap givesValue (w .3) ∙ h .1))
+          ap (classAt p r k) (w .2) ∙ class-made k (w .0) i few
+          ∙ value-class (cmdOf p r (w .0)) (ap givesValue (w .3) ∙ h .1))
     ]),
   )
 
@@ -190,7 +189,7 @@ module _ (p : List ℕ) (r : ℕ) where
 
   -- a deployment operand, a branch point and a cell, of the next command
   pub deployment-exact : (k b : ℕ) → k ≤ commandsIn p r →
-      (classAt p r k b ≡ a-deployment) ↔ ((b < commandLoc p r k) × Deployment p r (commandLoc p r k) b)
+      (classAt p r k b ≡ a-deployment) ↔ ((b < commandLoc p r k) × IsDeployment p r (commandLoc p r k) b)
   unfolding classOf
   deployment-exact k b few = (
     (λ e.
@@ -206,7 +205,7 @@ module _ (p : List ℕ) (r : ℕ) where
   )
 
   pub point-exact : (k b : ℕ) → k ≤ commandsIn p r →
-      (classAt p r k b ≡ a-point) ↔ ((b < commandLoc p r k) × Point p r b)
+      (classAt p r k b ≡ a-point) ↔ ((b < commandLoc p r k) × IsPoint p r b)
   unfolding classOf
   point-exact k b few = (
     (λ e. let w = made-at k b few (subst IsMade (sym e) tt) in (w .0, shows-as (cmdAt p r b) (w .1 ∙ e))),
@@ -214,7 +213,7 @@ module _ (p : List ℕ) (r : ℕ) where
   )
 
   pub cell-exact : (k b : ℕ) → k ≤ commandsIn p r →
-      (classAt p r k b ≡ a-cell) ↔ ((b < commandLoc p r k) × Cell p r b)
+      (classAt p r k b ≡ a-cell) ↔ ((b < commandLoc p r k) × IsCell p r b)
   unfolding classOf
   cell-exact k b few = (
     (λ e. let w = made-at k b few (subst IsMade (sym e) tt) in (w .0, shows-as (cmdAt p r b) (w .1 ∙ e))),

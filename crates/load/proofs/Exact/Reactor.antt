@@ -1,23 +1,22 @@
--- `reactor-exact`: the scan of one reactor accepts exactly what the rules say. `kinds-agree`: what its kind table holds on the way.
-use Prim.Native.Nat.{ℕ, zero, suc, _+_, _≤_, _<_}
-use mathlib.Core.Path.{_≡_, refl, sym, _∙_, ap, subst}
-use mathlib.Core.Logic.{_↔_, ⊎-elim, Iff·trans}
-use mathlib.Core.List.{List}
-use native.Mathlib.Omega.{arith}
+-- `reactor-exact`: the scan of one reactor accepts exactly what the rules say. `kinds-agree`: what
+-- its kind table holds on the way.
+use Rattle.value.specs.Prelude.{ℕ, zero, suc, _+_, _≤_, _<_, _≡_, refl, sym, _∙_, ap, subst, ⊎-elim, _↔_, Iff·trans}
+use Rattle.value.specs.Prelude.{List, arith}
 use native.Mathlib.Nat.{eq-or-lt-of-le}
 use Rattle.program.specs.Bytes.{reactors, commandsIn}
 use Rattle.program.specs.Command.{cmdOf}
 use Rattle.load.specs.Scan.{Scanned, scanOf, beginOf}
 use Rattle.load.specs.Rules.{ReactorRule, Rules, TablesRight}
-use Rattle.load.specs.Accepted.{ReactorAccepted}
+use Rattle.load.proofs.Accepted.{ReactorAccepted}
 use Rattle.load.specs.Kinds.{KindsFound}
 use Rattle.load.specs.declared.Scan.{Scan}
 use Rattle.load.proofs.Exact.Places.{value-exact}
 use Rattle.load.proofs.Exact.Fits.{Fits, Stepwise}
 use Rattle.load.proofs.Exact.Rule.{rule-exact}
-use Rattle.load.proofs.Exact.Holds.{Holding, value-says, point-says, deployment-says, kind-of-value, shape-of-deployment, shape-of-point}
-use Rattle.load.proofs.Exact.Taken.{taken-exact}
-use Rattle.load.proofs.Exact.Kept.{kept}
+use Rattle.load.proofs.Exact.Holds.{Holding, value-says, point-says, deployment-says, kind-of-value}
+use Rattle.load.proofs.Exact.Holds.{shape-of-deployment, shape-of-point}
+use Rattle.load.proofs.Exact.PassesIfFits.{taken-exact}
+use Rattle.load.proofs.Exact.TablesKept.{kept}
 use Rattle.load.proofs.Exact.Begin.{begin-holding}
 use Rattle.load.proofs.Exact.Complete.{complete-exact}
 use Rattle.load.proofs.Exact.Scanning.{scan-taken, scan-next}

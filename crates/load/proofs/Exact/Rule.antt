@@ -1,24 +1,23 @@
 -- The rules of one reactor, stated over positions, are the rules read command by command: ReactorRule ↔ Stepwise.
-use Prim.Native.Nat.{ℕ, _≤_, _<_}
-use mathlib.Core.Path.{_≡_, refl, sym, _∙_, ap, subst}
-use mathlib.Core.Logic.{_↔_, _⊎_, inl, inr, ⊎-map}
-use mathlib.Core.List.{List}
-use native.Mathlib.Omega.{arith}
+use Rattle.value.specs.Prelude.{ℕ, _≤_, _<_, _≡_, refl, sym, _∙_, ap, subst, _⊎_, inl, inr, ⊎-map, _↔_, List, arith}
 use native.Mathlib.Nat.{lt-trans}
 use Rattle.value.specs.Test.{_<?_}
 use Rattle.value.specs.Primitive.{rowOf, operands, countOf}
 use Rattle.value.specs.declared.Takes.{Takes}
 use Rattle.value.specs.declared.Takes.the-variants.{TwoNumbers, OneTruth, TwoTruths, OneOfAny, TruthThenTwo, TwoAlike}
 use Rattle.value.proofs.Tests.{cases, remains, lt?, lt×?}
-use Rattle.program.specs.Bytes.{declared, commandsIn, sourcesIn}
-use Rattle.program.specs.Command.{Cmd, Sequence, cmdOf, sequenceOf, D, R, neither, allocMono, makePoly, constant, global, supply, react, consume, sink, allocPoly, primitive, cell, fetch, keep, none}
+use Rattle.program.specs.Bytes.{commandsD, commandsIn, sourcesIn}
+use Rattle.program.specs.Command.{Cmd, Sequence, cmdOf, sequenceOf, D, R, neither, allocMono, makePoly, constant}
+use Rattle.program.specs.Command.{global, supply, react, consume, sink, allocPoly, primitive, cell, fetch, keep, none}
+use Rattle.program.specs.Command.{gives, a-point, a-deployment, classOf, a-cell}
 use Rattle.program.specs.Location.{commandLoc, sinkLoc, cmdAt, shapeThere}
 use Rattle.program.specs.Kind.{kindOf}
-use Rattle.load.specs.Rules.{Value, Deployment, Point, Cell, Operands, Right, Once, Supplies, Reacts, Allocates, Keeps, Sets, Served, ReactorRule}
+use Rattle.load.specs.Rules.{IsValue, IsDeployment, IsPoint, IsCell, Operands, CommandRule, Once, Supplies}
+use Rattle.load.specs.Rules.{Reacts, Allocates, Keeps, Sets, Served, ReactorRule}
 use Rattle.load.specs.Order.{Never, Already}
 use Rattle.load.proofs.Exact.Seen.{FirstOnly, one, once}
-use Rattle.load.proofs.Exact.Class.{a-point, a-deployment, classOf, a-cell}
-use Rattle.load.proofs.Exact.Places.{classAt, loc-lt, cmd-there, cmd-where, class-sink, by-place, value-exact, deployment-exact, point-exact, cell-exact}
+use Rattle.load.proofs.Exact.Places.{classAt, loc-lt, cmd-there, cmd-where, class-sink, by-place, value-exact}
+use Rattle.load.proofs.Exact.Places.{deployment-exact, point-exact, cell-exact}
 use Rattle.load.specs.Fault.{KindsFit, InSequence, Ranged, Remaining, Agreed}
 use Rattle.load.proofs.Exact.Fits.{ValueAt, PlacedAt, Timely, Fits, Ended, Stepwise}
 
@@ -36,12 +35,12 @@ D≢neither : D ≡ neither → ⊥
 D≢neither e = subst IsD e tt
 
 module _ (p : List ℕ) (r k : ℕ) where
-  in-D : (q : Sequence) → InSequence p r k q → k < declared p r → q ≡ D
+  in-D : (q : Sequence) → InSequence p r k q → k < commandsD p r → q ≡ D
   in-D D h l = refl
   in-D R h l = absurd (h l)
   in-D neither h l = absurd h
 
-  in-R : (q : Sequence) → InSequence p r k q → declared p r ≤ k → q ≡ R
+  in-R : (q : Sequence) → InSequence p r k q → commandsD p r ≤ k → q ≡ R
   in-R D h l = absurd (omega arith)
   in-R R h l = refl
   in-R neither h l = absurd h
@@ -58,20 +57,20 @@ module _ (p : List ℕ) (r : ℕ) where
         let w = cmd-where p r b c e some in
         subst (λ j. j < commandLoc p r k) (sym (w .2)) (loc-lt p r (D-before (w .0) (w .1) (ap sequenceOf (w .3) ∙ d)))
 
-    deployment-there : (b : ℕ) → Deployment p r (commandLoc p r k) b → classAt p r k b ≡ a-deployment
+    deployment-there : (b : ℕ) → IsDeployment p r (commandLoc p r k) b → classAt p r k b ≡ a-deployment
     unfolding sequenceOf
     deployment-there b (inl m) =
         let low = D-low b (allocMono (m .0)) refl (λ q. D≢neither (ap sequenceOf q)) (m .1) in
         deployment-exact p r k b few .1 (low, inl m)
     deployment-there b (inr m) = deployment-exact p r k b few .1 (m .0, inr m)
 
-    point-there : (b : ℕ) → Point p r b → classAt p r k b ≡ a-point
+    point-there : (b : ℕ) → IsPoint p r b → classAt p r k b ≡ a-point
     unfolding sequenceOf
     point-there b m =
         let low = D-low b (makePoly (m .0)) refl (λ q. D≢neither (ap sequenceOf q)) (m .1) in
         point-exact p r k b few .1 (low, m)
 
-    cell-there : (b : ℕ) → Cell p r b → classAt p r k b ≡ a-cell
+    cell-there : (b : ℕ) → IsCell p r b → classAt p r k b ≡ a-cell
     unfolding sequenceOf
     cell-there b m =
         let low = D-low b (cell (m .0) (m .1)) refl (λ q. D≢neither (ap sequenceOf q)) (m .2) in
@@ -80,15 +79,19 @@ module _ (p : List ℕ) (r : ℕ) where
   -- ---- a primitive's operands
 
   operands-of : (l : ℕ) (t : Takes) (a b c : ℕ) →
-      (Value p r l a × ((countOf t < 2) ⊎ Value p r l b) × ((countOf t < 3) ⊎ Value p r l c)
+      (IsValue p r l a × ((countOf t < 2) ⊎ IsValue p r l b) × ((countOf t < 3) ⊎ IsValue p r l c)
       × KindsFit t (kindOf p r a) (kindOf p r b) (kindOf p r c))
       ↔ Operands p r l t a b c
   unfolding countOf
-  operands-of l TwoNumbers a b c =
-      ((λ h. (h .0, remains (omega arith) (h .1), h .3 .0, h .3 .1)), (λ h. (h .0, inr (h .1), inl (omega arith), (h .2, h .3))))
+  operands-of l TwoNumbers a b c = (
+    (λ h. (h .0, remains (omega arith) (h .1), h .3 .0, h .3 .1)),
+    (λ h. (h .0, inr (h .1), inl (omega arith), (h .2, h .3))),
+  )
   operands-of l OneTruth a b c = ((λ h. (h .0, h .3)), (λ h. (h .0, inl (omega arith), inl (omega arith), h .1)))
-  operands-of l TwoTruths a b c =
-      ((λ h. (h .0, remains (omega arith) (h .1), h .3 .0, h .3 .1)), (λ h. (h .0, inr (h .1), inl (omega arith), (h .2, h .3))))
+  operands-of l TwoTruths a b c = (
+    (λ h. (h .0, remains (omega arith) (h .1), h .3 .0, h .3 .1)),
+    (λ h. (h .0, inr (h .1), inl (omega arith), (h .2, h .3))),
+  )
   operands-of l OneOfAny a b c = ((λ h. h .0), (λ h. (h, inl (omega arith), inl (omega arith), tt)))
   operands-of l TruthThenTwo a b c = (
     (λ h. (h .0, remains (omega arith) (h .1), remains (omega arith) (h .2), h .3 .0, h .3 .1)),
@@ -99,26 +102,21 @@ module _ (p : List ℕ) (r : ℕ) where
 
   -- ---- from each command's fit to the rules
 
-  values : (k a : ℕ) → k ≤ commandsIn p r → ValueAt p r k a ↔ Value p r (commandLoc p r k) a
+  values : (k a : ℕ) → k ≤ commandsIn p r → ValueAt p r k a ↔ IsValue p r (commandLoc p r k) a
   values k a few = value-exact p r k a few
 
-  deployments : (k b : ℕ) → k ≤ commandsIn p r → classAt p r k b ≡ a-deployment → Deployment p r (commandLoc p r k) b
+  deployments : (k b : ℕ) → k ≤ commandsIn p r → classAt p r k b ≡ a-deployment → IsDeployment p r (commandLoc p r k) b
   deployments k b few e = deployment-exact p r k b few .0 e .1
 
-  right : (k : ℕ) (c : Cmd) → k ≤ commandsIn p r → Fits p r k c → Right p r (commandLoc p r k) c
+  right : (k : ℕ) (c : Cmd) → k ≤ commandsIn p r → Fits p r k c → CommandRule p r (commandLoc p r k) c
   unfolding operands
   right k (allocMono x) few f = (f .ranged, f .timely)
   right k (makePoly x) few f = f .ranged
-  right k (constant x v) few f = f .ranged
-  right k (global x) few f = f .ranged
-  right k (supply x a b) few f =
-      (values k a few .0 (f .placed .0), deployments k b few (f .placed .1), f .agreed .0, f .agreed .1)
-  right k (react b) few f = deployments k b few (f .placed)
-  right k (consume x b) few f = (deployments k b few (f .placed), f .agreed)
-  right k (sink x a) few f = (values k a few .0 (f .placed), f .agreed .0, f .agreed .1)
-  right k (allocPoly a b) few f =
-      (values k a few .0 (f .placed .0), point-exact p r k b few .0 (f .placed .1) .1, f .agreed)
-  right k (primitive x a b c) few f = (
+  right k (cell x v) few f = f .ranged
+  right k (gives (constant x v)) few f = f .ranged
+  right k (gives (global x)) few f = f .ranged
+  right k (gives (consume x b)) few f = (deployments k b few (f .placed), f .agreed)
+  right k (gives (primitive x a b c)) few f = (
     (f .ranged, f .remaining),
     operands-of (commandLoc p r k) (rowOf x .takes) a b c .0 (
       values k a few .0 (f .placed .0),
@@ -127,8 +125,13 @@ module _ (p : List ℕ) (r : ℕ) where
       f .agreed,
     ),
   )
-  right k (cell x v) few f = f .ranged
-  right k (fetch b) few f = cell-exact p r k b few .0 (f .placed) .1
+  right k (gives (fetch b)) few f = cell-exact p r k b few .0 (f .placed) .1
+  right k (supply x a b) few f =
+      (values k a few .0 (f .placed .0), deployments k b few (f .placed .1), f .agreed .0, f .agreed .1)
+  right k (react b) few f = deployments k b few (f .placed)
+  right k (sink x a) few f = (values k a few .0 (f .placed), f .agreed .0, f .agreed .1)
+  right k (allocPoly a b) few f =
+      (values k a few .0 (f .placed .0), point-exact p r k b few .0 (f .placed .1) .1, f .agreed)
   right k (keep a b) few f =
       (values k a few .0 (f .placed .0), cell-exact p r k b few .0 (f .placed .1) .1, f .agreed)
   right k none few f = f .ranged
@@ -140,7 +143,7 @@ module _ (p : List ℕ) (r : ℕ) where
     D-all : DBefore (commandsIn p r)
     D-all i h e = h
 
-    served : (b : ℕ) → Deployment p r (commandLoc p r (commandsIn p r)) b → Served p r b
+    served : (b : ℕ) → IsDeployment p r (commandLoc p r (commandsIn p r)) b → Served p r b
     served b d =
         let e = deployment-there (commandsIn p r) (omega arith) D-all b d in
         let a = subst (Ended p r b) e (g .ended b) in
@@ -153,8 +156,9 @@ module _ (p : List ℕ) (r : ℕ) where
               let first : FirstOnly p r (Supplies p r x b) = λ i l q. fit i (supply x (q .0) b) l (q .1) .timely .1 in
               (s .0, once p r (Supplies p r x b) first (s .0) (lt-trans (s .1) (a .1)) (s .2), s .1);
           consumed = λ i h q.
-              let s = fit i (consume (q .0) b) h (q .1) .timely in
-              let same : s .0 ≡ a .0 = one p r (Reacts p r b) reacts-first (s .0) (a .0) (lt-trans (s .1) h) (a .1) (s .2) (a .2) in
+              let s = fit i (gives (consume (q .0) b)) h (q .1) .timely in
+              let same : s .0 ≡ a .0 =
+              one p r (Reacts p r b) reacts-first (s .0) (a .0) (lt-trans (s .1) h) (a .1) (s .2) (a .2) in
               subst (λ j. j < i) same (s .1);
         }
 
@@ -167,8 +171,10 @@ module _ (p : List ℕ) (r : ℕ) where
           commands = λ i h. right i _ (omega arith) (g .fits i h);
           deployments = served;
           points = λ b m.
-              let a = subst (Ended p r b) (point-there (commandsIn p r) (omega arith) D-all b m) (g .ended b) in
-              (a .0, once p r (Allocates p r b) (λ i l q. fit i (allocPoly (q .0) b) l (q .1) .timely) (a .0) (a .1) (a .2));
+              let a = subst (Ended p r b) (point-there (commandsIn p r) (omega arith) D-all b m) (g .ended b) in (
+                a .0,
+                once p r (Allocates p r b) (λ i l q. fit i (allocPoly (q .0) b) l (q .1) .timely) (a .0) (a .1) (a .2),
+              );
           cells = λ b m.
               let a = subst (Ended p r b) (cell-there (commandsIn p r) (omega arith) D-all b m) (g .ended b) in
               (a .0, once p r (Keeps p r b) (λ i l q. fit i (keep (q .0) b) l (q .1) .timely) (a .0) (a .1) (a .2));
@@ -182,34 +188,36 @@ module _ (p : List ℕ) (r : ℕ) where
 
   module _ (u : ReactorRule p r) where
     -- positions of D commands, before position k
-    D-early : (k : ℕ) → declared p r ≤ k → DBefore k
+    D-early : (k : ℕ) → commandsD p r ≤ k → DBefore k
     D-early k l i h e =
-        cases (i <? declared p r)
-        (λ y. let a : i < declared p r = lt? y in omega arith)
+        cases (i <? commandsD p r)
+        (λ y. let a : i < commandsD p r = lt? y in omega arith)
         (λ y. absurd (D≢R (sym e ∙ u .in-R i (lt×? y) h)))
 
     deployment-end : (k b : ℕ) → k ≤ commandsIn p r →
-        Deployment p r (commandLoc p r k) b → Deployment p r (commandLoc p r (commandsIn p r)) b
+        IsDeployment p r (commandLoc p r k) b → IsDeployment p r (commandLoc p r (commandsIn p r)) b
     unfolding commandLoc
     deployment-end k b few (inl m) = inl m
     deployment-end k b few (inr m) = let h = m .0 in inr (omega arith, m .1)
 
     in-sequence : (k : ℕ) → k < commandsIn p r → InSequence p r k (sequenceOf (cmdOf p r k))
     in-sequence k h =
-        cases (k <? declared p r)
+        cases (k <? commandsD p r)
         (λ y. subst (InSequence p r k) (sym (u .in-D k (lt? y))) (lt? y))
-        (λ y. subst (InSequence p r k) (sym (u .in-R k (lt×? y) h)) (λ l. let a : declared p r ≤ k = lt×? y in omega arith))
+        (λ y.
+        subst (InSequence p r k) (sym (u .in-R k (lt×? y) h)) (λ l. let a : commandsD p r ≤ k = lt×? y in omega arith))
 
     module _ (k : ℕ) (h : k < commandsIn p r) where
       few : k ≤ commandsIn p r
       few = omega arith
 
       -- command k is of R: the D commands came before it
-      R-late : (c : Cmd) → cmdOf p r k ≡ c → sequenceOf c ≡ R → declared p r ≤ k
-      R-late c e q = cases (k <? declared p r) (λ y. absurd (D≢R (sym (u .in-D k (lt? y)) ∙ ap sequenceOf e ∙ q))) (λ y. lt×? y)
+      R-late : (c : Cmd) → cmdOf p r k ≡ c → sequenceOf c ≡ R → commandsD p r ≤ k
+      R-late c e q =
+          cases (k <? commandsD p r) (λ y. absurd (D≢R (sym (u .in-D k (lt? y)) ∙ ap sequenceOf e ∙ q))) (λ y. lt×? y)
 
       deployment-now : (b : ℕ) (c : Cmd) → cmdOf p r k ≡ c → sequenceOf c ≡ R →
-          Deployment p r (commandLoc p r k) b → classAt p r k b ≡ a-deployment
+          IsDeployment p r (commandLoc p r k) b → classAt p r k b ≡ a-deployment
       deployment-now b c e q d = deployment-there k few (D-early k (R-late c e q)) b d
 
       -- what only one command of the reactor does, no command before k does, if k does it
@@ -226,13 +234,23 @@ module _ (p : List ℕ) (r : ℕ) where
           let before : t .0 < s .at = t .2 in
           omega arith
 
-      fitted : (c : Cmd) → cmdOf p r k ≡ c → Right p r (commandLoc p r k) c →
+      fitted : (c : Cmd) → cmdOf p r k ≡ c → CommandRule p r (commandLoc p r k) c →
           Ranged p c × Remaining c × PlacedAt p r k c × Agreed p r c × Timely p r k c
       unfolding operands sequenceOf
       fitted (allocMono x) e g = (g .0, tt, tt, tt, g .1)
       fitted (makePoly x) e g = (g, tt, tt, tt, tt)
-      fitted (constant x v) e g = (g, tt, tt, tt, tt)
-      fitted (global x) e g = (g, tt, tt, tt, tt)
+      fitted (cell x v) e g = (g, tt, tt, tt, tt)
+      fitted (gives (constant x v)) e g = (g, tt, tt, tt, tt)
+      fitted (gives (global x)) e g = (g, tt, tt, tt, tt)
+      fitted (gives (consume x b)) e g =
+          let s = u .deployments b (deployment-end k b few (g .0)) in
+          (tt, tt, deployment-now b _ e refl (g .0), g .1, (s .at, s .consumed k h (x, e), s .react .is))
+      fitted (gives (primitive x a b c)) e g =
+          let o = operands-of (commandLoc p r k) (rowOf x .takes) a b c .1 (g .1) in
+          let bs = ⊎-map (λ h. h) (values k b few .1) (o .1) in
+          let cs = ⊎-map (λ h. h) (values k c few .1) (o .2) in
+          (g .0 .0, g .0 .1, (values k a few .1 (o .0), bs, cs), o .3, tt)
+      fitted (gives (fetch b)) e g = (tt, tt, cell-there k few (D-early k (R-late _ e refl)) b g, tt, tt)
       fitted (supply x a b) e g =
           let s = u .deployments b (deployment-end k b few (g .1)) in
           let t = s .supplied x (g .2) in (
@@ -254,9 +272,6 @@ module _ (p : List ℕ) (r : ℕ) where
               λ x l. let t = s .supplied x l in (t .0, subst (λ j. t .0 < j) (sym i) (t .2), t .1 .is),
             ),
           )
-      fitted (consume x b) e g =
-          let s = u .deployments b (deployment-end k b few (g .0)) in
-          (tt, tt, deployment-now b _ e refl (g .0), g .1, (s .at, s .consumed k h (x, e), s .react .is))
       fitted (sink x a) e g =
           let t = u .set x (g .1) in
           (tt, tt, values k a few .1 (g .0), (g .1, g .2), first (Sets p r x) (t .0) (t .1) (a, e))
@@ -264,13 +279,6 @@ module _ (p : List ℕ) (r : ℕ) where
           let t = u .points b (g .1) in
           let at = point-there k few (D-early k (R-late _ e refl)) b (g .1) in
           (tt, tt, (values k a few .1 (g .0), at), g .2, first (Allocates p r b) (t .0) (t .1) (a, e))
-      fitted (primitive x a b c) e g =
-          let o = operands-of (commandLoc p r k) (rowOf x .takes) a b c .1 (g .1) in
-          let bs = ⊎-map (λ h. h) (values k b few .1) (o .1) in
-          let cs = ⊎-map (λ h. h) (values k c few .1) (o .2) in
-          (g .0 .0, g .0 .1, (values k a few .1 (o .0), bs, cs), o .3, tt)
-      fitted (cell x v) e g = (g, tt, tt, tt, tt)
-      fitted (fetch b) e g = (tt, tt, cell-there k few (D-early k (R-late _ e refl)) b g, tt, tt)
       fitted (keep a b) e g =
           let t = u .cells b (g .1) in
           let at = cell-there k few (D-early k (R-late _ e refl)) b (g .1) in
@@ -290,23 +298,21 @@ module _ (p : List ℕ) (r : ℕ) where
             timely = f .4;
           }
 
-    reacted : (b : ℕ) → Deployment p r (commandLoc p r (commandsIn p r)) b → Already p r (Reacts p r b) (commandsIn p r)
+    reacted : (b : ℕ) → IsDeployment p r (commandLoc p r (commandsIn p r)) b →
+        Already p r (Reacts p r b) (commandsIn p r)
     reacted b d = let s = u .deployments b d in (s .at, s .react .there, s .react .is)
 
-    ended : (i : ℕ) → i < commandsIn p r → (c : Cmd) → cmdAt p r (commandLoc p r i) ≡ c → Ended p r (commandLoc p r i) (classOf c)
+    ended : (i : ℕ) → i < commandsIn p r → (c : Cmd) → cmdAt p r (commandLoc p r i) ≡ c →
+        Ended p r (commandLoc p r i) (classOf c)
     unfolding classOf
     ended i h (allocMono x) e = reacted _ (inl (x, e))
     ended i h (makePoly x) e = let t = u .points _ (x, e) in (t .0, t .1 .there, t .1 .is)
-    ended i h (constant x v) e = tt
-    ended i h (global x) e = tt
+    ended i h (cell x v) e = let t = u .cells _ (x, v, e) in (t .0, t .1 .there, t .1 .is)
+    ended i h (gives g) e = tt
     ended i h (supply x a b) e = tt
     ended i h (react b) e = tt
-    ended i h (consume x b) e = tt
     ended i h (sink x a) e = tt
     ended i h (allocPoly a b) e = reacted _ (inr (loc-lt p r h, (a, b, e)))
-    ended i h (primitive x a b c) e = tt
-    ended i h (cell x v) e = let t = u .cells _ (x, v, e) in (t .0, t .1 .there, t .1 .is)
-    ended i h (fetch b) e = tt
     ended i h (keep a b) e = tt
     ended i h none e = tt
 

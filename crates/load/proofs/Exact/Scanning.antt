@@ -1,9 +1,5 @@
 -- How far a scan of n commands goes: on past those that it takes, and no further than the first that it refuses.
-use Prim.Native.Nat.{ℕ, zero, suc, _+_, _<_}
-use mathlib.Core.Path.{_≡_, refl, sym, _∙_, ap}
-use mathlib.Core.Logic.{_≢_, ⊎-elim}
-use mathlib.Core.List.{List}
-use native.Mathlib.Omega.{arith}
+use Rattle.value.specs.Prelude.{ℕ, zero, suc, _+_, _<_, _≡_, refl, sym, _∙_, ap, ⊎-elim, _≢_, List, arith}
 use Rattle.value.proofs.Tests.{same?}
 use Rattle.program.specs.Bytes.{commandAt}
 use Rattle.program.specs.Command.{Cmd, cmdOf, decode, bytesOf}

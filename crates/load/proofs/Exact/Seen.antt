@@ -1,9 +1,5 @@
 -- Which commands of a reactor came before position k: none with P, or some; and a number that tells which.
-use Prim.Native.Nat.{ℕ, suc, _≤_, _<_}
-use mathlib.Core.Path.{_≡_, sym, _∙_, subst}
-use mathlib.Core.Logic.{_↔_, _⊎_, inl, inr}
-use mathlib.Core.List.{List}
-use native.Mathlib.Omega.{arith}
+use Rattle.value.specs.Prelude.{ℕ, suc, _≤_, _<_, _≡_, sym, _∙_, subst, _⊎_, inl, inr, _↔_, List, arith}
 use native.Mathlib.Nat.{not-suc-le-zero}
 use Rattle.value.specs.Test.{_<?_}
 use Rattle.value.proofs.Tests.{cases, lt?, lt×?}
@@ -64,5 +60,6 @@ module _ (p : List ℕ) (r : ℕ) (P : Cmd → Type 0) where
   once first k h q = record { there = h; is = q; only = λ i l s. one first i k l h s q }
 
 -- what never came with the wider property never came with the narrower
-pub never-narrow : (p : List ℕ) (r : ℕ) (P Q : Cmd → Type 0) (k : ℕ) → ((c : Cmd) → Q c → P c) → Never p r P k → Never p r Q k
+pub never-narrow : (p : List ℕ) (r : ℕ) (P Q : Cmd → Type 0) (k : ℕ) → ((c : Cmd) → Q c → P c) →
+    Never p r P k → Never p r Q k
 never-narrow p r P Q k f n i h q = n i h (f _ q)

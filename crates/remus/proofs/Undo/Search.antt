@@ -1,8 +1,5 @@
 -- A chain that has new members before old ones: `below` goes along it to the first old one.
-use Prim.Native.Nat.{ℕ, zero, suc, _+_, _≤_, _<_}
-use mathlib.Core.Path.{_≡_, refl, sym, _∙_, ap}
-use mathlib.Core.List.{List}
-use native.Mathlib.Omega.{arith}
+use Rattle.value.specs.Prelude.{ℕ, zero, suc, _+_, _≤_, _<_, _≡_, refl, sym, _∙_, ap, List, arith}
 use Rattle.value.proofs.Tests.{le!, le×, goes, stops}
 use Rattle.program.specs.Bytes.{reactors}
 use Rattle.image.specs.Memory.{mainAt, used, next}
@@ -25,8 +22,8 @@ module _ (s : List ℕ) (u : ℕ) where
   below-next f c h = sym (goes _ _ (le! h) refl)
 
 -- the words s need have the chain's nexts from u on only; n is the count of its members
-below-from : {p m : List ℕ} {u c₀ c : ℕ} (f n : ℕ) (s : List ℕ) → ((d : ℕ) → u ≤ d → next s d ≡ next m d) → c₀ < u → Newer p m u c₀ c → Members m c n → n < f
-    → below f s u c ≡ c₀
+below-from : {p m : List ℕ} {u c₀ c : ℕ} (f n : ℕ) (s : List ℕ) → ((d : ℕ) → u ≤ d → next s d ≡ next m d) → c₀ < u
+    → Newer p m u c₀ c → Members m c n → n < f → below f s u c ≡ c₀
 below-from zero n s same low new k h = absurd (omega arith)
 below-from {u = u} {c₀ = c₀} (suc f) n s same low as-was k h = below-here s u f c₀ low
 below-from (suc f) n s same low (one-more dep l new) end h = absurd (omega arith)
@@ -35,4 +32,6 @@ below-from {u = u} (suc f) n s same low (one-more {c = c} dep l new) (one {n = k
 
 pub below-newer : {p m : List ℕ} {o x u c₀ c : ℕ} (s : List ℕ) → ((d : ℕ) → u ≤ d → next s d ≡ next m d) → c₀ < u
     → Newer p m u c₀ c → Chain p m o x c → Tiles p m (used m) mainAt → below (reactors p + 1) s u c ≡ c₀
-below-newer {p} s same low new ch tl = let k = few-members tl ch in below-from (reactors p + 1) (k .0) s same low new (k .1) (omega (arith, k .2))
+below-newer {p} s same low new ch tl =
+    let k = few-members tl ch in
+    below-from (reactors p + 1) (k .0) s same low new (k .1) (omega (arith, k .2))

@@ -1,17 +1,12 @@
 -- Keep comes to what it should (`keep-outcome`): its value waits in its own slot, and its cell is noted. A value as it
 -- waits is never blank (`pending-full`), and taken back it is the value again (`kept-pending`).
-use Prim.Native.Nat.{ℕ, suc, zero, _+_, _≤_, _<_}
-use mathlib.Core.Path.{_≡_, refl, sym, _∙_, subst}
-use mathlib.Core.Bool.{false}
-use mathlib.Core.List.{List, _∷_, _++_}
-use mathlib.Core.Logic.{inl, inr}
-use native.Mathlib.Omega.{arith}
-use lib.ListN.{length}
+use Rattle.value.specs.Prelude.{ℕ, zero, suc, _+_, _≤_, _<_, _≡_, refl, sym, _∙_, subst, inl, inr, false, List, _∷_}
+use Rattle.value.specs.Prelude.{_++_, length, arith}
 use Rattle.value.specs.Test.{pick, _=?_}
 use Rattle.value.specs.Value.{markOf, keptMark, value, blank, isBlank}
 use Rattle.value.specs.declared.Value.{Value}
 use Rattle.value.proofs.Tests.{cases, eq×, yes, no}
-use Rattle.program.specs.Bytes.{declared, commandsIn}
+use Rattle.program.specs.Bytes.{commandsD, commandsIn}
 use Rattle.program.specs.Command.{sequenceOf, allocPoly, keep}
 use Rattle.program.specs.Location.{cmdAt}
 use Rattle.program.specs.Kind.{kindOf, OfKind}
@@ -26,11 +21,12 @@ use Rattle.remus.specs.Exec.{exec}
 use Rattle.remus.specs.Walk.{Note, location, run, Frame, notesOf}
 use Rattle.remus.specs.Point.{_∈_, later}
 use Rattle.remus.proofs.Walk.Facts.{Facts}
-use Rattle.remus.proofs.Walk.Story.{Valued, own, cmd, Pends}
+use Rattle.remus.proofs.Walk.MidTurn.{Valued, own, cmd, Pends}
 use Rattle.remus.proofs.Walk.Pile.{frame, state, first as top, Behind, behind-lower, Inv}
-use Rattle.remus.proofs.Walk.Top.{onward, top-frame, not-behind, next-behind, just-behind, next-entered, same-entered}
+use Rattle.remus.proofs.Walk.Top.{onward, top-frame, not-behind, next-behind, just-behind, next-entered}
+use Rattle.remus.proofs.Walk.Top.{same-entered}
 use Rattle.remus.proofs.Walk.Operands.{static-here, value-kind}
-use Rattle.remus.proofs.Walk.Moves.{advance}
+use Rattle.remus.proofs.Walk.StepsKeep.{advance}
 use Rattle.remus.proofs.Walk.Stores.{note-out, run-past, past-D}
 use Rattle.remus.proofs.Walk.Writes.{own-writes}
 use Rattle.remus.proofs.Walk.Outcome.{Outcome, no-words, allocation-deploys}
@@ -85,11 +81,11 @@ kept-pending p k v (inr h) = subst (λ (x : Value). kept x ≡ v) as-it-is same
 
 module _ (p : List ℕ) (u : Facts p) {w m : List ℕ} {ns : List Note} {o i : ℕ} {fs : List Frame}
     (v : Inv p w (state m (frame o i ∷ fs) ns)) (h : i < commandsIn p (reactor m o))
-    (then : declared p (reactor m o) ≤ i → wired m o ≡ 1) (a b : ℕ) (e : cmd p m o i ≡ keep a b) where
+    (then : commandsD p (reactor m o) ≤ i → wired m o ≡ 1) (a b : ℕ) (e : cmd p m o i ≡ keep a b) where
   t₀ : Deployed p m o
   t₀ = top-frame p v .deployed
 
-  past : declared p (reactor m o) ≤ i
+  past : commandsD p (reactor m o) ≤ i
   unfolding sequenceOf
   past = past-D p u v h then e refl
 
@@ -112,7 +108,7 @@ module _ (p : List ℕ) (u : Facts p) {w m : List ℕ} {ns : List Note} {o i : �
   m′ = store p m o here x
 
   s : Stored p m o here x m′
-  s = stored p m o here x (v .story .good) t₀ (slot-command p (reactor m o) i h (takes-keep e))
+  s = stored p m o here x (v .mid .good) t₀ (slot-command p (reactor m o) i h (takes-keep e))
 
   ch : Change p (This-slot p o here) (Nothing p) (Nothing p) m m′
   ch = s .change
@@ -177,7 +173,7 @@ module _ (p : List ℕ) (u : Facts p) {w m : List ℕ} {ns : List Note} {o i : �
             (λ z.
             let y = this-one d j z in
             let y₀ = y .0 in
-            let k₂ : j < declared p (reactor m o) = rw y₀ at k in
+            let k₂ : j < commandsD p (reactor m o) = rw y₀ at k in
             omega (arith, past, y .1)));
         polys = λ d j k y t l n z.
             let g = this-one d j z in

@@ -5,36 +5,35 @@
 -- is too deep or has no room, and only there (`stops`, `stops-deep`, `stops-full`); as main leaves, its sinks are noted
 -- (`written`), what was kept waits (`keepable-end`) and the image is whole (`whole`); the used words grow by what is
 -- allocated (`made`).
-use Prim.Native.Nat.{ℕ, _+_, _-_, _≤_, _<_}
-use mathlib.Core.Path.{_≡_, refl, sym, _∙_, ap, subst}
-use mathlib.Core.List.{List, [], _∷_}
-use mathlib.Core.Logic.{_⊎_, inl, inr, _≢_}
-use native.Mathlib.Omega.{arith}
-use lib.ListN.{length}
+use Rattle.value.specs.Prelude.{ℕ, _+_, _-_, _≤_, _<_, _≡_, refl, sym, _∙_, ap, subst, _⊎_, inl, inr, _≢_, List, []}
+use Rattle.value.specs.Prelude.{_∷_, length, arith}
 use Rattle.value.specs.declared.Value.{Value}
 use Rattle.program.specs.Bytes.{mainOf, commandsIn}
-use Rattle.program.specs.Command.{Cmd, sequenceOf, fetch}
-use Rattle.program.specs.Location.{sinks, sinkLoc, sizeOf, HasSlot}
+use Rattle.program.specs.Command.{Cmd, sequenceOf, fetch, gives}
+use Rattle.program.specs.Location.{sinkCount, sinkLoc, sizeOf, HasSlot}
 use Rattle.program.proofs.Slots.{slot-D}
 use Rattle.load.specs.Rules.{Rules}
-use Rattle.load.specs.declared.Refusal.{Refusal}
-use Rattle.load.specs.declared.Refusal.the-variants.{NoRoom, TooDeep}
+use Rattle.answer.specs.declared.Refusal.{Refusal}
+use Rattle.answer.specs.declared.Refusal.the-variants.{NoRoom, TooDeep}
 use Rattle.image.specs.Memory.{mostDepth, mainAt, used, turns, reactor, valueAt}
-use Rattle.image.specs.Sound.{Tiles, Deployed, Depth, Sound}
-use Rattle.image.specs.Whole.{Whole}
+use Rattle.image.specs.Sound.{Tiles, Deployed, Depth, SoundImage}
+use Rattle.image.proofs.Whole.{Whole}
 use Rattle.image.proofs.Memory.Tiles.{in-reactor}
 use Rattle.image.proofs.Memory.Changes.{Same, same-value}
 use Rattle.remus.specs.Run.{Ran, ran, stopped, mainRun}
-use Rattle.remus.specs.Turn.{fine, askedOf}
-use Rattle.remus.specs.Walk.{Note, location, Frame, State, Next, go, stop, over, step, Reach, stay, on, begun, Input}
-use Rattle.remus.specs.Point.{_∈_, Within, Can, ReadsWell, Allocation, Makes, Made, stay as none-made, on as and-made}
-use Rattle.remus.specs.Claim.{During, Point, Allocates, Leaves, CellIn, Begins}
+use Rattle.remus.specs.Turn.{askedOf}
+use Rattle.answer.specs.declared.Ruling.the-variants.{Fine}
+use Rattle.remus.specs.Walk.{Note, location, Frame, State, Next, go, stop, over, step, Reach, stay, on, begun}
+use Rattle.remus.specs.Walk.{Input}
+use Rattle.remus.specs.Point.{_∈_, Within, Can, ReadsWell, Allocation, StepAllocates, WalkAllocates}
+use Rattle.remus.specs.Point.{stay as none-made, on as and-made}
+use Rattle.remus.specs.Claim.{During, Point, AllocatesAt, Leaves, CellIn, Begins}
 use Rattle.remus.proofs.Walk.Facts.{R-late, Facts, facts}
-use Rattle.remus.proofs.Walk.Story.{cmd, Keepable}
+use Rattle.remus.proofs.Walk.MidTurn.{cmd, Keepable}
 use Rattle.remus.proofs.Walk.Pile.{frame, state, first as top-open, Behind, Inv, height-bound}
 use Rattle.remus.proofs.Walk.Top.{Onward, onward-on, top-frame, lower-heights}
 use Rattle.remus.proofs.Walk.Past.{cell-moved, CellOf, its-cell, Past, recalled, past-on}
-use Rattle.remus.proofs.Walk.Moves.{ready-kept}
+use Rattle.remus.proofs.Walk.StepsKeep.{ready-kept}
 use Rattle.remus.proofs.Walk.Outcome.{Stopping, deep, full}
 use Rattle.remus.proofs.Walk.Walking.{Legal, Stops, Comes, same-point, one-allocation, step-outcome}
 use Rattle.remus.proofs.Walk.Readings.{globals-legal}
@@ -44,7 +43,7 @@ use Rattle.remus.proofs.Walk.Points.{within, can-here, reads-here}
 use Rattle.remus.proofs.Walk.Meets.{Meets, reached, run-meets}
 
 -- p the program, w the words before the turn, t what it brings
-module _ (p : List ℕ) (rules : Rules p) (w : List ℕ) (few : length w ≤ 16384) (sound : Sound p w) (t : Input) where
+module _ (p : List ℕ) (rules : Rules p) (w : List ℕ) (few : length w ≤ 16384) (sound : SoundImage p w) (t : Input) where
   pub known : Facts p
   known = facts p rules
 
@@ -53,7 +52,7 @@ module _ (p : List ℕ) (rules : Rules p) (w : List ℕ) (few : length w ≤ 163
   pub begun-holds : Inv p w (begun p w)
   begun-holds = Begin.begun-holds p known w sound
 
-  module _ (allowed : askedOf p w (t .readings) (t .sinkSpace) ≡ fine) where
+  module _ (allowed : askedOf p w (t .readings) (t .sinkSpace) ≡ Fine) where
     legal : Legal p (t .readings)
     legal = globals-legal p w (t .readings) (t .sinkSpace) allowed
 
@@ -125,7 +124,7 @@ module _ (p : List ℕ) (rules : Rules p) (w : List ℕ) (few : length w ≤ 163
       })
 
   pub tiled : (s : State) (m : List ℕ) (o : ℕ) (c : Cmd) → Point p w t s m o c → Tiles p m (used m) mainAt
-  tiled s m o c q = at s m o c q .inv .story .good .tiles
+  tiled s m o c q = at s m o c q .inv .mid .good .tiles
 
   pub topmost : (s : State) (m : List ℕ) (o : ℕ) (c : Cmd) → Point p w t s m o c
       → Within p m o × Depth p m o (length (s .pile)) × (length (s .pile) ≤ mostDepth)
@@ -139,12 +138,13 @@ module _ (p : List ℕ) (rules : Rules p) (w : List ℕ) (few : length w ≤ 163
   pub carried : (s : State) (m : List ℕ) (o : ℕ) (c : Cmd) → Point p w t s m o c → Can p m (s .notes) o c
   carried s m o c q = let a = at s m o c q in can-here p known (a .inv) (a .less) c (a .is)
 
-  pub values : (s : State) (m : List ℕ) (o : ℕ) (c : Cmd) → Point p w t s m o c → ReadsWell p m (s .notes) o (t .readings) c
+  pub values : (s : State) (m : List ℕ) (o : ℕ) (c : Cmd) → Point p w t s m o c →
+      ReadsWell p m (s .notes) o (t .readings) c
   values s m o c q =
       let a = at s m o c q in reads-here p known (a .inv) (a .less) (t .readings) (legal (q .during .allowed)) c (a .is)
 
   -- a Fetch reads what its cell held as the turn began
-  pub fetched : (s : State) (m : List ℕ) (o b : ℕ) (v : Value) → Point p w t s m o (fetch b) → CellIn p m o b v
+  pub fetched : (s : State) (m : List ℕ) (o b : ℕ) (v : Value) → Point p w t s m o (gives (fetch b)) → CellIn p m o b v
       → Begins p w o b v (valueAt p m o b)
   unfolding sequenceOf
   fetched s m o b v q c =
@@ -153,8 +153,8 @@ module _ (p : List ℕ) (rules : Rules p) (w : List ℕ) (few : length w ≤ 163
       let r = ready-kept p known n (top-less q) in
       let i = top-frame p n .deployed in
       let z = subst (λ (x : List ℕ). reactor x o ≡ reactor (s .words) o) (k .wiring) (r .same) in
-      let f : CellOf p (s .words) o b v = its-cell known (n .story .good .tiles) (cell-moved c i (sym z)) in
-      let st = known .static (reactor (s .words) o) (in-reactor p (n .story .good .tiles) i) .0 in
+      let f : CellOf p (s .words) o b v = its-cell known (n .mid .good .tiles) (cell-moved c i (sym z)) in
+      let st = known .static (reactor (s .words) o) (in-reactor p (n .mid .good .tiles) i) .0 in
       let late = R-late st (k .index) (k .is) refl in
       let behind = subst (λ (fs : List Frame). Behind p (s .words) fs (s .notes) o (f .index)) (sym (k .top))
       (inl (k .index, top-open refl refl, omega (arith, late, f .is .low))) in
@@ -175,7 +175,8 @@ module _ (p : List ℕ) (rules : Rules p) (w : List ℕ) (few : length w ≤ 163
   pub left : {s : State} → Leaves p w t s → Inv p w (state (s .words) [] (s .notes))
   left {s} l = subst (λ (fs : List Frame). Inv p w (state (s .words) fs (s .notes))) (l .empty) (holds (l .during))
 
-  pub written : (s : State) → Leaves p w t s → (x : ℕ) → x < sinks p (mainOf p) → location mainAt (sinkLoc p (mainOf p) x) ∈ s .notes
+  pub written : (s : State) → Leaves p w t s → (x : ℕ) → x < sinkCount p (mainOf p) →
+      location mainAt (sinkLoc p (mainOf p) x) ∈ s .notes
   written s l = sinks-noted p known (left l)
 
   pub whole : (s : State) → Leaves p w t s → Whole p (s .words)
@@ -186,35 +187,40 @@ module _ (p : List ℕ) (rules : Rules p) (w : List ℕ) (few : length w ≤ 163
 
   -- ---- the walk's end, and the run's
 
-  pub walk-ends : askedOf p w (t .readings) (t .sinkSpace) ≡ fine →
-      ((s : State) × Leaves p w t s × (mainRun p (t .readings) w ≡ ran (s .words)))
-      ⊎ ((s : State) × (v : Refusal) × (m : List ℕ) × During p w t s × (step p (t .readings) s ≡ stop v) × (mainRun p (t .readings) w ≡ stopped v m))
+  pub walk-ends : askedOf p w (t .readings) (t .sinkSpace) ≡ Fine →
+      ((s : State) × Leaves p w t s × (mainRun p (t .readings) w ≡ ran (s .words))) ⊎ ((s : State) × (v : Refusal)
+      × (m : List ℕ) × During p w t s × (step p (t .readings) s ≡ stop v) × (mainRun p (t .readings) w ≡ stopped v m))
   unfolding mainRun begun
-  walk-ends f = by (mainRun p (t .readings) w) refl (run-meets p (t .readings) known (legal f) mostDepth 1 w mainAt [] [] begun-holds refl (omega arith))
+  walk-ends f = by (mainRun p (t .readings) w) refl
+      (run-meets p (t .readings) known (legal f) mostDepth 1 w mainAt [] [] begun-holds refl (omega arith))
     where
       by : (r : Ran) → mainRun p (t .readings) w ≡ r → Meets p (t .readings) (begun p w) [] r →
           ((s : State) × Leaves p w t s × (mainRun p (t .readings) w ≡ ran (s .words)))
-          ⊎ ((s : State) × (v : Refusal) × (m : List ℕ) × During p w t s × (step p (t .readings) s ≡ stop v) × (mainRun p (t .readings) w ≡ stopped v m))
-      by (ran m) e k = inl (state m [] (k .0), record { during = record { allowed = f; comes = k .1 }; empty = refl }, e)
+          ⊎ ((s : State) × (v : Refusal) × (m : List ℕ) × During p w t s × (step p (t .readings) s ≡ stop v)
+          × (mainRun p (t .readings) w ≡ stopped v m))
+      by (ran m) e k =
+          inl (state m [] (k .0), record { during = record { allowed = f; comes = k .1 }; empty = refl }, e)
       by (stopped v m) e k = inr (k .0, v, m, record { allowed = f; comes = k .1 }, k .2, e)
 
   -- ---- stops
 
   -- the turn ends with v at an allocation of q: too deep, or without room
   abbrev pub Refused : Refusal → ℕ → ℕ → List ℕ → Type 0
-  Refused v q h m = ((v ≡ TooDeep q) × (h + 1 ≡ 65)) ⊎ ((v ≡ NoRoom q) × (h + 1 ≢ 65) × (length w - used m < sizeOf p q))
+  Refused v q h m = ((v ≡ TooDeep q) × (h + 1 ≡ 65))
+      ⊎ ((v ≡ NoRoom q) × (h + 1 ≢ 65) × (length w - used m < sizeOf p q))
 
   ready-length : (s : State) (m : List ℕ) (o : ℕ) (c : Cmd) → Point p w t s m o c → length m ≡ length w
   ready-length s m o c q = at s m o c q .inv .len
 
   pub stops : (s : State) (v : Refusal) → During p w t s → step p (t .readings) s ≡ stop v →
-      (q : ℕ) × (h : ℕ) × (m : List ℕ) × (a : Allocates p w t q h m) × (a .state ≡ s) × Refused v q h m
+      (q : ℕ) × (h : ℕ) × (m : List ℕ) × (a : AllocatesAt p w t q h m) × (a .state ≡ s) × Refused v q h m
   stops s v d e = by x (x .why) refl
     where
       x : Stops p s v
       x = let c : Comes p w s (stop v) = rw e at (step-comes (d .allowed) s (holds d)) in c
 
-      allocates : (k : Stops p s v) (q : ℕ) → Allocation p (k .words) (k .owner) (k .command) q → Allocates p w t q (length (s .pile)) (k .words)
+      allocates : (k : Stops p s v) (q : ℕ) → Allocation p (k .words) (k .owner) (k .command) q →
+          AllocatesAt p w t q (length (s .pile)) (k .words)
       allocates k q a =
           record {
             state = s;
@@ -225,16 +231,18 @@ module _ (p : List ℕ) (rules : Rules p) (w : List ℕ) (few : length w ≤ 163
             height = refl;
           }
 
-      by : (k : Stops p s v) {y : Refusal} → Stopping p (k .words) (length (s .pile)) (k .owner) (k .command) y → y ≡ v →
-          (q : ℕ) × (h : ℕ) × (m : List ℕ) × (a : Allocates p w t q h m) × (a .state ≡ s) × Refused v q h m
+      by : (k : Stops p s v) {y : Refusal} → Stopping p (k .words) (length (s .pile)) (k .owner) (k .command) y →
+          y ≡ v → (q : ℕ) × (h : ℕ) × (m : List ℕ) × (a : AllocatesAt p w t q h m) × (a .state ≡ s) × Refused v q h m
       by k (deep q a l) z = (q, length (s .pile), k .words, allocates k q a, refl, inl (sym z, l))
       by k (full q a n l) z =
           let g = ready-length s (k .words) (k .owner) (k .command) (record { during = d; before = k .before }) in
           (q, length (s .pile), k .words, allocates k q a, refl, inr (sym z, n, rw (← g) l))
 
   -- what an allocation that is too deep, or without room, makes of the step
-  stops-as : (q h : ℕ) (m : List ℕ) (a : Allocates p w t q h m) (v : Refusal) → Refused v q h m → step p (t .readings) (a .state) ≡ stop v
-  stops-as q h m a v r = by (step p (t .readings) (a .state)) refl (step-comes (a .point .during .allowed) (a .state) (holds (a .point .during)))
+  stops-as : (q h : ℕ) (m : List ℕ) (a : AllocatesAt p w t q h m) (v : Refusal) → Refused v q h m →
+      step p (t .readings) (a .state) ≡ stop v
+  stops-as q h m a v r = by (step p (t .readings) (a .state)) refl
+      (step-comes (a .point .during .allowed) (a .state) (holds (a .point .during)))
     where
       g : length m ≡ length w
       g = ready-length (a .state) m (a .owner) (a .command) (a .point)
@@ -243,7 +251,8 @@ module _ (p : List ℕ) (rules : Rules p) (w : List ℕ) (few : length w ≤ 163
       roomy k (inl z) = k .0 (let y = a .height in omega (arith, z .1))
       roomy k (inr z) = let y = g in omega (arith, k .1, z .2)
 
-      same-one : {y : Refusal} (k : Stops p (a .state) y) (q′ : ℕ) → Allocation p (k .words) (k .owner) (k .command) q′ → q′ ≡ q
+      same-one : {y : Refusal} (k : Stops p (a .state) y) (q′ : ℕ) →
+          Allocation p (k .words) (k .owner) (k .command) q′ → q′ ≡ q
       same-one k q′ b =
           let e = same-point (k .before) (a .point .before) in
           let e₀ = e .0 in
@@ -251,39 +260,43 @@ module _ (p : List ℕ) (rules : Rules p) (w : List ℕ) (few : length w ≤ 163
           let e₂ = e .2 in
           one-allocation (rw (e₀, e₁, e₂) at b) (a .is)
 
-      same : {y : Refusal} (k : Stops p (a .state) y) {z : Refusal} → Stopping p (k .words) (length (a .state .pile)) (k .owner) (k .command) z →
-          Refused v q h m → z ≡ v
+      same : {y : Refusal} (k : Stops p (a .state) y) {z : Refusal} →
+          Stopping p (k .words) (length (a .state .pile)) (k .owner) (k .command) z → Refused v q h m → z ≡ v
       same k (deep q′ b l) (inl z) = ap TooDeep (same-one k q′ b) ∙ sym (z .0)
       same k (deep q′ b l) (inr z) = absurd (z .1 (let y = a .height in omega arith))
       same k (full q′ b n l) (inl z) = absurd (n (let y = a .height in omega (arith, z .1)))
       same k (full q′ b n l) (inr z) = ap NoRoom (same-one k q′ b) ∙ sym (z .0)
 
-      by : (n : Next) → step p (t .readings) (a .state) ≡ n → Comes p w (a .state) n → step p (t .readings) (a .state) ≡ stop v
+      by : (n : Next) → step p (t .readings) (a .state) ≡ n → Comes p w (a .state) n →
+          step p (t .readings) (a .state) ≡ stop v
       by (go s) e c = absurd (roomy (c .roomy m (a .owner) q (a .command) (a .point .before) (a .is)) r)
       by (stop y) e c = e ∙ ap stop (same c (c .why) r)
       by (over s) e c = let f = a .point .before .top in let z : _≡_ {A = ℕ} 0 1 = cc in absurd (omega arith)
 
-  pub stops-deep : (q h : ℕ) (m : List ℕ) (a : Allocates p w t q h m) → h + 1 ≡ 65 → step p (t .readings) (a .state) ≡ stop (TooDeep q)
+  pub stops-deep : (q h : ℕ) (m : List ℕ) (a : AllocatesAt p w t q h m) → h + 1 ≡ 65 →
+      step p (t .readings) (a .state) ≡ stop (TooDeep q)
   stops-deep q h m a l = stops-as q h m a (TooDeep q) (inl (refl, l))
 
-  pub stops-full : (q h : ℕ) (m : List ℕ) (a : Allocates p w t q h m) → h + 1 ≢ 65 → length w - used m < sizeOf p q →
+  pub stops-full : (q h : ℕ) (m : List ℕ) (a : AllocatesAt p w t q h m) → h + 1 ≢ 65 → length w - used m < sizeOf p q →
       step p (t .readings) (a .state) ≡ stop (NoRoom q)
   stops-full q h m a n l = stops-as q h m a (NoRoom q) (inr (refl, n, l))
 
   -- ---- what is allocated
 
-  pub made : (s : State) → During p w t s → (k : ℕ) × Made p (t .readings) (begun p w) s k × (used (s .words) ≡ used w + k)
+  pub made : (s : State) → During p w t s →
+      (k : ℕ) × WalkAllocates p (t .readings) (begun p w) s k × (used (s .words) ≡ used w + k)
   unfolding begun
   made s d = by (d .comes)
     where
-      by : {x : State} → Reach p (t .readings) (begun p w) x → (k : ℕ) × Made p (t .readings) (begun p w) x k × (used (x .words) ≡ used w + k)
+      by : {x : State} → Reach p (t .readings) (begun p w) x →
+          (k : ℕ) × WalkAllocates p (t .readings) (begun p w) x k × (used (x .words) ≡ used w + k)
       by stay = (0, none-made, omega arith)
       by (on {t = y} {u = z} r e) = more (by r) (c .made .0) (c .made .1) (c .made .2)
         where
           c : Comes p w y (go z)
           c = rw e at (step-comes (d .allowed) y (holds (record { allowed = d .allowed; comes = r })))
 
-          more : (k : ℕ) × Made p (t .readings) (begun p w) y k × (used (y .words) ≡ used w + k) → (j : ℕ) → Makes p y j →
-              used (z .words) ≡ used (y .words) + j →
-              (k : ℕ) × Made p (t .readings) (begun p w) z k × (used (z .words) ≡ used w + k)
+          more : (k : ℕ) × WalkAllocates p (t .readings) (begun p w) y k × (used (y .words) ≡ used w + k) →
+              (j : ℕ) → StepAllocates p y j → used (z .words) ≡ used (y .words) + j →
+              (k : ℕ) × WalkAllocates p (t .readings) (begun p w) z k × (used (z .words) ≡ used w + k)
           more q j n l = let f = q .2 in (q .0 + j, and-made (q .1) e n, omega arith)

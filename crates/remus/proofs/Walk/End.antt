@@ -1,26 +1,24 @@
 -- As main leaves: its sinks are all noted, every deployment is wired, what was kept waits in the Keeps' slots
 -- (`keepable`), and the image is whole.
-use Prim.Native.Nat.{ℕ, _<_}
-use mathlib.Core.Path.{_≡_, refl}
-use mathlib.Core.List.{List, [], _∷_}
-use mathlib.Core.Logic.{_⊎_, inl, inr, _≢_}
+use Rattle.value.specs.Prelude.{ℕ, _<_, _≡_, refl, _⊎_, inl, inr, _≢_, List, [], _∷_}
 use Rattle.value.specs.Value.{blank}
 use Rattle.value.proofs.Tests.{same?}
-use Rattle.program.specs.Bytes.{mainOf, shapeOf, declared, commandsIn}
-use Rattle.program.specs.Command.{Cmd, cmdOf, allocMono, makePoly, constant, global, supply, react, consume, sink, allocPoly, primitive, cell, fetch, keep, none}
-use Rattle.program.specs.Location.{sinks, commandLoc, sinkLoc, shapeThere}
+use Rattle.program.specs.Bytes.{mainOf, shapeOf, commandsD, commandsIn}
+use Rattle.program.specs.Command.{Cmd, cmdOf, allocMono, makePoly, supply, react, sink, allocPoly, cell, keep, none}
+use Rattle.program.specs.Command.{gives}
+use Rattle.program.specs.Location.{sinkCount, commandLoc, sinkLoc, shapeThere}
 use Rattle.load.proofs.Exact.Static.{DeploymentBefore, mono, poly}
 use Rattle.image.specs.Memory.{mainAt, reactor, wired, content, valueAt}
 use Rattle.image.specs.Sound.{Deployed, MonoSlot, PointSlot, CellSlot, NamedOnce, Depth, top, child}
-use Rattle.image.specs.Whole.{Whole}
+use Rattle.image.proofs.Whole.{Whole}
 use Rattle.image.proofs.Memory.Tiles.{in-reactor}
-use Rattle.image.proofs.Memory.Slots.{Right}
+use Rattle.image.proofs.Memory.Slots.{SlotRight}
 use Rattle.remus.specs.Walk.{Note, location, run}
 use Rattle.remus.specs.Point.{_∈_, first, later}
 use Rattle.remus.proofs.Walk.Facts.{Facts}
-use Rattle.remus.proofs.Walk.Story.{Deploys, own, cmd, Pends, KeepAt, Keepable, Done, Cause, Making}
+use Rattle.remus.proofs.Walk.MidTurn.{Deploys, own, cmd, Pends, KeepAt, Keepable, Done, Cause, Making}
 use Rattle.remus.proofs.Walk.Pile.{state, none-open, Entered, Behind, Inv}
-use Rattle.remus.proofs.Walk.Moves.{run-out}
+use Rattle.remus.proofs.Walk.StepsKeep.{run-out}
 use Rattle.remus.proofs.Walk.Stores.{run-past}
 
 -- whether d has run
@@ -55,28 +53,25 @@ module _ (p : List ℕ) (u : Facts p) {w m : List ℕ} {ns : List Note} (v : Inv
   main-run : run mainAt ∈ ns
   main-run = has-run mainAt (v .piled .main-in)
 
-  pub sinks-noted : (x : ℕ) → x < sinks p (mainOf p) → location mainAt (sinkLoc p (mainOf p) x) ∈ ns
+  pub sinks-noted : (x : ℕ) → x < sinkCount p (mainOf p) → location mainAt (sinkLoc p (mainOf p) x) ∈ ns
   sinks-noted x h =
       let q = u .static (mainOf p) (u .main-low) .1 .all-sinks x h in
-      let e = v .story .first in
-      let f = v .story .done mainAt (q .0) (inr (main-run, rw e (q .2))) in
+      let e = v .mid .first in
+      let f = v .mid .done mainAt (q .0) (inr (main-run, rw e (q .2))) in
       let d : Done p m ns (Entered [] ns) mainAt (own p m mainAt (q .0)) (sink x (q .1)) = rw (e, q .3) at f in
       rw e at d
 
   -- a location that holds a deployment, at the end of its reactor's commands
-  deploys-before : (r j : ℕ) (c : Cmd) → j < commandsIn p r → cmdOf p r j ≡ c → Deploys c → (s : ℕ) × DeploymentBefore p r (commandsIn p r) s (commandLoc p r j)
+  deploys-before : (r j : ℕ) (c : Cmd) → j < commandsIn p r → cmdOf p r j ≡ c → Deploys c →
+      (s : ℕ) × DeploymentBefore p r (commandsIn p r) s (commandLoc p r j)
   deploys-before r j (allocMono x) h e d = (shapeOf p x, mono j x h refl e refl)
   deploys-before r j (makePoly x) h e d = absurd d
-  deploys-before r j (constant x a) h e d = absurd d
-  deploys-before r j (global x) h e d = absurd d
+  deploys-before r j (cell x v) h e d = absurd d
+  deploys-before r j (gives g) h e d = absurd d
   deploys-before r j (supply x a b) h e d = absurd d
   deploys-before r j (react b) h e d = absurd d
-  deploys-before r j (consume x b) h e d = absurd d
   deploys-before r j (sink x a) h e d = absurd d
   deploys-before r j (allocPoly a b) h e d = (shapeThere p r b, poly j a b h refl e refl)
-  deploys-before r j (primitive x a b c) h e d = absurd d
-  deploys-before r j (cell x v) h e d = absurd d
-  deploys-before r j (fetch b) h e d = absurd d
   deploys-before r j (keep a b) h e d = absurd d
   deploys-before r j none h e d = absurd d
 
@@ -85,10 +80,11 @@ module _ (p : List ℕ) (u : Facts p) {w m : List ℕ} {ns : List Note} (v : Inv
   caused d c =
       let o = c .owner in
       let r = reactor m o in
-      let q = v .story .scope o (c .command) (c .behind) in
+      let q = v .mid .scope o (c .command) (c .behind) in
       let b = deploys-before r (c .command) (cmdOf p r (c .command)) (q .1) refl (c .is .1) in
-      let z = u .static r (in-reactor p (v .story .good .tiles) (q .0)) .1 .all-react (commandLoc p r (c .command)) (b .0) (b .1) in
-      let l = v .story .done o (z .0) (inr (owner-run o (c .command) (c .behind), z .1)) in
+      let z = u .static r (in-reactor p (v .mid .good .tiles) (q .0)) .1 .all-react
+      (commandLoc p r (c .command)) (b .0) (b .1) in
+      let l = v .mid .done o (z .0) (inr (owner-run o (c .command) (c .behind), z .1)) in
       let f : Done p m ns (Entered [] ns) o (own p m o (z .0)) (react (commandLoc p r (c .command))) = rw (z .2) at l in
       let e = c .is .0 in
       let g = f (rw e at (c .marked)) in
@@ -96,7 +92,7 @@ module _ (p : List ℕ) (u : Facts p) {w m : List ℕ} {ns : List Note} (v : Inv
       has-run d (rw k at g)
 
   pub all-wired : (d : ℕ) → Deployed p m d → wired m d ≡ 1
-  all-wired d t = by (v .story .two d t)
+  all-wired d t = by (v .mid .two d t)
     where
       born : (d ≡ mainAt) ⊎ Cause p m (Behind p m [] ns) (Making p) d → run d ∈ ns
       born (inl e) = rw e main-run
@@ -104,22 +100,23 @@ module _ (p : List ℕ) (u : Facts p) {w m : List ℕ} {ns : List Note} (v : Inv
 
       by : (wired m d ≡ 0) ⊎ (wired m d ≡ 1) → wired m d ≡ 1
       by (inr e) = e
-      by (inl e) = v .piled .ran d (born (v .story .born d t e)) .1
+      by (inl e) = v .piled .ran d (born (v .mid .born d t e)) .1
 
-  slot : (o j : ℕ) → Deployed p m o → j < declared p (reactor m o) → Right p m o (own p m o j) (cmd p m o j)
-  slot o j t h = v .story .slots o j t (all-wired o t) h
+  slot : (o j : ℕ) → Deployed p m o → j < commandsD p (reactor m o) → SlotRight p m o (own p m o j) (cmd p m o j)
+  slot o j t h = v .mid .slots o j t (all-wired o t) h
 
   named : (d : ℕ) → Deployed p m d → d ≢ mainAt → NamedOnce p m d
-  named d t n = by t n (v .story .depth d t .1)
+  named d t n = by t n (v .mid .depth d t .1)
     where
       by : {e k : ℕ} → Deployed p m e → e ≢ mainAt → Depth p m e k → NamedOnce p m e
       by t f top = absurd (f refl)
-      by {e} t f (child {o = o} j a h) = record { owner = o; command = j; named = a; only = λ o′ j′ b. v .story .one-owner o′ j′ o j e t b a }
+      by {e} t f (child {o = o} j a h) =
+          record { owner = o; command = j; named = a; only = λ o′ j′ b. v .mid .one-owner o′ j′ o j e t b a }
 
   -- what a Keep of a deployment that has run kept waits in its slot
   pub waits : (o j a b : ℕ) → KeepAt p m o j a b → run o ∈ ns → Pends p m o (own p m o j) b
   waits o j a b k r =
-      let d = v .story .done o j (inr (r, k .inside)) in
+      let d = v .mid .done o j (inr (r, k .inside)) in
       let e : Done p m ns (Entered [] ns) o (own p m o j) (keep a b) = rw (k .is) at d in
       e
 
@@ -128,23 +125,23 @@ module _ (p : List ℕ) (u : Facts p) {w m : List ℕ} {ns : List Note} (v : Inv
     where
       by : (run o ∈ ns) ⊎ (run o ∈ ns → ⊥) → (valueAt p m o (own p m o j) ≡ blank) ⊎ Pends p m o (own p m o j) b
       by (inl r) = inr (waits o j a b k r)
-      by (inr n) = inl (v .story .idle o j a b k (λ z. n (owner-run o j z)))
+      by (inr n) = inl (v .mid .idle o j a b k (λ z. n (owner-run o j z)))
 
   pub whole-end : Whole p m
   whole-end =
       record {
-        fits = v .story .good .fits;
-        tiles = v .story .good .tiles;
-        main = v .story .main;
-        first = v .story .first;
-        last = v .story .last;
-        rest = v .story .good .rest;
+        fits = v .mid .good .fits;
+        tiles = v .mid .good .tiles;
+        main = v .mid .main;
+        first = v .mid .first;
+        last = v .mid .last;
+        rest = v .mid .good .rest;
         grown = record {
           all-wired = all-wired;
           monos = λ o j x t h e. let r : MonoSlot p m o (own p m o j) x = rw e at (slot o j t h) in r;
           points = λ o j x t h e. let r : PointSlot p m o (own p m o j) x = rw e at (slot o j t h) in r;
           cells = λ o j x a t h e. let r : CellSlot p m o (own p m o j) x = rw e at (slot o j t h) in r;
           named = named;
-          depth = v .story .depth;
+          depth = v .mid .depth;
         };
       }

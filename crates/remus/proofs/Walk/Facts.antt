@@ -1,24 +1,20 @@
 -- What the rules give of each reactor, as the walk's proofs use it.
-use Prim.Native.Nat.{ℕ, _≤_, _<_}
-use mathlib.Core.Path.{_≡_}
-use mathlib.Core.Logic.{_⊎_, inl, inr}
-use mathlib.Core.List.{List}
-use native.Mathlib.Omega.{arith}
+use Rattle.value.specs.Prelude.{ℕ, _≤_, _<_, _≡_, _⊎_, inl, inr, List, arith}
 use Rattle.value.proofs.Tests.{below}
-use Rattle.program.specs.Bytes.{reactors, mainOf, declared, commandsIn}
+use Rattle.program.specs.Bytes.{reactors, mainOf, commandsD, commandsIn}
 use Rattle.program.specs.Command.{Cmd, cmdOf, sequenceOf, D, R}
-use Rattle.program.specs.Location.{sources}
+use Rattle.program.specs.Location.{sourceCount}
 use Rattle.load.specs.Rules.{Rules}
 use Rattle.load.proofs.Exact.Static.{Static, Single}
-use Rattle.load.proofs.Exact.Deduced.{all-static}
+use Rattle.load.proofs.Exact.StaticFromRules.{all-static}
 use Rattle.load.proofs.Exact.Bounds.{main-last}
 
 -- an R command stands past D
 pub R-late : {p : List ℕ} {r : ℕ} → Static p r → (i : ℕ) {c : Cmd} → cmdOf p r i ≡ c → sequenceOf c ≡ R
-    → declared p r ≤ i
-R-late {p} {r} s i {c} e q = by (below i (declared p r))
+    → commandsD p r ≤ i
+R-late {p} {r} s i {c} e q = by (below i (commandsD p r))
   where
-    by : (i < declared p r) ⊎ (declared p r ≤ i) → declared p r ≤ i
+    by : (i < commandsD p r) ⊎ (commandsD p r ≤ i) → commandsD p r ≤ i
     by (inr l) = l
     by (inl l) =
         let y : sequenceOf c ≡ D = rw e at (s .in-D i l) in
@@ -27,9 +23,9 @@ R-late {p} {r} s i {c} e q = by (below i (declared p r))
 
 pub record Facts (p : List ℕ) : Type 0 where
   pub static : (r : ℕ) → r < reactors p → Static p r × Single p r
-  pub running-some : (r : ℕ) → r < reactors p → declared p r < commandsIn p r
+  pub running-some : (r : ℕ) → r < reactors p → commandsD p r < commandsIn p r
   pub main-low : mainOf p < reactors p
-  pub main-bare : sources p (mainOf p) ≡ 0
+  pub main-bare : sourceCount p (mainOf p) ≡ 0
 
 pub facts : (p : List ℕ) → Rules p → Facts p
 unfolding commandsIn

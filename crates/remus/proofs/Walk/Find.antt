@@ -1,10 +1,5 @@
 -- `find` finds the deployment of a reactor on a chain exactly where there is one: the count of reactors is enough.
-use Prim.Native.Nat.{ℕ, zero, suc, _≤_}
-use mathlib.Core.Path.{_≡_, refl, ap, subst}
-use mathlib.Core.Bool.{not}
-use mathlib.Core.List.{List}
-use mathlib.Core.Logic.{_≢_}
-use native.Mathlib.Omega.{arith}
+use Rattle.value.specs.Prelude.{ℕ, zero, suc, _≤_, _≡_, refl, ap, subst, _≢_, not, List, arith}
 use Rattle.value.specs.Test.{_=?_}
 use Rattle.value.proofs.Tests.{cases, lt!, lt×, eq?, eq×?, goes, stops}
 use Rattle.program.specs.Bytes.{reactors}
@@ -35,9 +30,13 @@ module _ (p m : List ℕ) (q : ℕ) where
       (record { hit = λ y. (head y, eq? e); miss = λ y. absurd (z y) }))
       (λ e.
       subst (λ (x : ℕ). Found p m c q x) (goes 0 _ (lt! (omega arith)) (goes c _ (ap not e) refl))
-      (record { hit = λ y. let h = on .hit y in (tail {c = c} z (h .0), h .1); miss = λ y d i. other d (on .miss y) (eq×? e) i }))
+      (record {
+        hit = λ y. let h = on .hit y in (tail {c = c} z (h .0), h .1);
+        miss = λ y d i. other d (on .miss y) (eq×? e) i;
+      }))
     where
-      other : (d : ℕ) → ((b : ℕ) → OnChain p m (next m c) b → reactor m b ≢ q) → (reactor m c ≡ q → ⊥) → OnChain p m c d → reactor m d ≢ q
+      other : (d : ℕ) → ((b : ℕ) → OnChain p m (next m c) b → reactor m b ≢ q) → (reactor m c ≡ q → ⊥) →
+          OnChain p m c d → reactor m d ≢ q
       other d g e (head y) = e
       other d g e (tail y i) = g d i
 

@@ -1,11 +1,8 @@
--- The walk from a state whose topmost deployment opens comes to that one's leaving with the words of the recursive run, or to a step that stops as the
--- run does. The bound on the pile's height is what keeps the run from having no level left.
-use Prim.Native.Nat.{ℕ, zero, suc, _+_, _-_, _≤_, _<_}
-use mathlib.Core.Path.{_≡_, refl, _∙_, ap}
-use mathlib.Core.Bool.{Bool}
-use mathlib.Core.List.{List, _∷_, _++_}
-use native.Mathlib.Omega.{arith}
-use lib.ListN.{length}
+-- The walk from a state whose topmost deployment opens comes to that one's leaving with the words of the
+-- recursive run, or to a step that stops as the run does. The bound on the pile's height is what keeps the
+-- run from having no level left.
+use Rattle.value.specs.Prelude.{ℕ, zero, suc, _+_, _-_, _≤_, _<_, _≡_, refl, _∙_, ap, Bool, List, _∷_, _++_, length}
+use Rattle.value.specs.Prelude.{arith}
 use Rattle.value.proofs.Tests.{eq!, eq×}
 use Rattle.program.specs.Bytes.{commandsIn}
 use Rattle.program.specs.Command.{cmdOf}
@@ -13,7 +10,8 @@ use Rattle.image.specs.Memory.{reactor}
 use Rattle.image.specs.Sound.{Deployed}
 use Rattle.remus.specs.Exec.{Eff, move, call, fail, eff, opening, ready}
 use Rattle.remus.specs.Run.{Ran, ran, stopped, andThen, entered, commands, stepOf, runOf}
-use Rattle.remus.specs.Walk.{Note, run, Frame, State, go, stop, notesOf, onto, stepAt, stepOn, step, Reach, stay, on}
+use Rattle.remus.specs.Walk.{Note, run, Frame, State, go, stop, notesOf, onto, stepAt, stepOn, step, Reach, stay}
+use Rattle.remus.specs.Walk.{on}
 use Rattle.remus.proofs.Walk.Facts.{Facts}
 use Rattle.remus.proofs.Walk.Pile.{frame, state, Inv, height-bound}
 use Rattle.remus.proofs.Walk.Top.{Onward, onward-self, onward-on, top-frame}
@@ -24,7 +22,8 @@ module _ (p rd : List ℕ) where
   reach-on a stay = a
   reach-on a (on b e) = on (reach-on a b) e
 
-  -- what a run's end says of the walk from s: it comes to the pile fs with the run's words, or to a step that stops as the run does
+  -- what a run's end says of the walk from s: it comes to the pile fs with the run's words, or to a
+  -- step that stops as the run does
   abbrev pub Meets : State → List Frame → Ran → Type 0
   Meets s fs (ran m) = (ns : List Note) × Reach p rd s (state m fs ns)
   Meets s fs (stopped v m) = (t : State) × Reach p rd s t × (step p rd t ≡ stop v)

@@ -1,14 +1,10 @@
 -- What a turn's states remember of its beginning and of its Keeps (`Past`), and that a step keeps this (`past-on`): a
 -- cell of a wired deployment, or of one whose Cell is behind, has its content as at the turn's start; in the slot of a
 -- Keep behind waits what its operand was as it was carried out. `its-cell` finds the Cell of a cell.
-use Prim.Native.Nat.{ℕ, _<_}
-use mathlib.Core.Path.{_≡_, refl, sym, _∙_, ap, subst}
-use mathlib.Core.List.{List}
-use mathlib.Core.Logic.{_⊎_, inl, inr, _≢_}
-use native.Mathlib.Omega.{arith}
+use Rattle.value.specs.Prelude.{ℕ, _<_, _≡_, refl, sym, _∙_, ap, subst, _⊎_, inl, inr, _≢_, List, arith}
 use Rattle.value.specs.Value.{markOf, value}
 use Rattle.value.specs.declared.Value.{Value}
-use Rattle.program.specs.Bytes.{declared}
+use Rattle.program.specs.Bytes.{commandsD}
 use Rattle.program.specs.Command.{sequenceOf, cell, keep, none}
 use Rattle.program.specs.Location.{cmdAt}
 use Rattle.program.proofs.Slots.{takes-cell, takes-keep}
@@ -22,7 +18,7 @@ use Rattle.remus.specs.Walk.{State, Input}
 use Rattle.remus.specs.Point.{Before}
 use Rattle.remus.specs.Claim.{CellIn, Begins, stands, fresh, During, Point}
 use Rattle.remus.proofs.Walk.Facts.{R-late, Facts}
-use Rattle.remus.proofs.Walk.Story.{own, cmd, CellAt}
+use Rattle.remus.proofs.Walk.MidTurn.{own, cmd, CellAt}
 use Rattle.remus.proofs.Walk.Pile.{first as top, Inv}
 use Rattle.remus.proofs.Walk.Top.{Onward}
 use Rattle.remus.proofs.Walk.Writes.{Gave}
@@ -153,14 +149,14 @@ module _ (p w : List ℕ) (t : Input) where
           at-new : Deployed p m o → Recalled m m′ o j x y → Recalled m′ m′ o j x y
           at-new i z = rw (on .reactors o i) z
 
-          side : CellAt p m o j x y → (wired m o ≡ 1) ⊎ ((i : ℕ) → i < declared p (reactor m o) → BehindIn p s o i)
+          side : CellAt p m o j x y → (wired m o ≡ 1) ⊎ ((i : ℕ) → i < commandsD p (reactor m o) → BehindIn p s o i)
               → Filled s o j
           side e (inl z) = inr z
           side e (inr z) = inl (z j (e .low))
 
           of-newly : Newly p s s′ o j → Recalled m′ m′ o j x y
           of-newly (before b) =
-              let i = v .story .scope o j b .0 in
+              let i = v .mid .scope o j b .0 in
               at-new i (again o j x y (cell-back i d) (inl b))
           of-newly (skipped i z n) = at-new i (again o j x y (cell-back i d) (inr z))
           of-newly (by-now m₁ b e i r g) = at-new i (filled o j x y m₁ b e r (cell-back i d) g)
@@ -182,12 +178,12 @@ module _ (p w : List ℕ) (t : Input) where
 
           by : Newly p s s′ o j → Set o a b (valueAt p m′ o (own p m′ o j))
           by (before z) =
-              at-new (v .story .scope o j z .0) (λ q.
+              at-new (v .mid .scope o j z .0) (λ q.
               let same = c .firm o j z (takes-keep q) (λ n e. not-keep a b n (sym q ∙ e)) in
               subst (Set o a b) (sym (same-value p o (own p m o j) same)) (h .keeps o j a b z q))
           by (skipped i z n) =
               at-new i (λ q.
-              let st = u .static (reactor m o) (in-reactor p (v .story .good .tiles) i) .0 in
+              let st = u .static (reactor m o) (in-reactor p (v .mid .good .tiles) i) .0 in
               absurd (omega (arith, n, R-late st j q refl)))
           by (by-now m₁ z e i r g) =
               at-new i (λ q.

@@ -1,18 +1,14 @@
--- The pile, and the invariant of a turn's states: `Inv`. A command is behind if its deployment is open past it, or has run.
-use Prim.Native.Nat.{ℕ, _+_, _≤_, _<_}
-use mathlib.Core.Path.{_≡_, refl}
-use mathlib.Core.List.{List, [], _∷_}
-use mathlib.Core.Logic.{_⊎_, inl, inr, _≢_}
-use native.Mathlib.Omega.{arith}
-use lib.ListN.{length}
-use Rattle.program.specs.Bytes.{declared, commandsIn}
+-- The pile, and the invariant of a turn's states: `Inv`. A command is behind if its
+-- deployment is open past it, or has run.
+use Rattle.value.specs.Prelude.{ℕ, _+_, _≤_, _<_, _≡_, refl, _⊎_, inl, inr, _≢_, List, [], _∷_, length, arith}
+use Rattle.program.specs.Bytes.{commandsD, commandsIn}
 use Rattle.image.specs.Memory.{mostDepth, mainAt, used, turns, reactor, wired}
 use Rattle.image.specs.Sound.{Deployed, Owner, Depth}
 use Rattle.image.proofs.Memory.Tiles.{in-ge}
 use Rattle.image.proofs.Memory.Slots.{made-names, depth-forth, depth-one}
 use Rattle.remus.specs.Walk.{Note, run, Frame, State}
 use Rattle.remus.specs.Point.{_∈_}
-use Rattle.remus.proofs.Walk.Story.{Story}
+use Rattle.remus.proofs.Walk.MidTurn.{MidTurn}
 use Rattle.remus.proofs.Walk.Step.{Step}
 
 abbrev pub frame : ℕ → ℕ → Frame
@@ -46,28 +42,31 @@ module _ (p : List ℕ) where
   Behind m pile ns o j = ((i : ℕ) × Open o i pile × (j < i)) ⊎ ((run o ∈ ns) × (j < commandsIn p (reactor m o)))
 
   -- a step from one pile to another, with their notes
-  abbrev pub Between :
-      (m m′ : List ℕ) (fs fs′ : List Frame) (ns ns′ : List Note) (W T F : ℕ → ℕ → Type 0) (N L G : ℕ → Type 0) (o₀ j₀ : ℕ) → Type 0
+  abbrev pub Between : (m m′ : List ℕ) (fs fs′ : List Frame) (ns ns′ : List Note) (W T F : ℕ → ℕ → Type 0)
+      (N L G : ℕ → Type 0) (o₀ j₀ : ℕ) → Type 0
   Between m m′ fs fs′ ns ns′ = Step p m m′ ns ns′ (Behind m fs ns) (Behind m′ fs′ ns′) (Entered fs ns) (Entered fs′ ns′)
 
-  pub behind-lower : (m : List ℕ) (pile : List Frame) (ns : List Note) (o j k : ℕ) → Behind m pile ns o j → k < j → Behind m pile ns o k
+  pub behind-lower : (m : List ℕ) (pile : List Frame) (ns : List Note) (o j k : ℕ) → Behind m pile ns o j →
+      k < j → Behind m pile ns o k
   behind-lower m pile ns o j k (inl b) h = let l = b .2 in inl (b .0, b .1, omega arith)
   behind-lower m pile ns o j k (inr b) h = let l = b .1 in inr (b .0, omega arith)
 
   -- the deployment at height h of the pile has depth h
   pub data Heights (m : List ℕ) : List Frame → Type 0 where
     flat : Heights m []
-    stack : {f : Frame} {fs : List Frame} → f .at ≢ 0 → Depth p m (f .at) (length fs + 1) → Heights m fs → Heights m (f ∷ fs)
+    stack : {f : Frame} {fs : List Frame} → f .at ≢ 0 → Depth p m (f .at) (length fs + 1) →
+        Heights m fs → Heights m (f ∷ fs)
 
-  pub heights-forth : {m m′ : List ℕ} → ((o j d : ℕ) → d ≢ 0 → Owner p m o j d → Owner p m′ o j d) → {fs : List Frame} → Heights m fs → Heights m′ fs
+  pub heights-forth : {m m′ : List ℕ} → ((o j d : ℕ) → d ≢ 0 → Owner p m o j d → Owner p m′ o j d) → {fs : List Frame} →
+      Heights m fs → Heights m′ fs
   heights-forth f flat = flat
   heights-forth f (stack n d h) = stack n (depth-forth p f n d) (heights-forth f h)
 
   pub record FrameOk (m : List ℕ) (o i : ℕ) : Type 0 where
     pub deployed : Deployed p m o
     pub bound : i ≤ commandsIn p (reactor m o)
-    pub raw : i < declared p (reactor m o) → wired m o ≡ 0
-    pub wired-past : declared p (reactor m o) < i → wired m o ≡ 1
+    pub raw : i < commandsD p (reactor m o) → wired m o ≡ 0
+    pub wired-past : commandsD p (reactor m o) < i → wired m o ≡ 1
 
   pub record Piled (m : List ℕ) (pile : List Frame) (ns : List Note) : Type 0 where
     pub falling : Falling (used m) pile
@@ -79,7 +78,7 @@ module _ (p : List ℕ) where
 
   -- w are the words before the turn
   pub record Inv (w : List ℕ) (s : State) : Type 0 where
-    pub story : Story p (s .words) (s .notes) (Behind (s .words) (s .pile) (s .notes)) (Entered (s .pile) (s .notes))
+    pub mid : MidTurn p (s .words) (s .notes) (Behind (s .words) (s .pile) (s .notes)) (Entered (s .pile) (s .notes))
     pub piled : Piled (s .words) (s .pile) (s .notes)
     pub len : length (s .words) ≡ length w
     pub clock : turns (s .words) ≡ turns w
@@ -92,12 +91,13 @@ module _ (p : List ℕ) where
   height-bound {w} {s} v = by (s .pile) (v .piled .heights) (λ o i z. v .piled .frames o i z .deployed)
     where
       above : (o j d : ℕ) → Deployed p (s .words) d → Owner p (s .words) o j d → o < d
-      above o j d t k = made-names p (v .story .made o j (k .deployed) (k .low)) (not-zero t) (k .names) .1
+      above o j d t k = made-names p (v .mid .made o j (k .deployed) (k .low)) (not-zero t) (k .names) .1
 
-      by : (fs : List Frame) → Heights (s .words) fs → ((o i : ℕ) → Open o i fs → Deployed p (s .words) o) → length fs ≤ mostDepth
+      by : (fs : List Frame) → Heights (s .words) fs →
+          ((o i : ℕ) → Open o i fs → Deployed p (s .words) o) → length fs ≤ mostDepth
       by [] h f = omega arith
       by (g ∷ gs) (stack n x h) f =
           let t = f (g .at) (g .next) (first refl refl) in
-          let q = v .story .depth (g .at) t in
-          let e = depth-one p (v .story .one-owner) above refl t x (q .1) in
+          let q = v .mid .depth (g .at) t in
+          let e = depth-one p (v .mid .one-owner) above refl t x (q .1) in
           omega (arith, q .2)

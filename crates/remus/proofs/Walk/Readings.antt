@@ -1,19 +1,16 @@
 -- Readings that 10 and 11 do not refuse are legal: every global is of its declared kind.
-use Prim.Native.Nat.{ℕ, zero, suc, _+_}
-use mathlib.Core.Path.{_≡_, refl, sym}
-use mathlib.Core.List.{List}
-use mathlib.Core.Logic.{inr}
-use native.Mathlib.Omega.{arith}
+use Rattle.value.specs.Prelude.{ℕ, zero, suc, _+_, _≡_, refl, sym, inr, List, arith}
 use Rattle.value.specs.Value.{markOf, numberKind}
 use Rattle.value.proofs.Tests.{eq!, yes}
 use Rattle.program.specs.Bytes.{globalKind}
 use Rattle.program.specs.Kind.{OfKind}
 use Rattle.remus.specs.Exec.{globalValue}
-use Rattle.remus.specs.Turn.{fine, askedOf, readingAt}
+use Rattle.remus.specs.Turn.{askedOf, readingAt}
+use Rattle.answer.specs.declared.Ruling.the-variants.{Fine}
 use Rattle.remus.proofs.Walk.Walking.{Legal}
 use Rattle.remus.proofs.Fits.{fits}
 
-pub globals-legal : (p w rd sk : List ℕ) → askedOf p w rd sk ≡ fine → Legal p rd
+pub globals-legal : (p w rd sk : List ℕ) → askedOf p w rd sk ≡ Fine → Legal p rd
 unfolding globalValue
 globals-legal p w rd sk e m zero h = time
   where

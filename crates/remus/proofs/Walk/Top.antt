@@ -1,21 +1,19 @@
--- The topmost deployment, what is behind and entered before and after its next command, and the step in which no slot is written (`calm`).
-use Prim.Native.Nat.{ℕ, _+_, _≤_, _<_}
-use mathlib.Core.Path.{_≡_, refl, sym, _∙_}
-use mathlib.Core.List.{List, _∷_}
-use mathlib.Core.Logic.{_⊎_, inl, inr, _≢_}
-use native.Mathlib.Omega.{arith}
-use lib.ListN.{length}
+-- The topmost deployment, what is behind and entered before and after its next command, and the step in
+-- which no slot is written (`calm`).
+use Rattle.value.specs.Prelude.{ℕ, _+_, _≤_, _<_, _≡_, refl, sym, _∙_, _⊎_, inl, inr, _≢_, List, _∷_, length, arith}
 use Rattle.value.proofs.Tests.{same?}
 use Rattle.program.specs.Bytes.{reactors}
-use Rattle.program.specs.Command.{Cmd, sequenceOf, D, allocMono, makePoly, constant, global, supply, react, consume, sink, allocPoly, primitive, cell, fetch, keep, none}
+use Rattle.program.specs.Command.{Cmd, sequenceOf, D, allocMono, makePoly, supply, react, sink, allocPoly, cell, keep}
+use Rattle.program.specs.Command.{none, gives}
 use Rattle.image.specs.Memory.{reactor}
 use Rattle.image.specs.Sound.{Deployed, Depth}
 use Rattle.image.proofs.Memory.Changes.{Change, This-slot}
-use Rattle.image.proofs.Memory.Slots.{Right}
+use Rattle.image.proofs.Memory.Slots.{SlotRight}
 use Rattle.remus.specs.Walk.{Note, run, Frame}
 use Rattle.remus.specs.Point.{_∈_}
-use Rattle.remus.proofs.Walk.Story.{Done}
-use Rattle.remus.proofs.Walk.Pile.{frame, state, Open, first as top, later as under, Falling, on, falls, Entered, Behind, Heights, stack, FrameOk, Piled, Inv}
+use Rattle.remus.proofs.Walk.MidTurn.{Done}
+use Rattle.remus.proofs.Walk.Pile.{frame, state, Open, first as top, later as under, Falling, on, falls, Entered}
+use Rattle.remus.proofs.Walk.Pile.{Behind, Heights, stack, FrameOk, Piled, Inv}
 
 -- deployments stay, with their reactors
 pub record Onward (p m m′ : List ℕ) : Type 0 where
@@ -37,40 +35,35 @@ module _ (p : List ℕ) where
   onward c = record { kept = c .kept; reactors = c .reactors }
 
   -- a D command is done where its slot is right
-  pub done-right : (m : List ℕ) (ns : List Note) (E : ℕ → Type 0) (o l : ℕ) (c : Cmd) → sequenceOf c ≡ D → Done p m ns E o l c → Right p m o l c
+  pub done-right : (m : List ℕ) (ns : List Note) (E : ℕ → Type 0) (o l : ℕ) (c : Cmd) → sequenceOf c ≡ D →
+      Done p m ns E o l c → SlotRight p m o l c
   unfolding sequenceOf
   done-right m ns E o l (allocMono x) e d = d
   done-right m ns E o l (makePoly x) e d = d
-  done-right m ns E o l (constant x v) e d = let z : _≡_ {A = ℕ} 0 1 = cc in absurd (omega arith)
-  done-right m ns E o l (global x) e d = let z : _≡_ {A = ℕ} 0 1 = cc in absurd (omega arith)
+  done-right m ns E o l (cell x v) e d = d
+  done-right m ns E o l (gives g) e d = let z : _≡_ {A = ℕ} 0 1 = cc in absurd (omega arith)
   done-right m ns E o l (supply x a b) e d = let z : _≡_ {A = ℕ} 0 1 = cc in absurd (omega arith)
   done-right m ns E o l (react b) e d = let z : _≡_ {A = ℕ} 0 1 = cc in absurd (omega arith)
-  done-right m ns E o l (consume x b) e d = let z : _≡_ {A = ℕ} 0 1 = cc in absurd (omega arith)
   done-right m ns E o l (sink x a) e d = let z : _≡_ {A = ℕ} 0 1 = cc in absurd (omega arith)
   done-right m ns E o l (allocPoly a b) e d = let z : _≡_ {A = ℕ} 0 1 = cc in absurd (omega arith)
-  done-right m ns E o l (primitive x a b f) e d = let z : _≡_ {A = ℕ} 0 1 = cc in absurd (omega arith)
-  done-right m ns E o l (cell x v) e d = d
-  done-right m ns E o l (fetch b) e d = let z : _≡_ {A = ℕ} 0 1 = cc in absurd (omega arith)
   done-right m ns E o l (keep a b) e d = let z : _≡_ {A = ℕ} 0 1 = cc in absurd (omega arith)
   done-right m ns E o l none e d = let z : _≡_ {A = ℕ} 0 1 = cc in absurd (omega arith)
 
-  pub right-done : (m : List ℕ) (ns : List Note) (E : ℕ → Type 0) (o l : ℕ) (c : Cmd) → Right p m o l c → Done p m ns E o l c
+  pub right-done : (m : List ℕ) (ns : List Note) (E : ℕ → Type 0) (o l : ℕ) (c : Cmd) →
+      SlotRight p m o l c → Done p m ns E o l c
   right-done m ns E o l (allocMono x) d = d
   right-done m ns E o l (makePoly x) d = d
-  right-done m ns E o l (constant x v) d = absurd d
-  right-done m ns E o l (global x) d = absurd d
+  right-done m ns E o l (cell x v) d = d
+  right-done m ns E o l (gives g) d = absurd d
   right-done m ns E o l (supply x a b) d = absurd d
   right-done m ns E o l (react b) d = absurd d
-  right-done m ns E o l (consume x b) d = absurd d
   right-done m ns E o l (sink x a) d = absurd d
   right-done m ns E o l (allocPoly a b) d = absurd d
-  right-done m ns E o l (primitive x a b f) d = absurd d
-  right-done m ns E o l (cell x v) d = d
-  right-done m ns E o l (fetch b) d = absurd d
   right-done m ns E o l (keep a b) d = absurd d
   right-done m ns E o l none d = absurd d
 
-  module _ {W : ℕ → ℕ → Type 0} {N L : ℕ → Type 0} {m m′ : List ℕ} {ns : List Note} {pile : List Frame} (c : Change p W N L m m′) (q : Piled p m pile ns) where
+  module _ {W : ℕ → ℕ → Type 0} {N L : ℕ → Type 0} {m m′ : List ℕ} {ns : List Note} {pile : List Frame}
+      (c : Change p W N L m m′) (q : Piled p m pile ns) where
     -- the same pile and notes on other words
     pub behind-on : (o j : ℕ) → Behind p m pile ns o j → Behind p m′ pile ns o j
     behind-on o j (inl b) = inl b
@@ -85,7 +78,8 @@ module _ (p : List ℕ) where
   pub lower-falls : {u : ℕ} {f : Frame} {fs : List Frame} → Falling u (f ∷ fs) → Falling (f .at) fs
   lower-falls (on h k) = k
 
-  pub lower-heights : {m : List ℕ} {f : Frame} {fs : List Frame} → Heights p m (f ∷ fs) → Depth p m (f .at) (length fs + 1) × Heights p m fs
+  pub lower-heights : {m : List ℕ} {f : Frame} {fs : List Frame} → Heights p m (f ∷ fs) →
+      Depth p m (f .at) (length fs + 1) × Heights p m fs
   lower-heights (stack n d h) = (d, h)
 
   module _ {w m : List ℕ} {ns : List Note} {o i : ℕ} {fs : List Frame} (v : Inv p w (state m (frame o i ∷ fs) ns)) where
@@ -125,16 +119,19 @@ module _ (p : List ℕ) where
     opens-off d k (under z) = inr (under z)
 
   module _ {W : ℕ → ℕ → Type 0} {N L : ℕ → Type 0} {m m′ : List ℕ} {ns ns′ : List Note} {o i : ℕ} {fs : List Frame}
-      (c : Change p W N L m m′) (q : Piled p m (frame o i ∷ fs) ns) (more : (n : Note) → n ∈ ns → n ∈ ns′) (runs : (d : ℕ) → run d ∈ ns′ → run d ∈ ns) where
+      (c : Change p W N L m m′) (q : Piled p m (frame o i ∷ fs) ns) (more : (n : Note) → n ∈ ns → n ∈ ns′)
+      (runs : (d : ℕ) → run d ∈ ns′ → run d ∈ ns) where
     pub next-behind : (a j : ℕ) → Behind p m (frame o i ∷ fs) ns a j → Behind p m′ (frame o (i + 1) ∷ fs) ns′ a j
     next-behind a j (inl b) = let z = opens-on a (b .0) (b .1) in inl (z .0, z .1, omega (arith, z .2, b .2))
     next-behind a j (inr b) = inr (more _ (b .0), rw (c .reactors a (q .ran a (b .0) .0)) (b .1))
 
-    pub just-behind : (a j : ℕ) → Behind p m′ (frame o (i + 1) ∷ fs) ns′ a j → Behind p m (frame o i ∷ fs) ns a j ⊎ This-slot p o i a j
+    pub just-behind : (a j : ℕ) → Behind p m′ (frame o (i + 1) ∷ fs) ns′ a j →
+        Behind p m (frame o i ∷ fs) ns a j ⊎ This-slot p o i a j
     just-behind a j (inr b) = let r = runs a (b .0) in inl (inr (r, rw (c .reactors a (q .ran a r .0)) at (b .1)))
     just-behind a j (inl b) = by (b .1) (b .2)
       where
-        by : {k : ℕ} → Open a k (frame o (i + 1) ∷ fs) → j < k → Behind p m (frame o i ∷ fs) ns a j ⊎ This-slot p o i a j
+        by : {k : ℕ} → Open a k (frame o (i + 1) ∷ fs) → j < k →
+            Behind p m (frame o i ∷ fs) ns a j ⊎ This-slot p o i a j
         by {k} (under z) l = inl (inl (k, under z, l))
         by {k} (top e z) l = side (same? j i)
           where

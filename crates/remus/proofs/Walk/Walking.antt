@@ -1,37 +1,36 @@
 -- A step from a state with the invariant: what every command comes to (`every-command`), and so every step
 -- (`step-outcome`), with what it leaves of slots and wirings (`Passed`).
-use Prim.Native.Nat.{ℕ, suc, _+_, _-_, _≤_, _<_}
-use mathlib.Core.Path.{_≡_, refl, sym, _∙_, ap}
-use mathlib.Core.Bool.{Bool, true, false}
-use mathlib.Core.List.{List, [], _∷_, _++_}
-use mathlib.Core.Logic.{_⊎_, inl, inr, _≢_}
-use native.Mathlib.Omega.{arith}
-use lib.ListN.{length}
+use Rattle.value.specs.Prelude.{ℕ, suc, _+_, _-_, _≤_, _<_, _≡_, refl, sym, _∙_, ap, _⊎_, inl, inr, _≢_, Bool, true}
+use Rattle.value.specs.Prelude.{false, List, [], _∷_, _++_, length, arith}
 use Rattle.value.specs.Test.{_=?_}
 use Rattle.value.proofs.Tests.{eq?, eq×?, same?}
-use Rattle.program.specs.Bytes.{reactors, globals, globalKind, declared, commandsIn}
-use Rattle.program.specs.Command.{Cmd, cmdOf, takesWords, allocMono, makePoly, constant, global, supply, react, consume, sink, allocPoly, primitive, cell, fetch, keep, none}
+use Rattle.program.specs.Bytes.{reactors, globals, globalKind, commandsD, commandsIn}
+use Rattle.program.specs.Command.{Cmd, cmdOf, takesWords, allocMono, makePoly, supply, react, sink, allocPoly, cell}
+use Rattle.program.specs.Command.{keep, none, gives}
 use Rattle.program.specs.Location.{sizeOf}
 use Rattle.program.proofs.Slots.{slot-command, takes-cell}
 use Rattle.program.specs.Kind.{OfKind}
-use Rattle.load.specs.declared.Refusal.{Refusal}
+use Rattle.answer.specs.declared.Refusal.{Refusal}
 use Rattle.image.specs.Memory.{used, reactor, wired, content}
 use Rattle.image.specs.Sound.{Deployed}
 use Rattle.image.proofs.Memory.Changes.{Same, same-self, same-on, This-slot}
 use Rattle.remus.specs.Exec.{Eff, move, call, fail, globalValue, there, exec, eff, opening, ready}
-use Rattle.remus.specs.Walk.{Note, run, Frame, State, Next, go, stop, over, suppliedNote, notesOf, onto, stepAt, stepOn, step}
-use Rattle.remus.specs.Point.{_∈_, Before, Allocation, mono, poly, Makes, a-deployment, nothing}
+use Rattle.remus.specs.Walk.{Note, run, Frame, State, Next, go, stop, over, suppliedNote, notesOf, onto, stepAt}
+use Rattle.remus.specs.Walk.{stepOn, step}
+use Rattle.remus.specs.Point.{_∈_, Before, Allocation, mono, poly, StepAllocates, a-deployment, nothing}
 use Rattle.remus.proofs.Walk.Facts.{Facts}
-use Rattle.remus.proofs.Walk.Story.{own, cmd, CellAt}
+use Rattle.remus.proofs.Walk.MidTurn.{own, cmd, CellAt}
 use Rattle.remus.proofs.Walk.Pile.{frame, state, Open, first as top, later as under, Behind, Inv}
 use Rattle.remus.proofs.Walk.Top.{Onward, onward-self, onward-on, top-frame, not-behind}
 use Rattle.remus.proofs.Walk.Writes.{Writes, Gave}
 use Rattle.remus.proofs.Walk.Locations.{declared-in, not-cell}
 use Rattle.remus.proofs.Walk.Stores.{run-past}
 use Rattle.remus.proofs.Walk.Operands.{some-command}
-use Rattle.remus.proofs.Walk.Moves.{run-out, opening-raw, opening-wired, NowWired, Ready, ready-kept, leave-kept}
-use Rattle.remus.proofs.Walk.Outcome.{Growth, no-words, words, Stopping, Carried, Outcome, constant-outcome, global-outcome, consume-outcome, fetch-outcome, primitive-outcome, supply-outcome, react-outcome, sink-outcome}
-use Rattle.remus.proofs.Walk.Making.{point-outcome, cell-outcome, mono-outcome}
+use Rattle.remus.proofs.Walk.StepsKeep.{run-out, opening-raw, opening-wired, NowWired, Ready, ready-kept}
+use Rattle.remus.proofs.Walk.StepsKeep.{leave-kept}
+use Rattle.remus.proofs.Walk.Outcome.{Growth, no-words, words, Stopping, Carried, Outcome, give-outcome}
+use Rattle.remus.proofs.Walk.Outcome.{supply-outcome, react-outcome, sink-outcome}
+use Rattle.remus.proofs.Walk.CommandsD.{point-outcome, cell-outcome, mono-outcome}
 use Rattle.remus.proofs.Walk.Cells.{keep-outcome}
 use Rattle.remus.proofs.Walk.Choosing.{poly-outcome}
 
@@ -40,22 +39,19 @@ abbrev pub Legal : List ℕ → List ℕ → Type 0
 Legal p rd = (m : List ℕ) (x : ℕ) → x ≤ globals p → OfKind p (globalKind p x) (globalValue rd m x)
 
 module _ (p : List ℕ) (u : Facts p) (rd : List ℕ) (legal : Legal p rd) where
-  module _ {w m : List ℕ} {ns : List Note} {o i : ℕ} {fs : List Frame}
-      (v : Inv p w (state m (frame o i ∷ fs) ns)) (h : i < commandsIn p (reactor m o)) (then : declared p (reactor m o) ≤ i → wired m o ≡ 1) where
-    every-command : (c : Cmd) → cmd p m o i ≡ c → Outcome p w m o i fs c (notesOf p m o i c ++ ns) (exec p rd (suc (length fs)) m o i c)
+  module _ {w m : List ℕ} {ns : List Note} {o i : ℕ} {fs : List Frame} (v : Inv p w (state m (frame o i ∷ fs) ns))
+      (h : i < commandsIn p (reactor m o)) (then : commandsD p (reactor m o) ≤ i → wired m o ≡ 1) where
+    every-command : (c : Cmd) → cmd p m o i ≡ c
+        → Outcome p w m o i fs c (notesOf p m o i c ++ ns) (exec p rd (suc (length fs)) m o i c)
     unfolding exec notesOf
     every-command (allocMono x) e = mono-outcome p u v h then x rd e _ _ refl refl
     every-command (makePoly x) e = point-outcome p u v h then x rd e
-    every-command (constant x a) e = constant-outcome p u rd legal v h then x a e
-    every-command (global x) e = global-outcome p u rd legal v h then x e
+    every-command (cell x a) e = cell-outcome p u v h then x a rd e
+    every-command (gives y) e = give-outcome p u rd legal v h then y e
     every-command (supply x a b) e = supply-outcome p u rd legal v h then x a b _ refl e
     every-command (react b) e = react-outcome p u rd legal v h then b _ refl e
-    every-command (consume x b) e = consume-outcome p u rd legal v h then x b _ refl e
     every-command (sink x a) e = sink-outcome p u rd legal v h then x a e
     every-command (allocPoly a b) e = poly-outcome p u v h then a b e rd _ refl
-    every-command (primitive x a b c) e = primitive-outcome p u rd legal v h then x a b c e
-    every-command (cell x a) e = cell-outcome p u v h then x a rd e
-    every-command (fetch b) e = fetch-outcome p u rd legal v h then b e
     every-command (keep a b) e = keep-outcome p u v h then a b e rd
     every-command none e = absurd (some-command p u v h e)
 
@@ -70,16 +66,12 @@ runs-only : (p m : List ℕ) (o i : ℕ) (c : Cmd) {d : ℕ} {ns : List Note} �
 unfolding notesOf
 runs-only p m o i (allocMono x) z = z
 runs-only p m o i (makePoly x) z = z
-runs-only p m o i (constant x v) z = run-past z
-runs-only p m o i (global x) z = run-past z
+runs-only p m o i (cell x v) z = z
+runs-only p m o i (gives g) z = run-past z
 runs-only p m o i (supply x a b) {d} z = supply-notes p (there p m o b) d (content p m o b) x z
 runs-only p m o i (react b) z = z
-runs-only p m o i (consume x b) z = run-past z
 runs-only p m o i (sink x a) z = run-past z
 runs-only p m o i (allocPoly a b) z = run-past z
-runs-only p m o i (primitive x a b c) z = run-past z
-runs-only p m o i (cell x v) z = z
-runs-only p m o i (fetch b) z = run-past z
 runs-only p m o i (keep a b) z = run-past z
 runs-only p m o i none z = z
 
@@ -93,7 +85,8 @@ pub same-top : {o i o′ i′ : ℕ} {fs fs′ : List Frame} → frame o i ∷ f
 same-top e = (ap (λ (fs : List Frame). topOf fs .at) e, ap (λ (fs : List Frame). topOf fs .next) e)
 
 -- a state's next command is one, and so are the words before it
-pub same-point : {p : List ℕ} {s : State} {m m′ : List ℕ} {o o′ : ℕ} {c c′ : Cmd} → Before p s m o c → Before p s m′ o′ c′ → (m ≡ m′) × (o ≡ o′) × (c ≡ c′)
+pub same-point : {p : List ℕ} {s : State} {m m′ : List ℕ} {o o′ : ℕ} {c c′ : Cmd} → Before p s m o c
+    → Before p s m′ o′ c′ → (m ≡ m′) × (o ≡ o′) × (c ≡ c′)
 same-point {p} {s} {m} {m′} {o} {o′} {c} {c′} a b =
     let top = same-top (sym (a .top) ∙ b .top) in
     let at : o ≡ o′ = top .0 in
@@ -110,7 +103,8 @@ pub record Stops (p : List ℕ) (s : State) (v : Refusal) : Type 0 where
 
 -- what the step from s allocates has its room, and a depth below 65
 abbrev pub Roomy : List ℕ → State → Type 0
-Roomy p s = (m : List ℕ) (o q : ℕ) (c : Cmd) → Before p s m o c → Allocation p m o c q → (length (s .pile) + 1 ≢ 65) × (sizeOf p q ≤ length m - used m)
+Roomy p s = (m : List ℕ) (o q : ℕ) (c : Cmd) → Before p s m o c → Allocation p m o c q
+    → (length (s .pile) + 1 ≢ 65) × (sizeOf p q ≤ length m - used m)
 
 -- a command allocates one reactor
 pub one-allocation : {p m : List ℕ} {o q q′ : ℕ} {c : Cmd} → Allocation p m o c q → Allocation p m o c q′ → q ≡ q′
@@ -124,7 +118,7 @@ BehindIn p s a j = Behind p (s .words) (s .pile) (s .notes) a j
 -- a command behind in t was so in s, or was skipped as its deployment was wired, or is the one carried out
 pub data Newly (p : List ℕ) (s t : State) (a j : ℕ) : Type 0 where
   before : BehindIn p s a j → Newly p s t a j
-  skipped : Deployed p (s .words) a → wired (s .words) a ≡ 1 → j < declared p (reactor (s .words) a) → Newly p s t a j
+  skipped : Deployed p (s .words) a → wired (s .words) a ≡ 1 → j < commandsD p (reactor (s .words) a) → Newly p s t a j
   by-now : (m : List ℕ) (b : Before p s m a (cmd p (s .words) a j)) → b .index ≡ j → Deployed p (s .words) a
       → reactor m a ≡ reactor (s .words) a → Gave p m (t .words) a j (cmd p (s .words) a j) → Newly p s t a j
 
@@ -133,7 +127,7 @@ pub record Passed (p : List ℕ) (s t : State) : Type 0 where
   pub wireds : (d : ℕ) → Deployed p (s .words) d → wired (s .words) d ≡ 1 → wired (t .words) d ≡ 1
   pub back : (d : ℕ) → Deployed p (t .words) d → wired (t .words) d ≡ 1
       → Deployed p (s .words) d
-      × ((wired (s .words) d ≡ 1) ⊎ ((j : ℕ) → j < declared p (reactor (s .words) d) → BehindIn p s d j))
+      × ((wired (s .words) d ≡ 1) ⊎ ((j : ℕ) → j < commandsD p (reactor (s .words) d) → BehindIn p s d j))
   pub newly : (a j : ℕ) → BehindIn p t a j → Newly p s t a j
   pub firm : (a j : ℕ) → BehindIn p s a j → takesWords (cmd p (s .words) a j) ≡ true
       → ((x : ℕ) → cmd p (s .words) a j ≢ makePoly x) → Same p (s .words) (t .words) a (own p (s .words) a j)
@@ -144,7 +138,7 @@ pub record Passed (p : List ℕ) (s t : State) : Type 0 where
 pub record Goes (p w : List ℕ) (s t : State) : Type 0 where
   pub inv : Inv p w t
   pub onward : Onward p (s .words) (t .words)
-  pub made : (k : ℕ) × Makes p s k × (used (t .words) ≡ used (s .words) + k)
+  pub made : (k : ℕ) × StepAllocates p s k × (used (t .words) ≡ used (s .words) + k)
   pub roomy : Roomy p s
   pub passed : Passed p s t
 
@@ -210,10 +204,17 @@ module _ (p : List ℕ) (u : Facts p) (rd : List ℕ) (legal : Legal p rd) where
       onwards f = onward-on (r .on-from) f
 
       -- an allocation of the next command
-      at-point : {m₂ : List ℕ} {o₂ q : ℕ} {c : Cmd} → Before p here m₂ o₂ c → Allocation p m₂ o₂ c q → Allocation p m₁ o c₀ q
-      at-point b a = let z = same-point b point in let e₀ = z .0 in let e₁ = z .1 in let e₂ = z .2 in rw (e₀, e₁, e₂) at a
+      at-point : {m₂ : List ℕ} {o₂ q : ℕ} {c : Cmd} → Before p here m₂ o₂ c → Allocation p m₂ o₂ c q
+          → Allocation p m₁ o c₀ q
+      at-point b a =
+          let z = same-point b point in
+          let e₀ = z .0 in
+          let e₁ = z .1 in
+          let e₂ = z .2 in
+          rw (e₀, e₁, e₂) at a
 
-      made : {m′ : List ℕ} → Growth p m₁ (suc (length fs)) o c₀ m′ → (k : ℕ) × Makes p here k × (used m′ ≡ used m + k)
+      made : {m′ : List ℕ} → Growth p m₁ (suc (length fs)) o c₀ m′
+          → (k : ℕ) × StepAllocates p here k × (used m′ ≡ used m + k)
       made (no-words e f) =
           (0, nothing (λ m₂ o₂ q c b a. f q (at-point b a)), let z = r .size in omega arith)
       made (words q a e n l) = (sizeOf p q, a-deployment point a, let z = r .size in omega arith)
@@ -236,8 +237,8 @@ module _ (p : List ℕ) (u : Facts p) (rd : List ℕ) (legal : Legal p rd) where
       AllNewly t = (a j : ℕ) → BehindIn p t a j → Newly p here t a j
 
       -- all of D is behind the first R command
-      D-behind : (d j : ℕ) → d ≡ o → i ≡ declared p (reactor m o) → j < declared p (reactor m d) → BehindIn p here d j
-      D-behind d j e q l = let l₂ : j < declared p (reactor m o) = rw e at l in inl (i, top (sym e) refl, omega arith)
+      D-behind : (d j : ℕ) → d ≡ o → i ≡ commandsD p (reactor m o) → j < commandsD p (reactor m d) → BehindIn p here d j
+      D-behind d j e q l = let l₂ : j < commandsD p (reactor m o) = rw e at l in inl (i, top (sym e) refl, omega arith)
 
       -- the command carried out
       here-now : (m′ : List ℕ) (pile : List Frame) (j : ℕ) → j ≡ i → Gave p m₁ m′ o i c₀
@@ -283,8 +284,8 @@ module _ (p : List ℕ) (u : Facts p) (rd : List ℕ) (legal : Legal p rd) where
           opened l (inl q) = absurd (omega (arith, opening-raw p m′ d q))
           opened l (inr q) = side (r .wireds d there)
             where
-              low : j < declared p (reactor m d)
-              low = let y = opening-wired p m′ d q in let z = on .reactors d there in omega (arith, ap (declared p) z)
+              low : j < commandsD p (reactor m d)
+              low = let y = opening-wired p m′ d q in let z = on .reactors d there in omega (arith, ap (commandsD p) z)
 
               side : NowWired p m m₁ o i d → Newly p here (state m′ pile notes) d j
               side (inl z) = let q₂ : wired m₁ d ≡ 1 = rw e at q in skipped there (sym z ∙ q₂) low
@@ -292,7 +293,7 @@ module _ (p : List ℕ) (u : Facts p) (rd : List ℕ) (legal : Legal p rd) where
 
           by : {k : ℕ} → Open a k (frame d (opening p m′ d) ∷ frame o (i + 1) ∷ fs) → j < k
               → Newly p here (state m′ pile notes) a j
-          by (top f z) l = rw (← f) (opened (omega arith) (n .story .two d opened-there))
+          by (top f z) l = rw (← f) (opened (omega arith) (n .mid .two d opened-there))
           by (under z) l = in-old m′ pile j z l g
 
       passed : (m′ : List ℕ) (pile : List Frame) → Writes p m₁ m′ o i → AllNewly (state m′ pile notes)
@@ -303,14 +304,14 @@ module _ (p : List ℕ) (u : Facts p) (rd : List ℕ) (legal : Legal p rd) where
             back = λ d t q. was d q (wr .back d t);
             newly = new;
             firm = λ a j b c n.
-                let k = v .story .scope a j b in
+                let k = v .mid .scope a j b in
                 join a j (k .0) (k .1) c (λ z. let z₀ = z .0 in let z₁ = z .1 in not-behind p v (rw (z₀, z₁) at b)) n;
             cells = λ a j x y c z.
                 join a j (c .deployed) (omega (arith, c .low, declared-in p (reactor m a))) (takes-cell (c .is))
                 (λ k.
                 let k₀ = k .0 in
                 let k₁ = k .1 in
-                let l : i < declared p (reactor m o) = rw (k₀, k₁) at (c .low) in
+                let l : i < commandsD p (reactor m o) = rw (k₀, k₁) at (c .low) in
                 let z₂ : wired m o ≡ 1 = rw k₀ at z in
                 omega (arith, top-frame p v .raw l))
                 (λ n e. not-cell x y n (sym (c .is) ∙ e));
@@ -321,12 +322,12 @@ module _ (p : List ℕ) (u : Facts p) (rd : List ℕ) (legal : Legal p rd) where
           wire d q (inr z) = z .2
 
           was : (d : ℕ) → wired m′ d ≡ 1 → Deployed p m₁ d ⊎ (wired m′ d ≡ 0)
-              → Deployed p m d × ((wired m d ≡ 1) ⊎ ((j : ℕ) → j < declared p (reactor m d) → BehindIn p here d j))
+              → Deployed p m d × ((wired m d ≡ 1) ⊎ ((j : ℕ) → j < commandsD p (reactor m d) → BehindIn p here d j))
           was d q (inr z) = absurd (omega arith)
           was d q (inl t) = (r .back d t, side (r .wireds d (r .back d t)))
             where
               side : NowWired p m m₁ o i d
-                  → (wired m d ≡ 1) ⊎ ((j : ℕ) → j < declared p (reactor m d) → BehindIn p here d j)
+                  → (wired m d ≡ 1) ⊎ ((j : ℕ) → j < commandsD p (reactor m d) → BehindIn p here d j)
               side (inl z) = inl (sym z ∙ sym (wr .wireds d t) ∙ q)
               side (inr z) = inr (λ j l. D-behind d j (z .0) (z .1) l)
 
@@ -367,7 +368,8 @@ module _ (p : List ℕ) (u : Facts p) (rd : List ℕ) (legal : Legal p rd) where
     by-test true e = leaves (eq? e)
     by-test false e = acts (let n = eq×? e in let b = top-frame p v .bound in omega arith)
 
-  by-pile : {w m : List ℕ} (fs : List Frame) {ns : List Note} → Inv p w (state m fs ns) → Comes p w (state m fs ns) (stepOn p rd m fs ns)
+  by-pile : {w m : List ℕ} (fs : List Frame) {ns : List Note} → Inv p w (state m fs ns)
+      → Comes p w (state m fs ns) (stepOn p rd m fs ns)
   unfolding stepOn
   by-pile [] v = refl
   by-pile (f ∷ fs) v = by-test v _ refl

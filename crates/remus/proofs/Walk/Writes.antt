@@ -1,19 +1,16 @@
 -- What a command leaves alone (`Writes`): of other commands' slots it writes a branch point's only. And what Cell and
 -- Keep leave in their own (`Gave`).
-use Prim.Native.Nat.{ℕ, _<_}
-use mathlib.Core.Path.{_≡_, refl}
-use mathlib.Core.Bool.{true, false≢true}
-use mathlib.Core.List.{List}
-use mathlib.Core.Logic.{_⊎_, inl, _≢_, ⊎-map}
+use Rattle.value.specs.Prelude.{ℕ, _<_, _≡_, refl, _⊎_, inl, ⊎-map, _≢_, true, false≢true, List}
 use Rattle.value.specs.Value.{markOf, value}
 use Rattle.program.specs.Bytes.{commandsIn}
-use Rattle.program.specs.Command.{Cmd, givesValue, takesWords, allocMono, makePoly, constant, global, supply, react, consume, sink, allocPoly, primitive, cell, fetch, keep, none}
+use Rattle.program.specs.Command.{Cmd, givesValue, takesWords, allocMono, makePoly, supply, react, sink, allocPoly}
+use Rattle.program.specs.Command.{cell, keep, none, gives}
 use Rattle.program.proofs.Slots.{slot-command}
 use Rattle.image.specs.Memory.{reactor, wired, valueAt}
 use Rattle.image.specs.Sound.{Deployed}
 use Rattle.image.proofs.Memory.Changes.{Same, same-self, Change, This-slot, Nothing, unwritten, unwired}
 use Rattle.remus.specs.Cells.{pending}
-use Rattle.remus.proofs.Walk.Story.{own, cmd}
+use Rattle.remus.proofs.Walk.MidTurn.{own, cmd}
 use Rattle.remus.proofs.Walk.Locations.{own-one}
 
 -- from m to m′, by command i of o
@@ -27,16 +24,12 @@ pub record Writes (p m m′ : List ℕ) (o i : ℕ) : Type 0 where
 abbrev pub Gave : List ℕ → List ℕ → List ℕ → ℕ → ℕ → Cmd → Type 0
 Gave p m m′ o i (allocMono x) = Unit {0}
 Gave p m m′ o i (makePoly x) = Unit {0}
-Gave p m m′ o i (constant x v) = Unit {0}
-Gave p m m′ o i (global x) = Unit {0}
+Gave p m m′ o i (cell x v) = valueAt p m′ o (own p m o i) ≡ value (markOf x) v
+Gave p m m′ o i (gives g) = Unit {0}
 Gave p m m′ o i (supply x a b) = Unit {0}
 Gave p m m′ o i (react b) = Unit {0}
-Gave p m m′ o i (consume x b) = Unit {0}
 Gave p m m′ o i (sink x a) = Unit {0}
 Gave p m m′ o i (allocPoly a b) = Unit {0}
-Gave p m m′ o i (primitive x a b c) = Unit {0}
-Gave p m m′ o i (cell x v) = valueAt p m′ o (own p m o i) ≡ value (markOf x) v
-Gave p m m′ o i (fetch b) = Unit {0}
 Gave p m m′ o i (keep a b) = valueAt p m′ o (own p m o i) ≡ pending (valueAt p m o a)
 Gave p m m′ o i none = Unit {0}
 
@@ -44,16 +37,12 @@ pub gave-value : (p m m′ : List ℕ) (o i : ℕ) (c : Cmd) → givesValue c �
 unfolding givesValue
 gave-value p m m′ o i (allocMono x) e = tt
 gave-value p m m′ o i (makePoly x) e = tt
-gave-value p m m′ o i (constant x v) e = tt
-gave-value p m m′ o i (global x) e = tt
+gave-value p m m′ o i (cell x v) e = absurd (false≢true e)
+gave-value p m m′ o i (gives g) e = tt
 gave-value p m m′ o i (supply x a b) e = tt
 gave-value p m m′ o i (react b) e = tt
-gave-value p m m′ o i (consume x b) e = tt
 gave-value p m m′ o i (sink x a) e = tt
 gave-value p m m′ o i (allocPoly a b) e = tt
-gave-value p m m′ o i (primitive x a b c) e = tt
-gave-value p m m′ o i (cell x v) e = absurd (false≢true e)
-gave-value p m m′ o i (fetch b) e = tt
 gave-value p m m′ o i (keep a b) e = absurd (false≢true e)
 gave-value p m m′ o i none e = tt
 

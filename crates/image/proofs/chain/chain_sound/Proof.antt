@@ -1,13 +1,9 @@
-use Prim.Native.Nat.{_+_, _-_, _≤_}
+use Rattle.value.specs.Prelude.{_+_, _-_, _≤_, _≡_, refl, _∙_, length, replicate, arith, needs}
 use Rattle.image.proofs.Chains.{chain-ends, chain-next, chain-out, chain-unjoined, chain-unlinked}
 use Rattle.image.specs.Memory.{used}
 use Rattle.image.specs.Passes.{chainFrom}
 use Rattle.program.specs.Bytes.{reactors}
 use Rattle.value.proofs.Tests.{passed, refused}
-use borrow.Author.Needs.{needs}
-use lib.ListN.{length, replicate}
-use mathlib.Core.Path.{_∙_, _≡_, refl}
-use native.Mathlib.Omega.{arith}
 use Rattle.image.proofs.chain.chain_sound.Statement.{statement}
 use Rattle.image.proofs.chain.chain_sound.Tie as tie
 
@@ -24,7 +20,8 @@ loop-holds : tie.Need-loop-holds Inv-loop μ-loop
 loop-holds c = (omega arith, refl, rw (c .reactors .ensures, c .before .used .ensures))
 
 returns : tie.Need-returns Inv-loop μ-loop
-returns c = chain-ends _ _ _ _ _ _ _ _ _ (c .before .before .loop .left - 1) (omega arith) (omega arith) ∙ c .before .before .loop .inv .2
+returns c = chain-ends _ _ _ _ _ _ _ _ _ (c .before .before .loop .left - 1) (omega arith) (omega arith)
+    ∙ c .before .before .loop .inv .2
 
 returns-2 : tie.Need-returns-2 Inv-loop μ-loop
 returns-2 c =
@@ -36,8 +33,8 @@ returns-3 : tie.Need-returns-3 Inv-loop μ-loop
 returns-3 c =
     chain-unjoined _ _ _ _ _ _ _ _ _ (c .before .before .before .before .before .before .before .before .loop .left - 1)
     (omega arith) (omega arith)
-    (passed (c .before .before .before .before .before .linked .ensures) (c .before .before .before .before .if2 .left)) _
-    (c .before .before .before .reactor .ensures) (refused (c .before .joins .ensures) (c .if3 .taken))
+    (passed (c .before .before .before .before .before .linked .ensures) (c .before .before .before .before .if2 .left))
+    _ (c .before .before .before .reactor .ensures) (refused (c .before .joins .ensures) (c .if3 .taken))
     ∙ c .before .before .before .before .before .before .before .before .loop .inv .2
 
 loop-again : tie.Need-loop-again Inv-loop μ-loop
@@ -45,12 +42,14 @@ loop-again c = (
   omega arith,
   cc,
   chain-next _ _ _ _ _ _ _ _ _
-      (c .before .before .before .before .before .before .before .before .before .before .before .before .loop .left - 1)
+      (c .before .before .before .before .before .before .before .before .before .before .before .before .loop .left
+      - 1)
       (omega arith) (omega arith)
       (passed (c .before .before .before .before .before .before .before .before .before .linked .ensures)
       (c .before .before .before .before .before .before .before .before .if2 .left)) _
       (c .before .before .before .before .before .before .before .reactor .ensures) _ _
-      (passed (c .before .before .before .before .before .joins .ensures) (c .before .before .before .before .if3 .left))
+      (passed (c .before .before .before .before .before .joins .ensures)
+      (c .before .before .before .before .if3 .left))
       (c .before .before .put-byte .ensures) (c .next .ensures)
       ∙ c .before .before .before .before .before .before .before .before .before .before .before .before .loop .inv .2,
 )

@@ -1,7 +1,6 @@
 use Rattle.program.specs.Bytes.{byte}
 use Rattle.value.proofs.Tests.{same-and, same-eq}
-use borrow.Author.Needs.{needs}
-use mathlib.Core.Path.{refl}
+use Rattle.value.specs.Prelude.{refl, needs}
 use Rattle.image.proofs.chain.joins.Statement.{statement}
 use Rattle.image.proofs.chain.joins.Tie as tie
 

@@ -1,6 +1,5 @@
 use Rattle.value.proofs.Tests.{same-and3, same-lt}
-use borrow.Author.Needs.{needs}
-use mathlib.Core.Path.{refl}
+use Rattle.value.specs.Prelude.{refl, needs}
 use Rattle.image.proofs.chain.linked.Statement.{statement}
 use Rattle.image.proofs.chain.linked.Tie as tie
 

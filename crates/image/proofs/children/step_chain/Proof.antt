@@ -1,19 +1,16 @@
-use Prim.Native.Nat.{_-_}
+use Rattle.value.specs.Prelude.{_-_, _≡_, refl, _∙_, length, arith, needs}
 use Rattle.image.proofs.Chains.{members-end, members-next, members-out}
 use Rattle.image.proofs.Lists.{over-done, over-next}
 use Rattle.image.specs.Passes.{membersFrom, over}
-use Rattle.image.specs.Cut.{step}
+use Rattle.image.specs.Contracts.{childStep}
 use Rattle.program.specs.Bytes.{reactors}
-use borrow.Author.Needs.{needs}
-use lib.ListN.{length}
-use mathlib.Core.Path.{_∙_, _≡_, refl}
-use native.Mathlib.Omega.{arith}
 use Rattle.image.proofs.children.step_chain.Statement.{statement}
 use Rattle.image.proofs.children.step_chain.Tie as tie
 
 abbrev Inv-loop : tie.InvT-loop
 Inv-loop kind program memory table₀ o head c₀ left₀ table c left =
-    (length table ≡ length table₀) × (over (step kind o) table (membersFrom program memory left c) ≡ over (step kind o) table₀
+    (length table ≡ length table₀)
+    × (over (childStep kind o) table (membersFrom program memory left c) ≡ over (childStep kind o) table₀
     (membersFrom program memory (reactors program) head))
 
 abbrev μ-loop : tie.MeasureT-loop
@@ -33,7 +30,7 @@ loop-again c = (
   cc,
   over-next _ _ _ _ _ _
       (members-next _ _ _ _ (c .before .before .before .before .before .before .before .loop .left - 1) _ (omega arith)
-      (omega arith) (c .next .ensures)) (c .before .before .before .step .ensures)
+      (omega arith) (c .next .ensures)) (c .before .before .before .child-step .ensures)
       ∙ c .before .before .before .before .before .before .before .loop .inv .1,
 )
 

@@ -1,13 +1,8 @@
-use Prim.Native.Nat.{_*_, _+_, _-_, _<_, _≤_, ℕ}
+use Rattle.value.specs.Prelude.{ℕ, _+_, _-_, _*_, _≤_, _<_, _≡_, sym, _∙_, length, getD, arith, needs, now}
 use Rattle.image.proofs.Positions.{positions-next}
 use Rattle.program.proofs.Places.{commands-first, commands-next}
 use Rattle.program.specs.Bytes.{commandsAt}
 use borrow.Author.Count.{below-none}
-use borrow.Author.Needs.{needs}
-use denote.Ref.{now}
-use lib.ListN.{getD, length}
-use mathlib.Core.Path.{_∙_, _≡_, sym}
-use native.Mathlib.Omega.{arith}
 use Rattle.image.proofs.commands.fill_positions.Statement.{statement}
 use Rattle.image.proofs.commands.fill_positions.Tie as tie
 
@@ -20,7 +15,13 @@ abbrev μ-loop : tie.MeasureT-loop
 μ-loop program places₀ n at₀ r₀ places at r = n - r
 
 loop-holds : tie.Need-loop-holds Inv-loop μ-loop
-loop-holds c = (c .tables-end .ensures ∙ sym (commands-first _), omega arith, omega arith, c .before .before .before .before .pre, below-none _)
+loop-holds c = (
+  c .tables-end .ensures ∙ sym (commands-first _),
+  omega arith,
+  omega arith,
+  c .before .before .before .before .pre,
+  below-none _,
+)
 
 loop-again : tie.Need-loop-again Inv-loop μ-loop
 loop-again c =

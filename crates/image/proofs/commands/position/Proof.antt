@@ -1,9 +1,5 @@
-use Prim.Native.Nat.{ℕ}
+use Rattle.value.specs.Prelude.{ℕ, _∙_, ap, getD, needs, now}
 use Rattle.image.specs.Memory.{word}
-use borrow.Author.Needs.{needs}
-use denote.Ref.{now}
-use lib.ListN.{getD}
-use mathlib.Core.Path.{_∙_, ap}
 use Rattle.image.proofs.commands.position.Statement.{statement}
 use Rattle.image.proofs.commands.position.Tie as tie
 

@@ -1,7 +1,5 @@
 use Rattle.image.specs.Memory.{content, word}
-use borrow.Author.Needs.{needs}
-use mathlib.Core.Path.{_∙_, ap}
-use native.Mathlib.Omega.{arith}
+use Rattle.value.specs.Prelude.{_∙_, ap, arith, needs}
 use Rattle.image.proofs.deployment.content.Statement.{statement}
 use Rattle.image.proofs.deployment.content.Tie as tie
 

@@ -1,6 +1,5 @@
 use Rattle.image.specs.Memory.{mark, word}
-use borrow.Author.Needs.{needs}
-use mathlib.Core.Path.{_∙_, ap}
+use Rattle.value.specs.Prelude.{_∙_, ap, needs}
 use Rattle.image.proofs.deployment.mark.Statement.{statement}
 use Rattle.image.proofs.deployment.mark.Tie as tie
 

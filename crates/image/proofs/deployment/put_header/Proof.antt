@@ -1,4 +1,4 @@
-use borrow.Author.Needs.{needs}
+use Rattle.value.specs.Prelude.{needs}
 use Rattle.image.proofs.deployment.put_header.Statement.{statement}
 use Rattle.image.proofs.deployment.put_header.Tie as tie
 

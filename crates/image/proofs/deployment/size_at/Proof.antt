@@ -1,7 +1,6 @@
 use Rattle.image.specs.Memory.{sizeAt}
 use Rattle.program.specs.Location.{sizeOf}
-use borrow.Author.Needs.{needs}
-use mathlib.Core.Path.{_∙_, ap}
+use Rattle.value.specs.Prelude.{_∙_, ap, needs}
 use Rattle.image.proofs.deployment.size_at.Statement.{statement}
 use Rattle.image.proofs.deployment.size_at.Tie as tie
 

@@ -1,10 +1,6 @@
-use Prim.Native.Nat.{ℕ}
+use Rattle.value.specs.Prelude.{ℕ, _∙_, ap, arith, needs, now}
 use Rattle.image.specs.Memory.{slot}
 use Rattle.program.specs.Location.{slotAt}
-use borrow.Author.Needs.{needs}
-use denote.Ref.{now}
-use mathlib.Core.Path.{_∙_, ap}
-use native.Mathlib.Omega.{arith}
 use Rattle.image.proofs.deployment.slot.Statement.{statement}
 use Rattle.image.proofs.deployment.slot.Tie as tie
 

@@ -1,9 +1,6 @@
-use Prim.Native.Nat.{ℕ, _+_}
+use Rattle.value.specs.Prelude.{ℕ, _+_, _∙_, ap, needs, now}
 use Rattle.image.specs.Memory.{mark, content, valueAt, word}
 use Rattle.value.specs.Value.{value}
-use borrow.Author.Needs.{needs}
-use denote.Ref.{now}
-use mathlib.Core.Path.{_∙_, ap}
 use Rattle.image.proofs.deployment.value_at.Statement.{statement}
 use Rattle.image.proofs.deployment.value_at.Tie as tie
 

@@ -1,7 +1,6 @@
 use Rattle.image.specs.Passes.{slotSound}
 use Rattle.program.specs.Kind.{legal}
-use borrow.Author.Needs.{needs}
-use mathlib.Core.Path.{_∙_, ap}
+use Rattle.value.specs.Prelude.{_∙_, ap, needs}
 use Rattle.image.proofs.own.cell_sound.Statement.{statement}
 use Rattle.image.proofs.own.cell_sound.Tie as tie
 

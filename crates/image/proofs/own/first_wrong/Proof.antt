@@ -1,30 +1,26 @@
-use Prim.Native.Nat.{_-_}
+use Rattle.value.specs.Prelude.{_-_, _≡_, sym, _∙_, ap, arith, needs, now}
 use Rattle.image.proofs.Cuts.{by-slot}
 use Rattle.image.specs.Memory.{reactor}
 use Rattle.image.specs.Passes.{slotSound}
-use Rattle.image.specs.Cut.{commandSound}
-use Rattle.program.specs.Bytes.{declared}
+use Rattle.image.specs.Contracts.{commandSound}
+use Rattle.program.specs.Bytes.{commandsD}
 use Rattle.value.proofs.Below.{at}
 use Rattle.value.proofs.Sweeps.{sweep-done, sweep-found, sweep-next}
 use Rattle.value.proofs.Tests.{passed, refused}
 use Rattle.value.specs.Test.{sweep}
-use borrow.Author.Needs.{needs}
-use denote.Ref.{now}
-use mathlib.Core.Path.{_∙_, _≡_, ap, sym}
-use native.Mathlib.Omega.{arith}
 use Rattle.image.proofs.own.first_wrong.Statement.{statement}
 use Rattle.image.proofs.own.first_wrong.Tie as tie
 
 abbrev Inv-loop : tie.InvT-loop
 Inv-loop program at memory table o r n j₀ j =
     sweep (commandSound program memory table o) j (n - j) ≡ sweep (commandSound program memory table o) 0
-    (declared program (reactor memory o))
+    (commandsD program (reactor memory o))
 
 abbrev μ-loop : tie.MeasureT-loop
 μ-loop program at memory table o r n j₀ j = n - j
 
 loop-holds : tie.Need-loop-holds Inv-loop μ-loop
-loop-holds c = ap (sweep _ _) (omega (arith, c .declared .ensures ∙ ap (declared _) (c .before .reactor .ensures)))
+loop-holds c = ap (sweep _ _) (omega (arith, c .commands-d .ensures ∙ ap (commandsD _) (c .before .reactor .ensures)))
 
 slot-of-requires : tie.Need-slot-of-requires Inv-loop μ-loop
 slot-of-requires c κs = c .before .before .before .before .before .before .before .pre
@@ -36,7 +32,8 @@ returns c =
     sweep-found _ _ _ (c .before .before .before .loop-test .taken)
     (refused
     (c .before .slot-sound .ensures
-    ∙ by-slot (slotSound (now (start .args .program)) (now (start .args .memory)) (now (start .args .table)) (start .args .o)) _
+    ∙ by-slot
+    (slotSound (now (start .args .program)) (now (start .args .memory)) (now (start .args .table)) (start .args .o)) _
     _ _ _ _ (c .before .before .slot-of .ensures)) (c .if1 .taken))
     ∙ c .before .before .before .before .loop .inv
 
@@ -48,7 +45,8 @@ loop-again c =
     (sweep-next _ _ _ (c .before .before .before .loop-test .taken)
     (passed
     (c .before .slot-sound .ensures
-    ∙ by-slot (slotSound (now (start .args .program)) (now (start .args .memory)) (now (start .args .table)) (start .args .o))
+    ∙ by-slot
+    (slotSound (now (start .args .program)) (now (start .args .memory)) (now (start .args .table)) (start .args .o))
     _ _ _ _ _ (c .before .before .slot-of .ensures)) (c .if1 .left)))
     ∙ c .before .before .before .before .loop .inv
 

@@ -1,9 +1,7 @@
 use Rattle.image.proofs.Ands.{and-goes, and-stops}
 use Rattle.image.specs.Passes.{slotSound}
 use Rattle.value.proofs.Tests.{eq!, eq×, same-and4, same-eq, same-lt}
-use borrow.Author.Needs.{needs}
-use mathlib.Core.Path.{_∙_, refl}
-use native.Mathlib.Omega.{arith}
+use Rattle.value.specs.Prelude.{refl, _∙_, arith, needs}
 use Rattle.image.proofs.own.mono_sound.Statement.{statement}
 use Rattle.image.proofs.own.mono_sound.Tie as tie
 

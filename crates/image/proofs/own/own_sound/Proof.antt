@@ -1,11 +1,9 @@
 use Rattle.image.proofs.Ands.{and-goes, and-stops}
 use Rattle.image.specs.Passes.{ownSound}
-use Rattle.image.specs.Cut.{commandSound}
-use Rattle.program.specs.Bytes.{declared}
+use Rattle.image.specs.Contracts.{commandSound}
+use Rattle.program.specs.Bytes.{commandsD}
 use Rattle.value.proofs.Tests.{eq!, eq×, passed, refused, same-eq}
-use borrow.Author.Needs.{needs}
-use mathlib.Core.Path.{_∙_, ap}
-use native.Mathlib.Omega.{arith}
+use Rattle.value.specs.Prelude.{_∙_, ap, arith, needs}
 use Rattle.image.proofs.own.own_sound.Statement.{statement}
 use Rattle.image.proofs.own.own_sound.Tie as tie
 
@@ -22,9 +20,10 @@ unfolding ownSound commandSound
 returns-3 c =
     and-goes (eq! (omega arith))
     (and-goes
-    (passed (c .before .before .before .before .before .clear-at .ensures) (c .before .before .before .before .if2 .left))
+    (passed (c .before .before .before .before .before .clear-at .ensures)
+    (c .before .before .before .before .if2 .left))
     (same-eq (c .before .first-wrong .ensures)
-    (c .declared .ensures ∙ ap (declared _) (c .before .before .reactor .ensures))))
+    (c .commands-d .ensures ∙ ap (commandsD _) (c .before .before .reactor .ensures))))
 
 pub own-sound-spec : {M : Type 1} → statement M
 own-sound-spec =

@@ -1,7 +1,6 @@
-use Rattle.image.proofs.Made.{made-mono, made-point, made-cell, made-other}
+use Rattle.image.proofs.MadeByBytes.{made-mono, made-point, made-cell, made-other}
 use Rattle.image.specs.Passes.{slotSound}
-use borrow.Author.Needs.{needs}
-use mathlib.Core.Path.{_∙_, ap}
+use Rattle.value.specs.Prelude.{_∙_, ap, needs}
 use Rattle.image.proofs.own.slot_sound.Statement.{statement}
 use Rattle.image.proofs.own.slot_sound.Tie as tie
 

@@ -1,12 +1,9 @@
-use Prim.Native.Nat.{_-_}
+use Rattle.value.specs.Prelude.{_-_, _≡_, refl, _∙_, arith, now}
 use Rattle.image.proofs.Lists.{lowest-done, lowest-found, lowest-next}
 use Rattle.image.proofs.Tiles.{starts-done}
 use Rattle.image.specs.Passes.{fits, lowest}
-use Rattle.image.specs.Cut.{Tiling, startsOn}
+use Rattle.image.specs.Contracts.{Tiling, startsOn}
 use Rattle.value.proofs.Tests.{passed, refused}
-use denote.Ref.{now}
-use mathlib.Core.Path.{_∙_, _≡_, refl}
-use native.Mathlib.Omega.{arith}
 use Rattle.image.proofs.passes.lowest_unfit.Statement.{statement}
 use Rattle.image.proofs.passes.lowest_unfit.Tie as tie
 
@@ -26,7 +23,9 @@ following-requires : tie.Need-following-requires Inv-loop μ-loop
 following-requires c κs = (c .before .loop .inv .0, c .loop-test .taken)
 
 fits-requires : tie.Need-fits-requires Inv-loop μ-loop
-fits-requires c κs = let f = c .following .ensures in (c .before .before .before .before .before .before .before .pre .0, f .legal)
+fits-requires c κs =
+    let f = c .following .ensures in
+    (c .before .before .before .before .before .before .before .pre .0, f .legal)
 
 returns : tie.Need-returns Inv-loop μ-loop
 returns c =

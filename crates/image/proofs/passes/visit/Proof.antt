@@ -1,5 +1,5 @@
 use Rattle.image.specs.Passes.{visit}
-use borrow.Author.Needs.{needs}
+use Rattle.value.specs.Prelude.{needs}
 use Rattle.image.proofs.passes.visit.Statement.{statement}
 use Rattle.image.proofs.passes.visit.Tie as tie
 

@@ -1,12 +1,8 @@
-use Prim.Native.Nat.{_-_}
+use Rattle.value.specs.Prelude.{_-_, _≡_, refl, _∙_, length, arith, now}
 use Rattle.image.proofs.Lists.{over-done, over-next}
 use Rattle.image.proofs.Tiles.{starts-done}
 use Rattle.image.specs.Passes.{over, visit}
-use Rattle.image.specs.Cut.{Tiling, startsOn}
-use denote.Ref.{now}
-use lib.ListN.{length}
-use mathlib.Core.Path.{_∙_, _≡_, refl}
-use native.Mathlib.Omega.{arith}
+use Rattle.image.specs.Contracts.{Tiling, startsOn}
 use Rattle.image.proofs.passes.visit_all.Statement.{statement}
 use Rattle.image.proofs.passes.visit_all.Tie as tie
 
@@ -27,7 +23,8 @@ following-requires c κs = (c .before .loop .inv .0, c .loop-test .taken)
 
 visit-requires : tie.Need-visit-requires Inv-loop μ-loop
 visit-requires c κs =
-    let f = c .before .following .ensures in (c .before .before .before .before .before .before .before .before .pre .0, f .legal)
+    let f = c .before .following .ensures in
+    (c .before .before .before .before .before .before .before .before .pre .0, f .legal)
 
 loop-less : tie.Need-loop-less Inv-loop μ-loop
 loop-less c = let f = c .before .before .before .before .following .ensures in omega (arith, f .rises)

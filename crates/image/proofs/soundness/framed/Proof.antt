@@ -1,8 +1,7 @@
 use Rattle.image.proofs.Ands.{and-goes, and-stops}
 use Rattle.image.specs.Passes.{framed}
 use Rattle.value.proofs.Tests.{le!, le×, passed, refused}
-use borrow.Author.Needs.{needs}
-use native.Mathlib.Omega.{arith}
+use Rattle.value.specs.Prelude.{arith, needs}
 use Rattle.image.proofs.soundness.framed.Statement.{statement}
 use Rattle.image.proofs.soundness.framed.Tie as tie
 
@@ -12,7 +11,8 @@ returns c = rw (← c .before .used .ensures) (and-stops _ (le× (omega arith)))
 
 returns-2 : tie.Need-returns-2
 unfolding framed
-returns-2 c = rw (← c .before .before .before .used .ensures) (and-goes (le! (omega arith)) (and-stops _ (le× (omega arith))))
+returns-2 c =
+    rw (← c .before .before .before .used .ensures) (and-goes (le! (omega arith)) (and-stops _ (le× (omega arith))))
 
 returns-3 : tie.Need-returns-3
 unfolding framed

@@ -2,10 +2,7 @@ use Rattle.image.proofs.Cuts.{main-unfresh, main-followed, main-alone}
 use Rattle.program.proofs.Slots.{size-least}
 use Rattle.program.specs.Location.{sizeOf}
 use Rattle.value.proofs.Tests.{passed, refused, same-and, same-eq}
-use borrow.Author.Needs.{needs}
-use denote.Ref.{now}
-use mathlib.Core.Path.{_∙_, ap, refl, sym}
-use native.Mathlib.Omega.{arith}
+use Rattle.value.specs.Prelude.{refl, sym, _∙_, ap, arith, needs, now}
 use Rattle.image.proofs.soundness.fresh.Statement.{statement}
 use Rattle.image.proofs.soundness.fresh.Tie as tie
 

@@ -1,8 +1,7 @@
-use Rattle.image.specs.Passes.{unsound, grownSound}
+use Rattle.image.specs.Passes.{grownSound}
+use Rattle.image.specs.declared.Judged.the-variants.{Unsound}
 use Rattle.value.proofs.Tests.{goes, stops, eq!, eq×}
-use borrow.Author.Needs.{needs}
-use mathlib.Core.Path.{_∙_, ap, refl}
-use native.Mathlib.Omega.{arith}
+use Rattle.value.specs.Prelude.{refl, _∙_, ap, arith, needs}
 use Rattle.image.proofs.soundness.grown.Statement.{statement}
 use Rattle.image.proofs.soundness.grown.Tie as tie
 
@@ -10,13 +9,13 @@ returns : tie.Need-returns
 unfolding grownSound
 returns c =
     let own = c .before .run-pass .ensures in
-    stops _ (eq× (λ e. c .if1 .taken (own ∙ e))) (ap unsound own)
+    stops _ (eq× (λ e. c .if1 .taken (own ∙ e))) (ap Unsound own)
 
 returns-2 : tie.Need-returns-2
 unfolding grownSound
 returns-2 c =
     let named = c .before .run-pass2 .ensures in
-    goes _ _ (eq! (omega arith)) (stops _ (eq× (λ e. c .if2 .taken (named ∙ e))) (ap unsound named))
+    goes _ _ (eq! (omega arith)) (stops _ (eq× (λ e. c .if2 .taken (named ∙ e))) (ap Unsound named))
 
 returns-3 : tie.Need-returns-3
 unfolding grownSound

@@ -1,6 +1,5 @@
 use Rattle.value.proofs.Tests.{same-and, same-eq, same-lt}
-use borrow.Author.Needs.{needs}
-use mathlib.Core.Path.{refl}
+use Rattle.value.specs.Prelude.{refl, needs}
 use Rattle.image.proofs.soundness.main_first.Statement.{statement}
 use Rattle.image.proofs.soundness.main_first.Tie as tie
 

@@ -1,13 +1,10 @@
 -- `at-..` is what is known where that test was made: its result, and that it passed.
-use Prim.Native.Nat.{ℕ}
+use Rattle.value.specs.Prelude.{ℕ, sym, _∙_, ap, needs, now}
 use Rattle.image.proofs.Cuts.{framed-tiling, unframed, chained, fresh-judged, grown-judged}
-use Rattle.image.specs.Cut.{startsOn}
+use Rattle.image.specs.Contracts.{startsOn}
 use Rattle.image.specs.Memory.{mainAt}
 use Rattle.image.specs.Passes.{grownSound}
 use Rattle.value.proofs.Tests.{passed, refused}
-use borrow.Author.Needs.{needs}
-use denote.Ref.{now}
-use mathlib.Core.Path.{_∙_, ap, sym}
 use Rattle.image.proofs.soundness.sound.Statement.{statement}
 use Rattle.image.proofs.soundness.sound.Tie as tie
 

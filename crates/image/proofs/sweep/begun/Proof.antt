@@ -1,11 +1,7 @@
-use Prim.Native.Nat.{ℕ}
+use Rattle.value.specs.Prelude.{ℕ, refl, _∙_, ap, false≢true, List, needs}
 use Rattle.image.specs.Memory.{mainAt}
-use Rattle.image.specs.Passes.{withEntry}
+use Rattle.image.specs.Passes.{withTableByte}
 use Rattle.value.proofs.Tests.{passed}
-use borrow.Author.Needs.{needs}
-use mathlib.Core.Bool.{false≢true}
-use mathlib.Core.List.{List}
-use mathlib.Core.Path.{_∙_, ap, refl}
 use Rattle.image.proofs.sweep.begun.Statement.{statement}
 use Rattle.image.proofs.sweep.begun.Tie as tie
 
@@ -19,7 +15,8 @@ returns-2 c = λ p f e.
     let went = passed refl (tested .if1 .left) in
     record {
       tiled = marks .0 p f went;
-      marked = c .before .before .put-entry .ensures ∙ ap (λ (t : List ℕ). withEntry t mainAt 5) (marks .1 p f went);
+      marked = c .before .before .put-table-byte .ensures
+          ∙ ap (λ (t : List ℕ). withTableByte t mainAt 5) (marks .1 p f went);
     }
 
 pub begun-spec : {M : Type 1} → statement M

@@ -1,10 +1,7 @@
 use Rattle.image.proofs.Tiles.{clear-same, slots-within}
 use Rattle.image.specs.Memory.{reactor}
 use Rattle.value.proofs.Tests.{same-and}
-use borrow.Author.Needs.{needs}
-use denote.Ref.{now}
-use mathlib.Core.Path.{_∙_, refl}
-use native.Mathlib.Omega.{arith}
+use Rattle.value.specs.Prelude.{refl, _∙_, arith, needs, now}
 use Rattle.image.proofs.sweep.clear_by.Statement.{statement}
 use Rattle.image.proofs.sweep.clear_by.Tie as tie
 

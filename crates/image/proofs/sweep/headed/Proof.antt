@@ -1,6 +1,5 @@
 use Rattle.image.proofs.Merging.{headed-by}
-use borrow.Author.Needs.{needs}
-use mathlib.Core.Bool.{false≢true}
+use Rattle.value.specs.Prelude.{false≢true, needs}
 use Rattle.image.proofs.sweep.headed.Statement.{statement}
 use Rattle.image.proofs.sweep.headed.Tie as tie
 

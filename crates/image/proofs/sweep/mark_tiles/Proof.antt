@@ -1,19 +1,12 @@
-use Prim.Native.Nat.{ℕ, _-_}
+use Rattle.value.specs.Prelude.{ℕ, _-_, _≡_, refl, sym, _∙_, ap, false≢true, List, length, arith, needs, now}
 use Rattle.image.proofs.Lists.{over-done, over-next}
 use Rattle.image.proofs.Tiles.{starts-done, starts-next, tiles-done, tiles-next}
-use Rattle.image.specs.Cut.{startsOn}
+use Rattle.image.specs.Contracts.{startsOn}
 use Rattle.image.specs.Memory.{sizeAt}
 use Rattle.image.specs.Passes.{over, tilesFrom, visit}
 use Rattle.image.specs.declared.Pass.the-variants.{Starts}
-use Rattle.program.specs.Counts.{Facts}
+use Rattle.program.specs.Contracts.{Facts}
 use Rattle.value.proofs.Tests.{same-eq, eq×?}
-use borrow.Author.Needs.{needs}
-use denote.Ref.{now}
-use lib.ListN.{length}
-use mathlib.Core.Bool.{false≢true}
-use mathlib.Core.List.{List}
-use mathlib.Core.Path.{_∙_, _≡_, ap, refl, sym}
-use native.Mathlib.Omega.{arith}
 use Rattle.image.proofs.sweep.mark_tiles.Statement.{statement}
 use Rattle.image.proofs.sweep.mark_tiles.Tie as tie
 

@@ -1,5 +1,4 @@
-use borrow.Author.Needs.{needs}
-use mathlib.Core.Path.{sym}
+use Rattle.value.specs.Prelude.{sym, needs}
 use Rattle.image.proofs.sweep.sound_by.Statement.{statement}
 use Rattle.image.proofs.sweep.sound_by.Tie as tie
 

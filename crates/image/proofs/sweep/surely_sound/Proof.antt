@@ -1,8 +1,6 @@
 use Rattle.image.proofs.Merging.{grown-sound, rest-none}
 use Rattle.value.proofs.Tests.{both?, flags}
-use borrow.Author.Needs.{needs}
-use mathlib.Core.Bool.{false≢true}
-use mathlib.Core.Path.{_∙_, sym}
+use Rattle.value.specs.Prelude.{sym, _∙_, false≢true, needs}
 use Rattle.image.proofs.sweep.surely_sound.Statement.{statement}
 use Rattle.image.proofs.sweep.surely_sound.Tie as tie
 

@@ -1,17 +1,9 @@
-use Prim.Native.Nat.{ℕ, _+_, _-_, _<_}
+use Rattle.value.specs.Prelude.{ℕ, _+_, _-_, _<_, _≡_, refl, sym, _∙_, false≢true, List, length, arith, needs, now}
 use Rattle.image.proofs.Merging.{swept-none, swept-next}
 use Rattle.image.proofs.Tiles.{follows, starts-done}
-use Rattle.image.specs.Cut.{Tiling, Follows, startsOn}
+use Rattle.image.specs.Contracts.{Tiling, Follows, startsOn, Swept}
 use Rattle.image.specs.Memory.{sizeAt}
-use Rattle.image.specs.Merged.{Swept}
 use Rattle.value.proofs.Tests.{passed, eq×?}
-use borrow.Author.Needs.{needs}
-use denote.Ref.{now}
-use lib.ListN.{length}
-use mathlib.Core.Bool.{false≢true}
-use mathlib.Core.List.{List}
-use mathlib.Core.Path.{_∙_, _≡_, refl, sym}
-use native.Mathlib.Omega.{arith}
 use Rattle.image.proofs.sweep.sweep_all.Statement.{statement}
 use Rattle.image.proofs.sweep.sweep_all.Tie as tie
 

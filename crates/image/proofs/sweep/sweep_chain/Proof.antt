@@ -1,17 +1,12 @@
-use Prim.Native.Nat.{ℕ, _+_, _-_, _≤_}
+use Rattle.value.specs.Prelude.{ℕ, _+_, _-_, _≤_, _≡_, refl, sym, _∙_, false≢true, List, length, replicate, arith}
+use Rattle.value.specs.Prelude.{needs}
 use Rattle.image.proofs.Merging.{placed-later}
 use Rattle.image.proofs.Sweeping.{chain-swept, chain-further}
 use Rattle.image.specs.Memory.{used}
-use Rattle.image.specs.Merged.{Placed, Sweeps}
+use Rattle.image.specs.Contracts.{Placed, Sweeps}
 use Rattle.image.specs.Passes.{chainFrom, membersFrom}
 use Rattle.program.specs.Bytes.{reactors}
 use Rattle.value.proofs.Tests.{passed, lt?, same-lt}
-use borrow.Author.Needs.{needs}
-use lib.ListN.{length, replicate}
-use mathlib.Core.Bool.{false≢true}
-use mathlib.Core.List.{List}
-use mathlib.Core.Path.{_∙_, _≡_, refl, sym}
-use native.Mathlib.Omega.{arith}
 use Rattle.image.proofs.sweep.sweep_chain.Statement.{statement}
 use Rattle.image.proofs.sweep.sweep_chain.Tie as tie
 

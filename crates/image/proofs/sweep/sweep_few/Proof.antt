@@ -1,9 +1,6 @@
 use Rattle.image.proofs.Merging.{swept-grown}
 use Rattle.value.proofs.Tests.{passed}
-use borrow.Author.Needs.{needs}
-use mathlib.Core.Bool.{false≢true}
-use mathlib.Core.Path.{refl}
-use native.Mathlib.Omega.{arith}
+use Rattle.value.specs.Prelude.{refl, false≢true, arith, needs}
 use Rattle.image.proofs.sweep.sweep_few.Statement.{statement}
 use Rattle.image.proofs.sweep.sweep_few.Tie as tie
 

@@ -1,8 +1,6 @@
 use Rattle.image.proofs.Sweeping.{pair-mark, pair-content, mono-swept}
 use Rattle.value.proofs.Tests.{passed, same-and, same-eq}
-use borrow.Author.Needs.{needs}
-use mathlib.Core.Bool.{false≢true}
-use mathlib.Core.Path.{_∙_, refl, sym}
+use Rattle.value.specs.Prelude.{refl, sym, _∙_, false≢true, needs}
 use Rattle.image.proofs.sweep.sweep_mono.Statement.{statement}
 use Rattle.image.proofs.sweep.sweep_mono.Tie as tie
 

@@ -1,9 +1,6 @@
 use Rattle.image.proofs.Sweeping.{placed-here, placed-there, own-swept}
 use Rattle.value.proofs.Tests.{passed}
-use borrow.Author.Needs.{needs}
-use mathlib.Core.Bool.{false≢true}
-use mathlib.Core.Path.{_∙_, sym}
-use native.Mathlib.Omega.{arith}
+use Rattle.value.specs.Prelude.{sym, _∙_, false≢true, arith, needs}
 use Rattle.image.proofs.sweep.sweep_one.Statement.{statement}
 use Rattle.image.proofs.sweep.sweep_one.Tie as tie
 
@@ -19,7 +16,7 @@ returns-3 c = (λ e. absurd (false≢true e), λ e. absurd (false≢true e))
 sweep-slots-requires : tie.Need-sweep-slots-requires
 sweep-slots-requires c κs =
     let tested = c .before .before .before .before .before in (
-      placed-here _ _ _ (tested .before .entry .ensures)
+      placed-here _ _ _ (tested .before .table-byte .ensures)
           (tested .if1 .left),
       tested .before .before .before .before .before .before .pre,
     )
@@ -28,7 +25,7 @@ returns-4 : tie.Need-returns-4
 returns-4 c =
     let cleared = c .before .before .before .before in
     let tested = cleared .before .before .before .before in (
-      (λ e. placed-there _ _ _ (tested .before .entry .ensures) (tested .if1 .left)),
+      (λ e. placed-there _ _ _ (tested .before .table-byte .ensures) (tested .if1 .left)),
       (λ e.
           own-swept _ _ _ _ _ (sym (cleared .before .before .before .wired .ensures) ∙ omega arith)
           (passed (cleared .before .clear-by .ensures) (cleared .if3 .left))

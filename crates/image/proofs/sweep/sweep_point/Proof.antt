@@ -1,7 +1,5 @@
 use Rattle.image.proofs.Sweeping.{pair-mark, pair-content, point-swept}
-use borrow.Author.Needs.{needs}
-use mathlib.Core.Bool.{false≢true}
-use mathlib.Core.Path.{_∙_, sym}
+use Rattle.value.specs.Prelude.{sym, _∙_, false≢true, needs}
 use Rattle.image.proofs.sweep.sweep_point.Statement.{statement}
 use Rattle.image.proofs.sweep.sweep_point.Tie as tie
 

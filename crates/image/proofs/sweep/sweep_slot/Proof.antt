@@ -1,7 +1,6 @@
-use Rattle.image.proofs.Made.{made-mono, made-point, made-cell}
+use Rattle.image.proofs.MadeByBytes.{made-mono, made-point, made-cell}
 use Rattle.image.proofs.Sweeping.{pair-value, cell-swept, by-made, by-none}
-use borrow.Author.Needs.{needs}
-use mathlib.Core.Path.{_∙_, sym}
+use Rattle.value.specs.Prelude.{sym, _∙_, needs}
 use Rattle.image.proofs.sweep.sweep_slot.Statement.{statement}
 use Rattle.image.proofs.sweep.sweep_slot.Tie as tie
 

@@ -1,21 +1,13 @@
-use Prim.Native.Nat.{ℕ, _-_, _≤_}
-use Rattle.image.proofs.Made.{made-at}
+use Rattle.value.specs.Prelude.{ℕ, _-_, _≤_, _≡_, refl, false≢true, List, length, arith, needs, now}
+use Rattle.image.proofs.MadeByBytes.{made-at}
 use Rattle.image.proofs.Merging.{placed-later}
 use Rattle.image.proofs.Sweeping.{slot-in-row, slots-swept, slots-further, slots-all}
-use Rattle.image.specs.Cut.{commandSound}
+use Rattle.image.specs.Contracts.{commandSound, Placed, Sweeps, SlotsSwept}
 use Rattle.image.specs.Memory.{reactor}
-use Rattle.image.specs.Merged.{Placed, Sweeps, SlotsSwept}
 use Rattle.image.specs.Passes.{childrenFrom}
 use Rattle.program.specs.Location.{commandLoc}
 use Rattle.value.proofs.Tests.{passed}
 use Rattle.value.specs.Test.{_=?_, sweep}
-use borrow.Author.Needs.{needs}
-use denote.Ref.{now}
-use lib.ListN.{length}
-use mathlib.Core.Bool.{false≢true}
-use mathlib.Core.List.{List}
-use mathlib.Core.Path.{_≡_, refl}
-use native.Mathlib.Omega.{arith}
 use Rattle.image.proofs.sweep.sweep_slots.Statement.{statement}
 use Rattle.image.proofs.sweep.sweep_slots.Tie as tie
 
@@ -36,7 +28,7 @@ loop-holds c =
       omega arith,
       refl,
       start .pre .0,
-      λ t f. slots-all _ _ _ _ _ _ (c .declared .ensures _ _ (start .pre .1)) f,
+      λ t f. slots-all _ _ _ _ _ _ (c .commands-d .ensures _ _ (start .pre .1)) f,
     )
 
 sweep-slot-requires : tie.Need-sweep-slot-requires Inv-loop μ-loop
@@ -58,7 +50,7 @@ loop-again c =
     let r = reactor m (start .args .o) in
     let j = after-loop .loop .j in
     let told = start .pre .1 in
-    let D = after-loop .before .declared .ensures p r told in
+    let D = after-loop .before .commands-d .ensures p r told in
     let first = c .before .before .before .before .before .before .before .slots-d .ensures .0 p r told in
     let at = c .before .before .before .before .before .before .before .before .at .ensures .0 p r told in
     let made = made-at p r j _ _ _ at (c .before .before .before .before .before .byte .ensures)

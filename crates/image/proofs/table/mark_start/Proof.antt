@@ -1,4 +1,4 @@
-use borrow.Author.Needs.{needs}
+use Rattle.value.specs.Prelude.{needs}
 use Rattle.image.proofs.table.mark_start.Statement.{statement}
 use Rattle.image.proofs.table.mark_start.Tie as tie
 

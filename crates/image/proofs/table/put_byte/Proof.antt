@@ -1,6 +1,5 @@
-use borrow.Author.Needs.{needs}
+use Rattle.value.specs.Prelude.{sym, needs}
 use lib.Seq.{set-out}
-use mathlib.Core.Path.{sym}
 use Rattle.image.proofs.table.put_byte.Statement.{statement}
 use Rattle.image.proofs.table.put_byte.Tie as tie
 

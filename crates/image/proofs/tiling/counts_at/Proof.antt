@@ -1,4 +1,4 @@
-use borrow.Author.Needs.{needs}
+use Rattle.value.specs.Prelude.{needs}
 use Rattle.image.proofs.tiling.counts_at.Statement.{statement}
 use Rattle.image.proofs.tiling.counts_at.Tie as tie
 

@@ -1,7 +1,5 @@
-use Prim.Native.Nat.{_+_}
+use Rattle.value.specs.Prelude.{_+_, arith, needs}
 use Rattle.image.proofs.Tiles.{follows}
-use borrow.Author.Needs.{needs}
-use native.Mathlib.Omega.{arith}
 use Rattle.image.proofs.tiling.following.Statement.{statement}
 use Rattle.image.proofs.tiling.following.Tie as tie
 

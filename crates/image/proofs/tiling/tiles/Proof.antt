@@ -1,17 +1,13 @@
-use Prim.Native.Nat.{_-_}
+use Rattle.value.specs.Prelude.{_-_, _≡_, refl, _∙_, ap, length, arith, needs, now}
 use Rattle.image.proofs.Tiles.{grows, tiles-beyond, tiles-done, tiles-next, tiles-not-reactor}
 use Rattle.image.specs.Passes.{tilesFrom}
 use Rattle.value.specs.Test.{_=?_}
-use borrow.Author.Needs.{needs}
-use denote.Ref.{now}
-use lib.ListN.{length}
-use mathlib.Core.Path.{_∙_, _≡_, ap, refl}
-use native.Mathlib.Omega.{arith}
 use Rattle.image.proofs.tiling.tiles.Statement.{statement}
 use Rattle.image.proofs.tiling.tiles.Tie as tie
 
 abbrev Inv-loop : tie.InvT-loop
-Inv-loop program memory u n a₀ a = tilesFrom program memory (length memory) u a ≡ tilesFrom program memory (length memory) u 2
+Inv-loop program memory u n a₀ a =
+    tilesFrom program memory (length memory) u a ≡ tilesFrom program memory (length memory) u 2
 
 abbrev μ-loop : tie.MeasureT-loop
 μ-loop program memory u n a₀ a = u - a
@@ -34,8 +30,11 @@ returns-2 c =
 loop-less : tie.Need-loop-less Inv-loop μ-loop
 loop-less c =
     let start = c .before .before .before .before .before .before .before .before .before in
-    omega
-    (arith, grows (now (start .args .program)) (now (start .args .memory)) (c .before .before .before .before .before .loop .a))
+    omega (
+      arith,
+      grows (now (start .args .program)) (now (start .args .memory))
+          (c .before .before .before .before .before .loop .a),
+    )
 
 loop-again : tie.Need-loop-again Inv-loop μ-loop
 loop-again c =

@@ -1,5 +1,5 @@
 use Rattle.image.specs.Memory.{next}
-use borrow.Author.Needs.{needs}
+use Rattle.value.specs.Prelude.{needs}
 use Rattle.image.proofs.words.next.Statement.{statement}
 use Rattle.image.proofs.words.next.Tie as tie
 

@@ -1,9 +1,7 @@
 use Rattle.image.specs.Memory.{word}
 use Rattle.value.specs.Value.{value}
-use borrow.Author.Needs.{needs}
-use denote.Ref.{now}
+use Rattle.value.specs.Prelude.{sym, _∙_, ap, needs, now}
 use lib.ListN.{List·getD-eq-default}
-use mathlib.Core.Path.{_∙_, ap, sym}
 use Rattle.image.proofs.words.pair.Statement.{statement}
 use Rattle.image.proofs.words.pair.Tie as tie
 

@@ -1,6 +1,5 @@
 use Rattle.image.specs.Memory.{word}
-use borrow.Author.Needs.{needs}
-use mathlib.Core.Path.{refl}
+use Rattle.value.specs.Prelude.{refl, needs}
 use Rattle.image.proofs.words.pair_within.Statement.{statement}
 use Rattle.image.proofs.words.pair_within.Tie as tie
 

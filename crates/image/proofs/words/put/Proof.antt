@@ -1,6 +1,5 @@
-use borrow.Author.Needs.{needs}
+use Rattle.value.specs.Prelude.{sym, needs}
 use lib.Seq.{set-out}
-use mathlib.Core.Path.{sym}
 use Rattle.image.proofs.words.put.Statement.{statement}
 use Rattle.image.proofs.words.put.Tie as tie
 
@@ -8,4 +7,5 @@ returns-2 : tie.Need-returns-2
 returns-2 c = sym (set-out _ _ _ (c .if1 .left))
 
 pub put-spec : {M : Type 1} → statement M
-put-spec = tie.close (tie.spec (λ c. search needs) (λ c. search needs) (λ c. search needs) (λ c. search needs) returns-2)
+put-spec =
+    tie.close (tie.spec (λ c. search needs) (λ c. search needs) (λ c. search needs) (λ c. search needs) returns-2)

@@ -1,7 +1,6 @@
-use borrow.Author.Needs.{needs}
+use Rattle.value.specs.Prelude.{sym, _∙_, needs}
 use lib.ListN.{length-set}
 use lib.Seq.{set-out}
-use mathlib.Core.Path.{_∙_, sym}
 use Rattle.image.proofs.words.put_pair.Statement.{statement}
 use Rattle.image.proofs.words.put_pair.Tie as tie
 

@@ -1,5 +1,5 @@
 use Rattle.image.specs.Memory.{reactor}
-use borrow.Author.Needs.{needs}
+use Rattle.value.specs.Prelude.{needs}
 use Rattle.image.proofs.words.reactor.Statement.{statement}
 use Rattle.image.proofs.words.reactor.Tie as tie
 

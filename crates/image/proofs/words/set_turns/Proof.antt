@@ -1,5 +1,5 @@
 use Rattle.image.specs.Memory.{withTurns}
-use borrow.Author.Needs.{needs}
+use Rattle.value.specs.Prelude.{needs}
 use Rattle.image.proofs.words.set_turns.Statement.{statement}
 use Rattle.image.proofs.words.set_turns.Tie as tie
 

@@ -1,5 +1,5 @@
 use Rattle.image.specs.Memory.{withUsed}
-use borrow.Author.Needs.{needs}
+use Rattle.value.specs.Prelude.{needs}
 use Rattle.image.proofs.words.set_used.Statement.{statement}
 use Rattle.image.proofs.words.set_used.Tie as tie
 

@@ -1,5 +1,5 @@
 use Rattle.image.specs.Memory.{turns}
-use borrow.Author.Needs.{needs}
+use Rattle.value.specs.Prelude.{needs}
 use Rattle.image.proofs.words.turns.Statement.{statement}
 use Rattle.image.proofs.words.turns.Tie as tie
 

@@ -1,5 +1,5 @@
 use Rattle.image.specs.Memory.{used}
-use borrow.Author.Needs.{needs}
+use Rattle.value.specs.Prelude.{needs}
 use Rattle.image.proofs.words.used.Statement.{statement}
 use Rattle.image.proofs.words.used.Tie as tie
 

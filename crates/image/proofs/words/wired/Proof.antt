@@ -1,5 +1,5 @@
 use Rattle.image.specs.Memory.{wired}
-use borrow.Author.Needs.{needs}
+use Rattle.value.specs.Prelude.{needs}
 use Rattle.image.proofs.words.wired.Statement.{statement}
 use Rattle.image.proofs.words.wired.Tie as tie
 

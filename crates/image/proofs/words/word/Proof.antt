@@ -1,8 +1,6 @@
 use Rattle.image.specs.Memory.{word}
-use borrow.Author.Needs.{needs}
-use denote.Ref.{now}
+use Rattle.value.specs.Prelude.{sym, needs, now}
 use lib.ListN.{List·getD-eq-default}
-use mathlib.Core.Path.{sym}
 use Rattle.image.proofs.words.word.Statement.{statement}
 use Rattle.image.proofs.words.word.Tie as tie
 

@@ -1,11 +1,8 @@
-use Prim.Native.Nat.{_-_, _<_, _^_, _≤_}
+use Rattle.value.specs.Prelude.{_-_, _^_, _≤_, _<_, _≡_, _∙_, length, getD, arith}
 use Rattle.image.proofs.Zeros.{zero-done, zero-first, zero-next, zeroFrom}
 use Rattle.image.specs.Memory.{allZero}
 use Rattle.value.specs.Test.{_=?_}
 use lib.Bits.{or-lt}
-use lib.ListN.{getD, length}
-use mathlib.Core.Path.{_∙_, _≡_}
-use native.Mathlib.Omega.{arith}
 use Rattle.image.proofs.zero.all_zero.Statement.{statement}
 use Rattle.image.proofs.zero.all_zero.Tie as tie
 
@@ -34,7 +31,8 @@ loop-again : tie.Need-loop-again Inv-loop μ-loop
 loop-again c = (
   omega arith,
   let f = c .shared-slice-known .given (c .before .before .loop .i) in
-      or-lt 32 (c .before .before .loop .bits) (getD (c .before .before .before .args .words .now) (c .before .before .loop .i) 0)
+      or-lt 32 (c .before .before .loop .bits)
+      (getD (c .before .before .before .args .words .now) (c .before .before .loop .i) 0)
       (omega arith) (omega arith),
   zero-next _ _ _ (omega arith) ∙ c .before .before .loop .inv .2,
 )

@@ -1,16 +1,13 @@
-use Prim.Native.Nat.{_-_, _<_, _≤_}
+use Rattle.value.specs.Prelude.{_-_, _≤_, _<_, _≡_, refl, _∙_, _++_, append-nil, length, drop, replicate, arith, needs}
 use borrow.Author.Fill.{fill-more}
-use borrow.Author.Needs.{needs}
-use lib.ListN.{drop, length, length-set, replicate}
+use lib.ListN.{length-set}
 use lib.Seq.{drop-length}
-use mathlib.Core.List.{_++_, append-nil}
-use mathlib.Core.Path.{_∙_, _≡_, refl}
-use native.Mathlib.Omega.{arith}
 use Rattle.image.proofs.zero.wipe.Statement.{statement}
 use Rattle.image.proofs.zero.wipe.Tie as tie
 
 abbrev Inv-loop : tie.InvT-loop
-Inv-loop words₀ i₀ words i = (i ≤ length words₀) × (words ≡ replicate i 0 ++ drop i words₀) × (length words ≡ length words₀)
+Inv-loop words₀ i₀ words i = (i ≤ length words₀) × (words ≡ replicate i 0 ++ drop i words₀)
+    × (length words ≡ length words₀)
 
 abbrev μ-loop : tie.MeasureT-loop
 μ-loop words₀ i₀ words i = length words₀ - i
@@ -31,7 +28,8 @@ loop-again : tie.Need-loop-again Inv-loop μ-loop
 loop-again c =
     let l = c .before .loop in
     let d = c .before .before .args .words .now in
-    let h : l .i < length d = omega arith in (omega arith, rw (l .inv .1) (fill-more (l .i) 0 d h), simp length-set (l .inv .2))
+    let h : l .i < length d = omega arith in
+    (omega arith, rw (l .inv .1) (fill-more (l .i) 0 d h), simp length-set (l .inv .2))
 
 same-length : tie.Need-same-length Inv-loop μ-loop
 same-length c = cc

@@ -1,10 +1,5 @@
-use Prim.Native.Nat.{_+_, _-_}
+use Rattle.value.specs.Prelude.{_+_, _-_, _∙_, length, arith, needs, now}
 use Rattle.image.proofs.Zeros.{zero-part, zero-past, zero-rest}
-use borrow.Author.Needs.{needs}
-use denote.Ref.{now}
-use lib.ListN.{length}
-use mathlib.Core.Path.{_∙_}
-use native.Mathlib.Omega.{arith}
 use Rattle.image.proofs.zero.zero_at.Statement.{statement}
 use Rattle.image.proofs.zero.zero_at.Tie as tie
 
@@ -15,7 +10,8 @@ returns-2 : tie.Need-returns-2
 returns-2 c =
     let start = c .before .before .before .before .before in
     c .all-zero .ensures
-    ∙ zero-rest _ (start .args .from) (length (now (start .args .memory)) - start .args .from) _ (omega arith) (omega arith)
+    ∙ zero-rest _ (start .args .from) (length (now (start .args .memory)) - start .args .from) _
+    (omega arith) (omega arith)
 
 returns-3 : tie.Need-returns-3
 returns-3 c =

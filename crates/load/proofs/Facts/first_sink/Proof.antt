@@ -1,5 +1,4 @@
-use borrow.Author.Needs.{needs}
-use native.Mathlib.Omega.{arith}
+use Rattle.value.specs.Prelude.{arith, needs}
 use Rattle.load.proofs.Facts.first_sink.Statement.{statement}
 use Rattle.load.proofs.Facts.first_sink.Tie as tie
 

@@ -1,13 +1,8 @@
-use Prim.Native.Nat.{_+_, ℕ}
+use Rattle.value.specs.Prelude.{ℕ, _+_, _≡_, refl, ap, true, arith, needs, now}
 use Rattle.load.specs.Scan.{agreed}
 use Rattle.program.proofs.Decode.{as-consume, as-keep, as-poly, as-primitive, as-sink, as-supply, by-code}
 use Rattle.program.specs.Command.{Cmd}
 use Rattle.value.proofs.Tests.{same-eq}
-use borrow.Author.Needs.{needs}
-use denote.Ref.{now}
-use mathlib.Core.Bool.{true}
-use mathlib.Core.Path.{_≡_, ap, refl}
-use native.Mathlib.Omega.{arith}
 use Rattle.load.proofs.Scan.agreed.Statement.{statement}
 use Rattle.load.proofs.Scan.agreed.Tie as tie
 

@@ -3,11 +3,7 @@ use Rattle.program.proofs.Decode.{as-consume, as-keep, as-mono, as-poly, as-rea
 use Rattle.program.specs.Command.{Cmd}
 use Rattle.value.proofs.Tests.{same-eq, same-lt}
 use Rattle.value.specs.Test.{need}
-use borrow.Author.Needs.{needs}
-use denote.Ref.{now}
-use mathlib.Core.Bool.{Bool}
-use mathlib.Core.Path.{_≡_, _∙_, ap, refl}
-use native.Mathlib.Omega.{arith}
+use Rattle.value.specs.Prelude.{_≡_, refl, _∙_, ap, Bool, arith, needs, now}
 use Rattle.load.proofs.Scan.disorder.Statement.{statement}
 use Rattle.load.proofs.Scan.disorder.Tie as tie
 

@@ -1,7 +1,6 @@
 use Rattle.load.specs.Scan.{isCell}
 use Rattle.value.proofs.Tests.{same-and, same-le}
-use borrow.Author.Needs.{needs}
-use mathlib.Core.Path.{refl}
+use Rattle.value.specs.Prelude.{refl, needs}
 use Rattle.load.proofs.Scan.is_cell.Statement.{statement}
 use Rattle.load.proofs.Scan.is_cell.Tie as tie
 

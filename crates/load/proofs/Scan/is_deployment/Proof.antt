@@ -1,7 +1,6 @@
 use Rattle.load.specs.Scan.{isDeployment}
 use Rattle.value.proofs.Tests.{same-le}
-use borrow.Author.Needs.{needs}
-use mathlib.Core.Path.{refl}
+use Rattle.value.specs.Prelude.{refl, needs}
 use Rattle.load.proofs.Scan.is_deployment.Statement.{statement}
 use Rattle.load.proofs.Scan.is_deployment.Tie as tie
 

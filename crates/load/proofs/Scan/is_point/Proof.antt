@@ -1,7 +1,6 @@
 use Rattle.load.specs.Scan.{isPoint}
 use Rattle.value.proofs.Tests.{same-and, same-le}
-use borrow.Author.Needs.{needs}
-use mathlib.Core.Path.{refl}
+use Rattle.value.specs.Prelude.{refl, needs}
 use Rattle.load.proofs.Scan.is_point.Statement.{statement}
 use Rattle.load.proofs.Scan.is_point.Tie as tie
 

@@ -1,8 +1,6 @@
-use Prim.Native.Nat.{_%_, _/_, _^_, ℕ}
+use Rattle.value.specs.Prelude.{ℕ, _/_, _%_, _^_, _∙_, ap, needs}
 use Rattle.load.specs.Scan.{isSupplied}
 use Rattle.value.specs.Test.{_=?_}
-use borrow.Author.Needs.{needs}
-use mathlib.Core.Path.{_∙_, ap}
 use Rattle.load.proofs.Scan.is_supplied.Statement.{statement}
 use Rattle.load.proofs.Scan.is_supplied.Tie as tie
 

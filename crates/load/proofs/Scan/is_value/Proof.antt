@@ -1,7 +1,6 @@
 use Rattle.load.specs.Scan.{isValue}
 use Rattle.value.proofs.Tests.{same-eq}
-use borrow.Author.Needs.{needs}
-use mathlib.Core.Path.{refl}
+use Rattle.value.specs.Prelude.{refl, needs}
 use Rattle.load.proofs.Scan.is_value.Statement.{statement}
 use Rattle.load.proofs.Scan.is_value.Tie as tie
 

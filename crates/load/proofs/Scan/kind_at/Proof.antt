@@ -1,7 +1,6 @@
 use Rattle.load.proofs.Stands.{past-table}
 use Rattle.load.specs.Scan.{kindAt}
-use borrow.Author.Needs.{needs}
-use mathlib.Core.Path.{refl}
+use Rattle.value.specs.Prelude.{refl, needs}
 use Rattle.load.proofs.Scan.kind_at.Statement.{statement}
 use Rattle.load.proofs.Scan.kind_at.Tie as tie
 

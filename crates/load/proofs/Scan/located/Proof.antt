@@ -1,13 +1,8 @@
-use Prim.Native.Nat.{_<_}
+use Rattle.value.specs.Prelude.{_<_, _≡_, refl, ⊎-elim, true, arith, needs}
 use Rattle.load.specs.Scan.{located}
 use Rattle.program.proofs.Decode.{as-fetch, as-keep, as-poly, as-primitive, as-sink, as-supply, by-code}
 use Rattle.program.specs.Command.{Cmd}
 use Rattle.value.proofs.Tests.{same-and}
-use borrow.Author.Needs.{needs}
-use mathlib.Core.Bool.{true}
-use mathlib.Core.Logic.{⊎-elim}
-use mathlib.Core.Path.{_≡_, refl}
-use native.Mathlib.Omega.{arith}
 use Rattle.load.proofs.Scan.located.Statement.{statement}
 use Rattle.load.proofs.Scan.located.Tie as tie
 

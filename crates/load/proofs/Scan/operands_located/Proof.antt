@@ -1,7 +1,6 @@
 use Rattle.load.specs.Scan.{located}
 use Rattle.value.proofs.Tests.{same-and3, same-lt, same-or}
-use borrow.Author.Needs.{needs}
-use mathlib.Core.Path.{refl}
+use Rattle.value.specs.Prelude.{refl, needs}
 use Rattle.load.proofs.Scan.operands_located.Statement.{statement}
 use Rattle.load.proofs.Scan.operands_located.Tie as tie
 

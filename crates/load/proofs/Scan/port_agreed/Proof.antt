@@ -1,8 +1,7 @@
 use Rattle.load.specs.Scan.{agreed}
 use Rattle.program.specs.Bytes.{sinksIn}
 use Rattle.value.proofs.Tests.{same-lt}
-use borrow.Author.Needs.{needs}
-use mathlib.Core.Path.{_∙_, ap, refl}
+use Rattle.value.specs.Prelude.{refl, _∙_, ap, needs}
 use Rattle.load.proofs.Scan.port_agreed.Statement.{statement}
 use Rattle.load.proofs.Scan.port_agreed.Tie as tie
 

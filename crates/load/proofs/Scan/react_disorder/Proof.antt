@@ -1,12 +1,8 @@
-use Prim.Native.Nat.{ℕ}
+use Rattle.value.specs.Prelude.{ℕ, refl, _∙_, ap, Bool, arith, needs}
 use Rattle.load.specs.Scan.{disorder, readyAt, standingAt}
 use Rattle.program.specs.Bytes.{sourcesIn}
 use Rattle.value.proofs.Tests.{yes, no, le!, le×}
 use Rattle.value.specs.Test.{_=?_, need}
-use borrow.Author.Needs.{needs}
-use mathlib.Core.Bool.{Bool}
-use mathlib.Core.Path.{_∙_, ap, refl}
-use native.Mathlib.Omega.{arith}
 use Rattle.load.proofs.Scan.react_disorder.Statement.{statement}
 use Rattle.load.proofs.Scan.react_disorder.Tie as tie
 

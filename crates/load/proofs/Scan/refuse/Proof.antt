@@ -1,8 +1,7 @@
 -- A return after so many tests. `at-..` is what is known where that test was made: its result, and that it passed.
 use Rattle.load.specs.Scan.{refusalOf}
 use Rattle.value.proofs.Tests.{no, passed, refused, yes}
-use borrow.Author.Needs.{needs}
-use mathlib.Core.Path.{refl}
+use Rattle.value.specs.Prelude.{refl, needs}
 use Rattle.load.proofs.Scan.refuse.Statement.{statement}
 use Rattle.load.proofs.Scan.refuse.Tie as tie
 

@@ -1,10 +1,7 @@
-use Prim.Native.Nat.{ℕ}
+use Rattle.value.specs.Prelude.{ℕ, refl, _∙_, ap, needs, now}
 use Rattle.load.specs.Scan.{agreed}
 use Rattle.program.specs.Bytes.{sinkKind}
 use Rattle.value.proofs.Tests.{same-and, same-eq, same-lt}
-use borrow.Author.Needs.{needs}
-use denote.Ref.{now}
-use mathlib.Core.Path.{_∙_, ap, refl}
 use Rattle.load.proofs.Scan.sink_agreed.Statement.{statement}
 use Rattle.load.proofs.Scan.sink_agreed.Tie as tie
 
@@ -12,8 +9,10 @@ returns : tie.Need-returns
 unfolding agreed
 returns c =
     let args = c .before .before .before .before .before .before .before .args in
-    let kind = c .sink-kind .ensures ∙ ap (λ (s : ℕ). sinkKind (now (args .program)) s (args .c .x)) (c .before .before .before .shape-of .ensures) in
-    same-and (same-lt refl (c .before .before .sinks .ensures)) (same-eq (c .before .before .before .before .kind-at .ensures) kind)
+    let kind = c .sink-kind .ensures
+    ∙ ap (λ (s : ℕ). sinkKind (now (args .program)) s (args .c .x)) (c .before .before .before .shape-of .ensures) in
+    same-and (same-lt refl (c .before .before .sink-count .ensures))
+    (same-eq (c .before .before .before .before .kind-at .ensures) kind)
 
 pub sink-agreed-spec : {M : Type 1} → statement M
 sink-agreed-spec =

@@ -1,9 +1,7 @@
 use Rattle.load.specs.Scan.{disorder, standingAt}
 use Rattle.value.proofs.Tests.{same-eq}
 use Rattle.value.specs.Test.{need}
-use borrow.Author.Needs.{needs}
-use mathlib.Core.Bool.{Bool}
-use mathlib.Core.Path.{_∙_, ap, refl}
+use Rattle.value.specs.Prelude.{refl, _∙_, ap, Bool, needs}
 use Rattle.load.proofs.Scan.sink_disorder.Statement.{statement}
 use Rattle.load.proofs.Scan.sink_disorder.Tie as tie
 

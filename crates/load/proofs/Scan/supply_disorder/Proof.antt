@@ -1,10 +1,7 @@
 use Rattle.load.specs.Scan.{disorder}
 use Rattle.value.proofs.Tests.{yes, no, le!, le×}
 use Rattle.value.specs.Test.{need}
-use borrow.Author.Needs.{needs}
-use mathlib.Core.Bool.{Bool, not}
-use mathlib.Core.Path.{_∙_, ap, refl}
-use native.Mathlib.Omega.{arith}
+use Rattle.value.specs.Prelude.{refl, _∙_, ap, Bool, not, arith, needs}
 use Rattle.load.proofs.Scan.supply_disorder.Statement.{statement}
 use Rattle.load.proofs.Scan.supply_disorder.Tie as tie
 

@@ -1,11 +1,8 @@
-use Prim.Native.Nat.{_+_, ℕ}
+use Rattle.value.specs.Prelude.{ℕ, _+_, refl, _∙_, ap, needs, now}
 use Rattle.load.proofs.Conditions.{right-constant}
 use Rattle.load.specs.Scan.{aValue, formed, stand, standingAfter}
 use Rattle.program.specs.Kind.{contentLegal}
 use Rattle.value.proofs.Tests.{same-and3, same-eq, same-lt}
-use borrow.Author.Needs.{needs}
-use denote.Ref.{now}
-use mathlib.Core.Path.{_∙_, ap, refl}
 use Rattle.load.proofs.giving.constant.Statement.{statement}
 use Rattle.load.proofs.giving.constant.Tie as tie
 

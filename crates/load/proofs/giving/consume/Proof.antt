@@ -1,12 +1,9 @@
-use Prim.Native.Nat.{_+_, ℕ}
+use Rattle.value.specs.Prelude.{ℕ, _+_, refl, _∙_, ap, needs, now}
 use Rattle.load.proofs.Conditions.{right-consume}
 use Rattle.load.proofs.Stands.{port-sink, port-sinks}
-use Rattle.load.specs.Lent.{state}
+use Rattle.load.specs.Contracts.{state}
 use Rattle.load.specs.Scan.{aValue, kindAt, stand, standingAfter, standingAt}
 use Rattle.value.proofs.Tests.{same-and3, same-eq, same-lt}
-use borrow.Author.Needs.{needs}
-use denote.Ref.{now}
-use mathlib.Core.Path.{_∙_, ap, refl}
 use Rattle.load.proofs.giving.consume.Statement.{statement}
 use Rattle.load.proofs.giving.consume.Tie as tie
 

@@ -1,11 +1,8 @@
-use Prim.Native.Nat.{_+_, ℕ}
+use Rattle.value.specs.Prelude.{ℕ, _+_, refl, _∙_, ap, needs, now}
 use Rattle.load.proofs.Conditions.{right-fetch}
-use Rattle.load.specs.Lent.{state}
+use Rattle.load.specs.Contracts.{state}
 use Rattle.load.specs.Scan.{aValue, isCell, kindAt, stand, standingAfter, standingAt}
 use Rattle.value.proofs.Tests.{same-and, same-eq, same-le}
-use borrow.Author.Needs.{needs}
-use denote.Ref.{now}
-use mathlib.Core.Path.{_∙_, ap, refl}
 use Rattle.load.proofs.giving.fetch.Statement.{statement}
 use Rattle.load.proofs.giving.fetch.Tie as tie
 

@@ -1,6 +1,5 @@
 use Rattle.value.proofs.Tests.{lt!, lt×}
-use mathlib.Core.Path.{_∙_, refl, sym}
-use native.Mathlib.Omega.{arith}
+use Rattle.value.specs.Prelude.{refl, sym, _∙_, arith}
 use Rattle.load.proofs.giving.given.Statement.{statement}
 use Rattle.load.proofs.giving.given.Tie as tie
 

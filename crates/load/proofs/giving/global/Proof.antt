@@ -1,10 +1,7 @@
-use Prim.Native.Nat.{_+_, ℕ}
+use Rattle.value.specs.Prelude.{ℕ, _+_, refl, _∙_, ap, needs, now}
 use Rattle.load.proofs.Conditions.{right-global}
 use Rattle.load.specs.Scan.{aValue, stand, standingAfter}
 use Rattle.value.proofs.Tests.{same-and, same-eq, same-le}
-use borrow.Author.Needs.{needs}
-use denote.Ref.{now}
-use mathlib.Core.Path.{_∙_, ap, refl}
 use Rattle.load.proofs.giving.global.Statement.{statement}
 use Rattle.load.proofs.giving.global.Tie as tie
 

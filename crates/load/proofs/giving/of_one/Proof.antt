@@ -1,8 +1,6 @@
-use Prim.Native.Nat.{_+_, ℕ}
+use Rattle.value.specs.Prelude.{ℕ, _+_, refl, _∙_, ap, needs}
 use Rattle.load.specs.Scan.{isValue, kindAt, standingAt}
 use Rattle.value.proofs.Tests.{same-and3, same-eq, same-or}
-use borrow.Author.Needs.{needs}
-use mathlib.Core.Path.{_∙_, ap, refl}
 use Rattle.load.proofs.giving.of_one.Statement.{statement}
 use Rattle.load.proofs.giving.of_one.Tie as tie
 

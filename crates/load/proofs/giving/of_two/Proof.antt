@@ -1,7 +1,6 @@
 use Rattle.load.specs.Scan.{isValue, kindAt, standingAt}
 use Rattle.value.proofs.Tests.{same-and, same-and3, same-eq}
-use borrow.Author.Needs.{needs}
-use mathlib.Core.Path.{_∙_, refl}
+use Rattle.value.specs.Prelude.{refl, _∙_, needs}
 use Rattle.load.proofs.giving.of_two.Statement.{statement}
 use Rattle.load.proofs.giving.of_two.Tie as tie
 

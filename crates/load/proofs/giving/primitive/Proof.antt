@@ -1,12 +1,11 @@
-use Rattle.load.proofs.Primitives.{giving, no-row, one-of-any, one-truth, row-choose, row-gone, row-instead, row-known, row-not, row-tick, rows-compare, rows-number, rows-truth, truth-then-two, two-alike, two-numbers, two-truths}
-use Rattle.load.specs.Lent.{state}
+use Rattle.load.proofs.Primitives.{giving, no-row, one-of-any, one-truth, row-choose, row-gone, row-instead}
+use Rattle.load.proofs.Primitives.{row-known, row-not, row-tick, rows-compare, rows-number, rows-truth}
+use Rattle.load.proofs.Primitives.{truth-then-two, two-alike, two-numbers, two-truths}
+use Rattle.load.specs.Contracts.{state}
 use Rattle.value.proofs.Rows.{missed}
 use Rattle.value.proofs.Tests.{eq!, lt×}
 use Rattle.value.specs.Primitive.{isPrimitive, isWithdrawn, kindGiven, table}
-use borrow.Author.Needs.{needs}
-use denote.Ref.{now}
-use mathlib.Core.Path.{_∙_}
-use native.Mathlib.Omega.{arith}
+use Rattle.value.specs.Prelude.{_∙_, arith, needs, now}
 use Rattle.load.proofs.giving.primitive.Statement.{statement}
 use Rattle.load.proofs.giving.primitive.Tie as tie
 

@@ -1,13 +1,8 @@
-use Prim.Native.Nat.{_+_, _≤_, ℕ}
+use Rattle.value.specs.Prelude.{ℕ, _+_, _≤_, refl, _∙_, ap, length, getD, arith, needs, now}
 use Rattle.load.proofs.Exact.Bytes.{entries-end}
 use Rattle.load.proofs.TableBytes.{entry-inside, shape-inside}
-use Rattle.program.specs.Bytes.{byte, declared, entryAt, running, shapeAt, shapeOf, sinksIn, sourcesIn}
-use Rattle.program.specs.Location.{sinks, sources}
-use borrow.Author.Needs.{needs}
-use denote.Ref.{now}
-use lib.ListN.{getD, length}
-use mathlib.Core.Path.{_∙_, ap, refl}
-use native.Mathlib.Omega.{arith}
+use Rattle.program.specs.Bytes.{byte, commandsD, entryAt, commandsR, shapeAt, shapeOf, sinksIn, sourcesIn}
+use Rattle.program.specs.Location.{sinkCount, sourceCount}
 use Rattle.load.proofs.known.facts_of.Statement.{statement}
 use Rattle.load.proofs.known.facts_of.Tie as tie
 
@@ -60,7 +55,7 @@ shared-slice-read-t21 c =
     omega (arith, at, shape-inside p (getD p (entryAt p (args .r)) 0) (pre .0 .shape (args .r) (pre .1 .0)) low)
 
 returns : tie.Need-returns
-unfolding shapeOf sourcesIn sinksIn sources sinks declared running byte
+unfolding shapeOf sourcesIn sinksIn sourceCount sinkCount commandsD commandsR byte
 returns c =
     let args = c .before .before .before .before .before .before .before .before .before .before .args in
     let p = now (args .program) in

@@ -1,14 +1,9 @@
-use Prim.Native.Nat.{_+_, _-_, _<_, _≤_, ℕ}
+use Rattle.value.specs.Prelude.{ℕ, _+_, _-_, _≤_, _<_, _≡_, refl, sym, _∙_, ap, ⊎-elim, true, getD, arith, now}
+use Rattle.program.specs.Location.{mostLocations}
 use Rattle.load.specs.Scan.{complete, settled, standingAt}
 use Rattle.value.proofs.Sweeps.{sweeps?}
 use Rattle.value.proofs.Tests.{both!, both?, cases, flags, lt?, lt×?, same-test}
 use Rattle.value.specs.Test.{_<?_, _or_}
-use denote.Ref.{now}
-use lib.ListN.{getD}
-use mathlib.Core.Bool.{true}
-use mathlib.Core.Logic.{⊎-elim}
-use mathlib.Core.Path.{_∙_, _≡_, ap, refl, sym}
-use native.Mathlib.Omega.{arith}
 use Rattle.load.proofs.reactor.complete.Statement.{statement}
 use Rattle.load.proofs.reactor.complete.Tie as tie
 
@@ -19,8 +14,8 @@ settled-none = refl
 
 abbrev Inv-loop : tie.InvT-loop
 Inv-loop standing n all₀ l₀ all l =
-    (all ≡ true → (i : ℕ) → i < l → i < 174 → settled (getD standing i 0) ≡ true)
-    × (((i : ℕ) → i < 174 → settled (getD standing i 0) ≡ true) → all ≡ true) × (l < 2016)
+    (all ≡ true → (i : ℕ) → i < l → i < mostLocations → settled (getD standing i 0) ≡ true)
+    × (((i : ℕ) → i < mostLocations → settled (getD standing i 0) ≡ true) → all ≡ true) × (l < 2016)
 
 abbrev μ-loop : tie.MeasureT-loop
 μ-loop standing n all₀ l₀ all l = n + 16 - l
@@ -52,7 +47,7 @@ unfolding complete standingAt settled
 returns c =
     let args = c .before .before .args in
     let loop = c .before .loop in
-    let all = sweeps? (λ (l : ℕ). settled (getD (now (args .standing)) l 0)) 0 174 174 refl in
+    let all = sweeps? (λ (l : ℕ). settled (getD (now (args .standing)) l 0)) 0 mostLocations mostLocations refl in
     λ kind m.
     same-test _ _
     (λ e. all .1 (λ i low high.

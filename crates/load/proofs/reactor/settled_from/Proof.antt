@@ -1,13 +1,8 @@
-use Prim.Native.Nat.{_+_, _-_, _≤_, ℕ}
-use Rattle.load.specs.Lent.{Sweeping}
+use Rattle.value.specs.Prelude.{ℕ, _+_, _-_, _≤_, _≡_, refl, sym, _∙_, ap, getD, arith, needs, now}
+use Rattle.load.specs.Contracts.{Sweeping}
 use Rattle.load.specs.Scan.{settled}
 use Rattle.value.proofs.Tests.{both!, both?, cases, flags, lt?, lt×?}
 use Rattle.value.specs.Test.{_<?_}
-use borrow.Author.Needs.{needs}
-use denote.Ref.{now}
-use lib.ListN.{getD}
-use mathlib.Core.Path.{_∙_, _≡_, ap, refl, sym}
-use native.Mathlib.Omega.{arith}
 use Rattle.load.proofs.reactor.settled_from.Statement.{statement}
 use Rattle.load.proofs.reactor.settled_from.Tie as tie
 

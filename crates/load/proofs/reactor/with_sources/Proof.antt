@@ -1,12 +1,8 @@
-use Prim.Native.Nat.{_-_, _≤_, ℕ}
+use Rattle.value.specs.Prelude.{ℕ, _-_, _≤_, _≡_, refl, _∙_, ap, arith, needs, now}
 use Rattle.load.proofs.Stands.{one-source}
-use Rattle.load.specs.Lent.{state}
+use Rattle.load.specs.Contracts.{state}
 use Rattle.load.specs.Scan.{withSources}
 use Rattle.program.specs.Bytes.{sourceKind}
-use borrow.Author.Needs.{needs}
-use denote.Ref.{now}
-use mathlib.Core.Path.{_∙_, _≡_, ap, refl}
-use native.Mathlib.Omega.{arith}
 use Rattle.load.proofs.reactor.with_sources.Statement.{statement}
 use Rattle.load.proofs.reactor.with_sources.Tie as tie
 

@@ -1,7 +1,6 @@
 use Rattle.program.specs.Kind.{contentLegal}
 use Rattle.value.proofs.Tests.{same-and3, same-eq}
-use borrow.Author.Needs.{needs}
-use mathlib.Core.Path.{_∙_, ap, refl}
+use Rattle.value.specs.Prelude.{refl, _∙_, ap, needs}
 use Rattle.load.proofs.refuse.content_formed.Statement.{statement}
 use Rattle.load.proofs.refuse.content_formed.Tie as tie
 

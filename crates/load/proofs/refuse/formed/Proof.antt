@@ -1,14 +1,9 @@
-use Prim.Native.Nat.{_+_, ℕ}
+use Rattle.value.specs.Prelude.{ℕ, _+_, _≡_, refl, _∙_, ap, Bool, arith, needs, now}
 use Rattle.load.specs.Scan.{formed}
 use Rattle.program.proofs.Decode.{as-cell, as-constant, as-consume, as-fetch, as-global, as-keep, as-make, as-mono}
 use Rattle.program.proofs.Decode.{as-poly, as-primitive, as-react, as-rest, as-sink, as-supply}
 use Rattle.value.proofs.Tests.{same-and, same-eq, same-le, same-lt}
 use Rattle.value.specs.Test.{_and_}
-use borrow.Author.Needs.{needs}
-use denote.Ref.{now}
-use mathlib.Core.Bool.{Bool}
-use mathlib.Core.Path.{_≡_, _∙_, ap, refl}
-use native.Mathlib.Omega.{arith}
 use Rattle.load.proofs.refuse.formed.Statement.{statement}
 use Rattle.load.proofs.refuse.formed.Tie as tie
 
@@ -21,14 +16,16 @@ unfolding formed
 returns c =
     let args = c .before .before .before .before .before .before .before .before .args in
     as-mono (formed (now (args .program)) (args .c)) (args .c) (omega arith)
-    (same-and (same-eq (ap (λ (v : ℕ). args .c .a + args .c .b + v) (c .before .before .before .v .ensures)) refl) (same-lt refl (c .before .reactors .ensures)))
+    (same-and (same-eq (ap (λ (v : ℕ). args .c .a + args .c .b + v) (c .before .before .before .v .ensures)) refl)
+    (same-lt refl (c .before .reactors .ensures)))
 
 returns-2 : tie.Need-returns-2
 unfolding formed
 returns-2 c =
     let args = c .before .before .before .before .before .before .before .before .args in
     as-make (formed (now (args .program)) (args .c)) (args .c) (omega arith)
-    (same-and (same-eq (ap (λ (v : ℕ). args .c .a + args .c .b + v) (c .before .before .before .v .ensures)) refl) (same-lt refl (c .before .shapes .ensures)))
+    (same-and (same-eq (ap (λ (v : ℕ). args .c .a + args .c .b + v) (c .before .before .before .v .ensures)) refl)
+    (same-lt refl (c .before .shapes .ensures)))
 
 returns-3 : tie.Need-returns-3
 unfolding formed
@@ -42,7 +39,8 @@ unfolding formed
 returns-4 c =
     let args = c .before .before .before .before .before .before .before .before .args in
     as-global (formed (now (args .program)) (args .c)) (args .c) (omega arith)
-    (same-and (same-eq (ap (λ (v : ℕ). args .c .a + args .c .b + v) (c .before .before .before .v .ensures)) refl) (same-le refl (c .before .globals .ensures)))
+    (same-and (same-eq (ap (λ (v : ℕ). args .c .a + args .c .b + v) (c .before .before .before .v .ensures)) refl)
+    (same-le refl (c .before .globals .ensures)))
 
 returns-5 : tie.Need-returns-5
 unfolding formed

@@ -1,7 +1,6 @@
 use Rattle.load.specs.Scan.{formed}
 use Rattle.value.proofs.Tests.{same-and4, same-eq, same-le, same-or}
-use borrow.Author.Needs.{needs}
-use mathlib.Core.Path.{refl}
+use Rattle.value.specs.Prelude.{refl, needs}
 use Rattle.load.proofs.refuse.primitive_formed.Statement.{statement}
 use Rattle.load.proofs.refuse.primitive_formed.Tie as tie
 

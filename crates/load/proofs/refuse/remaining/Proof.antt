@@ -1,9 +1,7 @@
-use mathlib.Core.Path.{_≡_, refl, ap}
-use mathlib.Core.Bool.{true, not}
+use Rattle.value.specs.Prelude.{_≡_, refl, ap, true, not, needs}
 use Rattle.program.specs.Command.{Cmd}
 use Rattle.program.proofs.Decode.{as-primitive, by-code}
 use Rattle.load.specs.Scan.{remaining}
-use borrow.Author.Needs.{needs}
 use Rattle.load.proofs.refuse.remaining.Statement.{statement}
 use Rattle.load.proofs.refuse.remaining.Tie as tie
 
@@ -16,7 +14,8 @@ returns c =
 
 returns-2 : tie.Need-returns-2
 unfolding remaining
-returns-2 c = as-primitive remaining (c .before .before .before .args .c) (c .before .if1 .left) (ap not (c .is-withdrawn .ensures))
+returns-2 c = as-primitive remaining (c .before .before .before .args .c) (c .before .if1 .left)
+    (ap not (c .is-withdrawn .ensures))
 
 pub remaining-spec : {M : Type 1} → statement M
 remaining-spec = tie.close (tie.spec returns (λ c κs. search needs) returns-2)

@@ -1,4 +1,4 @@
-use mathlib.Core.Path.{refl}
+use Rattle.value.specs.Prelude.{refl}
 use Rattle.value.proofs.Tests.{yes, no}
 use Rattle.load.proofs.refuse.unless.Statement.{statement}
 use Rattle.load.proofs.refuse.unless.Tie as tie

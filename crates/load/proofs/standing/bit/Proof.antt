@@ -1,6 +1,5 @@
 use Rattle.load.proofs.Bits.{bit-high, weights}
-use borrow.Author.Needs.{needs}
-use native.Mathlib.Omega.{arith}
+use Rattle.value.specs.Prelude.{arith, needs}
 use Rattle.load.proofs.standing.bit.Statement.{statement}
 use Rattle.load.proofs.standing.bit.Tie as tie
 

@@ -1,9 +1,6 @@
-use Prim.Native.Nat.{_%_, _/_, _<_, ℕ}
+use Rattle.value.specs.Prelude.{ℕ, _/_, _%_, _<_, refl, _∙_, ap, arith, needs}
 use Rattle.load.proofs.Bits.{bit-some, bit-test}
 use Rattle.value.proofs.Tests.{same-eq}
-use borrow.Author.Needs.{needs}
-use mathlib.Core.Path.{_∙_, ap, refl}
-use native.Mathlib.Omega.{arith}
 use Rattle.load.proofs.standing.has_source.Statement.{statement}
 use Rattle.load.proofs.standing.has_source.Tie as tie
 

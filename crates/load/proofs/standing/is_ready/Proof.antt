@@ -1,9 +1,7 @@
 use Rattle.load.proofs.Bits.{bit-low, bit-most, bit-some, never-ready}
 use Rattle.load.specs.Scan.{readyAt}
 use Rattle.value.proofs.Tests.{same-eq}
-use borrow.Author.Needs.{needs}
-use mathlib.Core.Path.{refl, sym}
-use native.Mathlib.Omega.{arith}
+use Rattle.value.specs.Prelude.{refl, sym, arith, needs}
 use Rattle.load.proofs.standing.is_ready.Statement.{statement}
 use Rattle.load.proofs.standing.is_ready.Tie as tie
 

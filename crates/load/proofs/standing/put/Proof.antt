@@ -1,6 +1,5 @@
-use borrow.Author.Needs.{needs}
+use Rattle.value.specs.Prelude.{refl, sym, needs}
 use lib.Seq.{set-out}
-use mathlib.Core.Path.{refl, sym}
 use Rattle.load.proofs.standing.put.Statement.{statement}
 use Rattle.load.proofs.standing.put.Tie as tie
 

@@ -1,5 +1,5 @@
 use Rattle.program.specs.Bytes.{byte}
-use borrow.Author.Needs.{needs}
+use Rattle.value.specs.Prelude.{needs}
 use Rattle.load.proofs.standing.seen.Statement.{statement}
 use Rattle.load.proofs.standing.seen.Tie as tie
 

@@ -1,6 +1,6 @@
 use Rattle.load.specs.Scan.{settled}
 use Rattle.value.proofs.Tests.{same-eq, same-lt, same-or5}
-use mathlib.Core.Path.{refl}
+use Rattle.value.specs.Prelude.{refl}
 use Rattle.load.proofs.standing.settled.Statement.{statement}
 use Rattle.load.proofs.standing.settled.Tie as tie
 

@@ -1,5 +1,5 @@
 use Rattle.load.specs.Scan.{stand}
-use borrow.Author.Needs.{needs}
+use Rattle.value.specs.Prelude.{needs}
 use Rattle.load.proofs.standing.stand.Statement.{statement}
 use Rattle.load.proofs.standing.stand.Tie as tie
 

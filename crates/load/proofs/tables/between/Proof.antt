@@ -1,5 +1,5 @@
 use Rattle.value.proofs.Tests.{same-and, same-le}
-use mathlib.Core.Path.{refl}
+use Rattle.value.specs.Prelude.{refl}
 use Rattle.load.proofs.tables.between.Statement.{statement}
 use Rattle.load.proofs.tables.between.Tie as tie
 

@@ -1,13 +1,8 @@
-use Prim.Native.Nat.{_+_, ℕ}
+use Rattle.value.specs.Prelude.{ℕ, _+_, refl, _∙_, ap, not, arith, needs, now}
 use Rattle.load.specs.Tables.{between, entryLegal, mainLegal}
 use Rattle.program.specs.Bytes.{byte, mainOf, shapes}
 use Rattle.value.proofs.Tests.{eq!, eq×, no, same-eq, same-le, yes}
 use Rattle.value.specs.Test.{_<?_, _=?_, _and_, _or_}
-use borrow.Author.Needs.{needs}
-use denote.Ref.{now}
-use mathlib.Core.Bool.{not}
-use mathlib.Core.Path.{_∙_, ap, refl}
-use native.Mathlib.Omega.{arith}
 use Rattle.load.proofs.tables.entry_legal.Statement.{statement}
 use Rattle.load.proofs.tables.entry_legal.Tie as tie
 

@@ -1,15 +1,9 @@
-use Prim.Native.Nat.{_+_, ℕ}
+use Rattle.value.specs.Prelude.{ℕ, _+_, refl, _∙_, ap, not, getD, arith, needs, now}
 use Rattle.load.proofs.TableBytes.{entries-inside, entry-declared, entry-running, entry-shape, entry-zero, four}
 use Rattle.load.specs.Tables.{between, entryLegal, mainLegal}
 use Rattle.program.specs.Bytes.{byte, mainOf, shapes}
 use Rattle.value.proofs.Tests.{same-and, same-eq, same-le}
 use Rattle.value.specs.Test.{_<?_, _=?_, _and_, _or_}
-use borrow.Author.Needs.{needs}
-use denote.Ref.{now}
-use lib.ListN.{getD}
-use mathlib.Core.Bool.{not}
-use mathlib.Core.Path.{_∙_, ap, refl}
-use native.Mathlib.Omega.{arith}
 use Rattle.load.proofs.tables.entry_passes.Statement.{statement}
 use Rattle.load.proofs.tables.entry_passes.Tie as tie
 

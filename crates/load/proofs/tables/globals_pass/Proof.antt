@@ -1,13 +1,9 @@
-use Prim.Native.Nat.{_+_, _-_, _≤_, ℕ}
+use Rattle.value.specs.Prelude.{ℕ, _+_, _-_, _≤_, _≡_, refl, _∙_, ap, arith, needs, now}
 use Rattle.load.proofs.Exact.Bytes.{globals-end}
 use Rattle.program.specs.Bytes.{byte}
 use Rattle.value.proofs.Sweeps.{sweep-more}
 use Rattle.value.proofs.Tests.{same-and, same-lt}
 use Rattle.value.specs.Test.{_<?_, _=?_, sweep}
-use borrow.Author.Needs.{needs}
-use denote.Ref.{now}
-use mathlib.Core.Path.{_∙_, _≡_, ap, refl}
-use native.Mathlib.Omega.{arith}
 use Rattle.load.proofs.tables.globals_pass.Statement.{statement}
 use Rattle.load.proofs.tables.globals_pass.Tie as tie
 

@@ -1,12 +1,8 @@
-use Prim.Native.Nat.{_-_, _≤_}
+use Rattle.value.specs.Prelude.{_-_, _≤_, _≡_, refl, sym, _∙_, arith, needs, now}
 use Rattle.load.specs.Tables.{headerLegal}
 use Rattle.value.proofs.Sweeps.{sweep-done, sweep-found, sweep-next}
 use Rattle.value.proofs.Tests.{passed, refused}
 use Rattle.value.specs.Test.{sweep}
-use borrow.Author.Needs.{needs}
-use denote.Ref.{now}
-use mathlib.Core.Path.{_∙_, _≡_, refl, sym}
-use native.Mathlib.Omega.{arith}
 use Rattle.load.proofs.tables.header_fault.Statement.{statement}
 use Rattle.load.proofs.tables.header_fault.Tie as tie
 
@@ -25,8 +21,12 @@ returns c =
     (refused (c .before .header-legal .ensures) (c .if1 .taken)) ∙ sym (c .before .before .before .loop .inv .0)
 
 loop-again : tie.Need-loop-again Inv-loop μ-loop
-loop-again c =
-    (c .before .before .before .loop .inv .0 ∙ sweep-next (headerLegal (now (c .before .before .before .before .before .args .program))) _ 8 (omega arith) (passed (c .before .header-legal .ensures) (c .if1 .left)), omega arith)
+loop-again c = (
+  c .before .before .before .loop .inv .0
+      ∙ sweep-next (headerLegal (now (c .before .before .before .before .before .args .program))) _ 8 (omega arith)
+      (passed (c .before .header-legal .ensures) (c .if1 .left)),
+  omega arith,
+)
 
 returns-2 : tie.Need-returns-2 Inv-loop μ-loop
 returns-2 c =

@@ -1,9 +1,7 @@
 use Rattle.load.proofs.TableBytes.{eight}
 use Rattle.load.specs.Tables.{headerLegal}
 use Rattle.value.proofs.Tests.{same-and}
-use borrow.Author.Needs.{needs}
-use denote.Ref.{now}
-use mathlib.Core.Path.{_∙_}
+use Rattle.value.specs.Prelude.{_∙_, needs, now}
 use Rattle.load.proofs.tables.header_passes.Statement.{statement}
 use Rattle.load.proofs.tables.header_passes.Tie as tie
 

@@ -1,16 +1,10 @@
-use Prim.Native.Nat.{_+_, _-_, _≤_, ℕ}
+use Rattle.value.specs.Prelude.{ℕ, _+_, _-_, _≤_, _≡_, refl, sym, _∙_, ap, Bool, getD, arith, needs, now}
 use Rattle.load.proofs.Conditions.{and-right, and-true}
 use Rattle.load.specs.Tables.{mainLegal}
 use Rattle.program.specs.Bytes.{byte, sinkKind, sourcesIn}
 use Rattle.value.proofs.Sweeps.{sweep-more}
 use Rattle.value.proofs.Tests.{same-and, same-eq, same-lt}
 use Rattle.value.specs.Test.{_<?_, _=?_, _and_, sweep}
-use borrow.Author.Needs.{needs}
-use denote.Ref.{now}
-use lib.ListN.{getD}
-use mathlib.Core.Bool.{Bool}
-use mathlib.Core.Path.{_∙_, _≡_, ap, refl, sym}
-use native.Mathlib.Omega.{arith}
 use Rattle.load.proofs.tables.main_fits.Statement.{statement}
 use Rattle.load.proofs.tables.main_fits.Tie as tie
 

@@ -1,8 +1,6 @@
 use Rattle.load.specs.Tables.{portLegal}
 use Rattle.value.proofs.Tests.{lt!, lt×, no, same-eq, same-lt, yes}
-use borrow.Author.Needs.{needs}
-use mathlib.Core.Path.{refl}
-use native.Mathlib.Omega.{arith}
+use Rattle.value.specs.Prelude.{refl, arith, needs}
 use Rattle.load.proofs.tables.port_legal.Statement.{statement}
 use Rattle.load.proofs.tables.port_legal.Tie as tie
 

@@ -1,16 +1,11 @@
-use Prim.Native.Nat.{_+_, _-_, _≤_, ℕ}
+use Rattle.value.specs.Prelude.{ℕ, _+_, _-_, _≤_, _≡_, refl, _∙_, ap, ⊎-elim, getD, arith, now}
 use Rattle.load.proofs.TableBytes.{port-low, port-past}
 use Rattle.load.specs.Tables.{portLegal}
 use Rattle.program.specs.Bytes.{byte}
 use Rattle.value.proofs.Sweeps.{sweep-more}
 use Rattle.value.proofs.Tests.{same-and, same-le}
 use Rattle.value.specs.Test.{_=?_, sweep}
-use denote.Ref.{now}
 use lib.Dec.{leb}
-use lib.ListN.{getD}
-use mathlib.Core.Logic.{⊎-elim}
-use mathlib.Core.Path.{_∙_, _≡_, ap, refl}
-use native.Mathlib.Omega.{arith}
 use Rattle.load.proofs.tables.ports_pass.Statement.{statement}
 use Rattle.load.proofs.tables.ports_pass.Tie as tie
 

@@ -2,11 +2,7 @@ use Rattle.load.proofs.TableBytes.{shape-inside}
 use Rattle.load.specs.Tables.{mainLegal}
 use Rattle.value.proofs.Tests.{both!, either!, eq!, eq×, left×, lt!, lt×, true-and}
 use Rattle.value.specs.Test.{_or_}
-use borrow.Author.Needs.{needs}
-use denote.Ref.{now}
-use mathlib.Core.Bool.{Bool, not}
-use mathlib.Core.Path.{_∙_, ap, sym}
-use native.Mathlib.Omega.{arith}
+use Rattle.value.specs.Prelude.{sym, _∙_, ap, Bool, not, arith, needs, now}
 use Rattle.load.proofs.tables.shape_fits.Statement.{statement}
 use Rattle.load.proofs.tables.shape_fits.Tie as tie
 

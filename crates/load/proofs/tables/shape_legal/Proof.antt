@@ -1,10 +1,7 @@
-use Prim.Native.Nat.{_-_, ℕ}
+use Rattle.value.specs.Prelude.{ℕ, _-_, refl, _∙_, ap, arith, needs}
 use Rattle.load.specs.Tables.{between, portLegal, shapeLegal}
 use Rattle.program.specs.Bytes.{byte}
 use Rattle.value.proofs.Tests.{eq!, eq×, lt!, lt×, no, same-le, yes}
-use borrow.Author.Needs.{needs}
-use mathlib.Core.Path.{_∙_, ap, refl}
-use native.Mathlib.Omega.{arith}
 use Rattle.load.proofs.tables.shape_legal.Statement.{statement}
 use Rattle.load.proofs.tables.shape_legal.Tie as tie
 
@@ -16,7 +13,8 @@ returns-2 : tie.Need-returns-2
 unfolding shapeLegal
 returns-2 c =
     no _ (eq× (c .before .before .if1 .left))
-    (yes _ (eq! (omega arith)) (c .between .ensures ∙ ap (between 1 7) (c .before .before .before .byte .ensures ∙ ap (byte _) (omega arith))))
+    (yes _ (eq! (omega arith))
+    (c .between .ensures ∙ ap (between 1 7) (c .before .before .before .byte .ensures ∙ ap (byte _) (omega arith))))
 
 returns-3 : tie.Need-returns-3
 unfolding shapeLegal

@@ -1,14 +1,9 @@
-use Prim.Native.Nat.{_+_, ℕ}
+use Rattle.value.specs.Prelude.{ℕ, _+_, refl, _∙_, ap, getD, arith, needs, now}
 use Rattle.load.proofs.TableBytes.{shape-row}
 use Rattle.load.specs.Tables.{between, portLegal}
 use Rattle.program.specs.Bytes.{byte, sinkKind, sinksIn, sourceKind, sourcesIn}
 use Rattle.value.proofs.Tests.{same-and, same-le}
 use Rattle.value.specs.Test.{_=?_, sweep}
-use borrow.Author.Needs.{needs}
-use denote.Ref.{now}
-use lib.ListN.{getD}
-use mathlib.Core.Path.{_∙_, ap, refl}
-use native.Mathlib.Omega.{arith}
 use Rattle.load.proofs.tables.shape_passes.Statement.{statement}
 use Rattle.load.proofs.tables.shape_passes.Tie as tie
 

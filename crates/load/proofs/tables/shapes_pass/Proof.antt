@@ -1,14 +1,10 @@
-use Prim.Native.Nat.{_-_, _≤_, ℕ}
+use Rattle.value.specs.Prelude.{ℕ, _-_, _≤_, _≡_, refl, _∙_, ap, arith, needs, now}
 use Rattle.load.proofs.TableBytes.{shape-inside, shape-next}
 use Rattle.load.specs.Tables.{shapeLegal}
 use Rattle.program.specs.Bytes.{shapeAt}
 use Rattle.value.proofs.Sweeps.{sweep-more}
 use Rattle.value.proofs.Tests.{same-and}
 use Rattle.value.specs.Test.{_=?_, sweep}
-use borrow.Author.Needs.{needs}
-use denote.Ref.{now}
-use mathlib.Core.Path.{_∙_, _≡_, ap, refl}
-use native.Mathlib.Omega.{arith}
 use Rattle.load.proofs.tables.shapes_pass.Statement.{statement}
 use Rattle.load.proofs.tables.shapes_pass.Tie as tie
 

@@ -1,13 +1,9 @@
-use Prim.Native.Nat.{_-_, _≤_}
+use Rattle.value.specs.Prelude.{_-_, _≤_, _≡_, refl, sym, _∙_, arith, needs, now}
 use Rattle.load.specs.Tables.{tableLegal}
 use Rattle.program.specs.Bytes.{entryAt, shapeAt, tablesEnd}
 use Rattle.value.proofs.Sweeps.{sweep-done, sweep-found, sweep-next}
 use Rattle.value.proofs.Tests.{passed, refused}
 use Rattle.value.specs.Test.{sweep}
-use borrow.Author.Needs.{needs}
-use denote.Ref.{now}
-use mathlib.Core.Path.{_∙_, _≡_, refl, sym}
-use native.Mathlib.Omega.{arith}
 use Rattle.load.proofs.tables.table_fault.Statement.{statement}
 use Rattle.load.proofs.tables.table_fault.Tie as tie
 

@@ -1,12 +1,8 @@
-use Prim.Native.Nat.{_%_, _-_, _/_, ℕ}
+use Rattle.value.specs.Prelude.{ℕ, _-_, _/_, _%_, refl, _∙_, ap, arith, needs, now}
 use Rattle.load.proofs.Exact.Bytes.{entries-end}
 use Rattle.load.specs.Tables.{entryLegal, shapeLegal, tableLegal}
 use Rattle.program.specs.Bytes.{byte, entryAt, reactors, shapeAt, shapes, tablesEnd}
 use Rattle.value.proofs.Tests.{lt!, lt×, no, same-lt, yes}
-use borrow.Author.Needs.{needs}
-use denote.Ref.{now}
-use mathlib.Core.Path.{_∙_, ap, refl}
-use native.Mathlib.Omega.{arith}
 use Rattle.load.proofs.tables.table_legal.Statement.{statement}
 use Rattle.load.proofs.tables.table_legal.Tie as tie
 

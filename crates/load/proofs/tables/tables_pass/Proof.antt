@@ -1,9 +1,7 @@
 use Rattle.load.proofs.Exact.Bytes.{entries-end, shapes-end}
 use Rattle.load.proofs.TableBytes.{all-rows}
 use Rattle.value.proofs.Tests.{same-and3}
-use denote.Ref.{now}
-use mathlib.Core.Path.{_∙_}
-use native.Mathlib.Omega.{arith}
+use Rattle.value.specs.Prelude.{_∙_, arith, now}
 use Rattle.load.proofs.tables.tables_pass.Statement.{statement}
 use Rattle.load.proofs.tables.tables_pass.Tie as tie
 

@@ -1,13 +1,10 @@
-use Prim.Native.Nat.{_+_, ℕ}
+use Rattle.value.specs.Prelude.{ℕ, _+_, refl, _∙_, ap, needs, now}
 use Rattle.load.proofs.Conditions.{right-poly}
 use Rattle.load.proofs.Stands.{stands-as}
-use Rattle.load.specs.Lent.{state}
+use Rattle.load.specs.Contracts.{state}
 use Rattle.load.specs.Scan.{isValue, kindAt, stand, standingAfter, standingAt, usedPoint, waiting}
 use Rattle.load.specs.declared.Scan.{Scan}
 use Rattle.value.proofs.Tests.{no, same-and, same-and3, same-eq, yes}
-use borrow.Author.Needs.{needs}
-use denote.Ref.{now}
-use mathlib.Core.Path.{_∙_, ap, refl}
 use Rattle.load.proofs.take.alloc_poly.Statement.{statement}
 use Rattle.load.proofs.take.alloc_poly.Tie as tie
 

@@ -1,12 +1,9 @@
-use Prim.Native.Nat.{_+_, ℕ}
+use Rattle.value.specs.Prelude.{ℕ, _+_, refl, ap, needs, now}
 use Rattle.load.proofs.Conditions.{right-keep}
 use Rattle.load.proofs.Stands.{stands-as}
-use Rattle.load.specs.Lent.{state}
+use Rattle.load.specs.Contracts.{state}
 use Rattle.load.specs.Scan.{isValue, kindAt, standingAfter, standingAt}
 use Rattle.value.proofs.Tests.{no, same-and, same-and3, same-eq, yes}
-use borrow.Author.Needs.{needs}
-use denote.Ref.{now}
-use mathlib.Core.Path.{ap, refl}
 use Rattle.load.proofs.take.keep.Statement.{statement}
 use Rattle.load.proofs.take.keep.Tie as tie
 

@@ -1,7 +1,7 @@
-use Prim.Native.Nat.{_+_, ℕ}
+use Rattle.value.specs.Prelude.{ℕ, _+_, refl, _∙_, ap, subst, Bool, arith, needs, now}
 use Rattle.load.proofs.Conditions.{right-cell, right-make, right-mono}
 use Rattle.load.proofs.Sequence.{making, other-d}
-use Rattle.load.specs.Lent.{Making}
+use Rattle.load.specs.Contracts.{Making}
 use Rattle.load.specs.Scan.{formed, inSequence, stand, standingAfter, waiting}
 use Rattle.load.specs.declared.Location.{Location}
 use Rattle.program.proofs.Decode.{as-cell, as-make, as-mono}
@@ -9,11 +9,6 @@ use Rattle.program.specs.Command.{Cmd, sequenceOf, vOf}
 use Rattle.program.specs.Kind.{contentLegal}
 use Rattle.value.proofs.Tests.{lt×, same-and, same-eq, same-le, same-lt}
 use Rattle.value.specs.Test.{_<?_, _=?_, _and_, pick}
-use borrow.Author.Needs.{needs}
-use denote.Ref.{now}
-use mathlib.Core.Bool.{Bool}
-use mathlib.Core.Path.{_∙_, ap, refl, subst}
-use native.Mathlib.Omega.{arith}
 use Rattle.load.proofs.take.made.Statement.{statement}
 use Rattle.load.proofs.take.made.Tie as tie
 

@@ -1,5 +1,5 @@
 use Rattle.value.proofs.Tests.{no, yes}
-use mathlib.Core.Path.{refl}
+use Rattle.value.specs.Prelude.{refl}
 use Rattle.load.proofs.take.placed.Statement.{statement}
 use Rattle.load.proofs.take.placed.Tie as tie
 

@@ -1,13 +1,10 @@
-use Prim.Native.Nat.{_+_, ℕ}
+use Rattle.value.specs.Prelude.{ℕ, _+_, refl, _∙_, ap, needs, now}
 use Rattle.load.proofs.Conditions.{right-react}
 use Rattle.load.proofs.Stands.{port-sources, stands-as}
-use Rattle.load.specs.Lent.{state}
+use Rattle.load.specs.Contracts.{state}
 use Rattle.load.specs.Scan.{kindAt, readyAt, standingAfter, standingAt}
 use Rattle.value.proofs.Tests.{no, same-and, same-eq, yes}
 use Rattle.value.specs.Test.{_=?_}
-use borrow.Author.Needs.{needs}
-use denote.Ref.{now}
-use mathlib.Core.Path.{_∙_, ap, refl}
 use Rattle.load.proofs.take.react.Statement.{statement}
 use Rattle.load.proofs.take.react.Tie as tie
 

@@ -1,16 +1,11 @@
-use Prim.Native.Nat.{_+_, ℕ}
+use Rattle.value.specs.Prelude.{ℕ, _+_, _≡_, refl, _∙_, ap, getD, arith, needs, now}
 use Rattle.load.proofs.Conditions.{right-sink}
 use Rattle.load.proofs.Stands.{port-sink, stands}
-use Rattle.load.specs.Lent.{state}
+use Rattle.load.specs.Contracts.{state}
 use Rattle.load.specs.Scan.{isValue, kindAt, standingAfter, standingAt}
 use Rattle.program.specs.Bytes.{byte, commandsIn}
 use Rattle.program.specs.Location.{sinkLoc}
 use Rattle.value.proofs.Tests.{no, same-and, same-and4, same-eq, same-lt, yes}
-use borrow.Author.Needs.{needs}
-use denote.Ref.{now}
-use lib.ListN.{getD}
-use mathlib.Core.Path.{_∙_, _≡_, ap, refl}
-use native.Mathlib.Omega.{arith}
 use Rattle.load.proofs.take.sink.Statement.{statement}
 use Rattle.load.proofs.take.sink.Tie as tie
 

@@ -1,18 +1,12 @@
-use Prim.Native.Nat.{_%_, _/_, _<_, _^_, ℕ}
+use Rattle.value.specs.Prelude.{ℕ, _/_, _%_, _^_, _<_, refl, sym, _∙_, ap, not, getD, arith, needs, now}
 use Rattle.load.proofs.Bits.{bit-low, bit-most, bit-room}
 use Rattle.load.proofs.Conditions.{right-supply}
 use Rattle.load.proofs.Shapes.{free-source}
 use Rattle.load.proofs.Stands.{port-source, port-sources, stands-as}
-use Rattle.load.specs.Lent.{state}
+use Rattle.load.specs.Contracts.{state}
 use Rattle.load.specs.Scan.{isSupplied, isValue, kindAt, standingAfter, standingAt}
 use Rattle.value.proofs.Tests.{no, same-and, same-and3, same-eq, same-le, same-lt, yes}
 use Rattle.value.specs.Test.{_=?_}
-use borrow.Author.Needs.{needs}
-use denote.Ref.{now}
-use lib.ListN.{getD}
-use mathlib.Core.Bool.{not}
-use mathlib.Core.Path.{_∙_, ap, refl, sym}
-use native.Mathlib.Omega.{arith}
 use Rattle.load.proofs.take.supply.Statement.{statement}
 use Rattle.load.proofs.take.supply.Tie as tie
 

@@ -1,7 +1,5 @@
 use Rattle.value.proofs.Tests.{lt!, lt×, no, yes}
-use borrow.Author.Needs.{needs}
-use mathlib.Core.Path.{refl, sym}
-use native.Mathlib.Omega.{arith}
+use Rattle.value.specs.Prelude.{refl, sym, arith, needs}
 use Rattle.load.proofs.take.value.Statement.{statement}
 use Rattle.load.proofs.take.value.Tie as tie
 

@@ -1,15 +1,11 @@
-use Prim.Native.Nat.{_+_}
+use Rattle.value.specs.Prelude.{_+_, _≡_, ap, true, false, arith, needs}
 use Rattle.machine.proofs.Acting.{stored-at}
 use Rattle.machine.proofs.Allocating.{has-room, no-room, slot-placed}
-use Rattle.machine.specs.Act.{ranAs}
+use Rattle.machine.specs.Contracts.{ranAs}
 use Rattle.remus.specs.Exec.{allocated, exec}
 use Rattle.remus.specs.Run.{entered, ran}
 use Rattle.value.proofs.Tests.{le?, lt!, lt×, passed, refused}
 use Rattle.value.specs.Test.{_<?_}
-use borrow.Author.Needs.{needs}
-use mathlib.Core.Bool.{false, true}
-use mathlib.Core.Path.{_≡_, ap}
-use native.Mathlib.Omega.{arith}
 use Rattle.machine.proofs.allocate.alloc_mono.Statement.{statement}
 use Rattle.machine.proofs.allocate.alloc_mono.Tie as tie
 
@@ -17,7 +13,7 @@ returns : tie.Need-returns
 unfolding exec allocated entered ranAs
 returns c =
     let args = c .before .before .args in
-    let e : (64 <? args .h + 1) ≡ true = lt! (omega arith) in λ p o i f few l s at enter rd. rw e
+    let e : (64 <? args .h + 1) ≡ true = lt! (omega arith) in λ p o i f l s at enter rd. rw e
 
 returns-2 : tie.Need-returns-2
 unfolding exec allocated entered ranAs
@@ -26,8 +22,8 @@ returns-2 c =
     let at-fact = c .before .before .before .before .fact in
     let args = c .before .before .before .before .before .before .before .args in
     let e : (64 <? args .h + 1) ≡ false = lt× (omega arith) in
-    λ p o i f few l s at enter rd.
-    let size = at-size .ensures .0 p _ (at-fact .ensures .1 .1 p f l (omega arith)) in
+    λ p o i f l s at enter rd.
+    let size = at-size .ensures .0 p _ (at-fact .ensures .1 .1 p f l) in
     rw (e, no-room p _ _ _ size (refused (c .before .room .ensures) (c .if2 .taken)))
 
 place-new-requires : tie.Need-place-new-requires
@@ -49,8 +45,8 @@ returns-3 c =
     let at-fact = then .before .before .before .fact in
     let args = then .before .before .before .before .before .before .args in
     let e : (64 <? args .h + 1) ≡ false = lt× (omega arith) in
-    λ p o i f few l s at enter rd.
-    let size = at-size .ensures .0 p _ (at-fact .ensures .1 .1 p f l (omega arith)) in
+    λ p o i f l s at enter rd.
+    let size = at-size .ensures .0 p _ (at-fact .ensures .1 .1 p f l) in
     let new = at-place-new .ensures p size in
     rw (e, has-room p _ _ _ size (passed (at-room .ensures) (at-if2 .left)), ← new, ← at-used .ensures)
     (ap ran (stored-at p _ o _ _ (slot-placed p _ _ _ _ o _ _ s new at) _ (at-put-pair .ensures)))

@@ -1,10 +1,10 @@
 use Rattle.machine.proofs.Acting.{content-at, stored-at}
 use Rattle.machine.proofs.Allocating.{slot-placed, slot-stored}
-use Rattle.machine.specs.Act.{acted}
+use Rattle.machine.specs.Contracts.{acted}
 use Rattle.program.specs.Command.{takesWords}
 use Rattle.remus.specs.Exec.{branched}
 use Rattle.value.specs.Test.{pick}
-use borrow.Author.Needs.{needs}
+use Rattle.value.specs.Prelude.{needs}
 use Rattle.machine.proofs.allocate.branch.Statement.{statement}
 use Rattle.machine.proofs.allocate.branch.Tie as tie
 

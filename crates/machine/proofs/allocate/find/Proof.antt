@@ -1,9 +1,7 @@
 use Rattle.machine.proofs.Chains.{find-end, find-hit, find-next, find-out}
 use Rattle.program.specs.Bytes.{reactors}
 use Rattle.remus.specs.Exec.{find}
-use borrow.Author.Needs.{needs}
-use mathlib.Core.Path.{_∙_, _≡_, sym}
-use native.Mathlib.Omega.{arith}
+use Rattle.value.specs.Prelude.{_≡_, sym, _∙_, arith, needs}
 use Rattle.machine.proofs.allocate.find.Statement.{statement}
 use Rattle.machine.proofs.allocate.find.Tie as tie
 

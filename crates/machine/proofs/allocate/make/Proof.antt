@@ -1,13 +1,9 @@
-use Prim.Native.Nat.{_+_}
+use Rattle.value.specs.Prelude.{_+_, _≡_, true, false, arith, needs}
 use Rattle.machine.proofs.Allocating.{has-room, no-room}
-use Rattle.machine.specs.Act.{acted}
+use Rattle.machine.specs.Contracts.{acted}
 use Rattle.remus.specs.Exec.{branched, chosen}
 use Rattle.value.proofs.Tests.{le?, lt!, lt×, passed, refused}
 use Rattle.value.specs.Test.{_<?_}
-use borrow.Author.Needs.{needs}
-use mathlib.Core.Bool.{false, true}
-use mathlib.Core.Path.{_≡_}
-use native.Mathlib.Omega.{arith}
 use Rattle.machine.proofs.allocate.make.Statement.{statement}
 use Rattle.machine.proofs.allocate.make.Tie as tie
 
@@ -15,7 +11,7 @@ returns : tie.Need-returns
 unfolding chosen branched acted
 returns c =
     let args = c .before .before .args in
-    let e : (64 <? args .h + 1) ≡ true = lt! (omega arith) in λ p rd o i j k f few l s b at. rw e
+    let e : (64 <? args .h + 1) ≡ true = lt! (omega arith) in λ p rd o i j k f l s b at. rw e
 
 returns-2 : tie.Need-returns-2
 unfolding chosen branched acted
@@ -24,8 +20,8 @@ returns-2 c =
     let at-fact = c .before .before .before .before .fact in
     let args = c .before .before .before .before .before .before .before .args in
     let e : (64 <? args .h + 1) ≡ false = lt× (omega arith) in
-    λ p rd o i j k f few l s b at.
-    let size = at-size .ensures .0 p _ (at-fact .ensures .1 .1 p f l (omega arith)) in
+    λ p rd o i j k f l s b at.
+    let size = at-size .ensures .0 p _ (at-fact .ensures .1 .1 p f l) in
     rw (e, no-room p _ _ _ size (refused (c .before .room .ensures) (c .if2 .taken)))
 
 branch-requires : tie.Need-branch-requires
@@ -43,8 +39,8 @@ returns-3 c =
     let at-fact = c .before .before .before .before .before .before .before .before .fact in
     let args = c .before .before .before .before .before .before .before .before .before .before .before .args in
     let e : (64 <? args .h + 1) ≡ false = lt× (omega arith) in
-    λ p rd o i j k f few l s b at.
-    let size = at-size .ensures .0 p _ (at-fact .ensures .1 .1 p f l (omega arith)) in
+    λ p rd o i j k f l s b at.
+    let size = at-size .ensures .0 p _ (at-fact .ensures .1 .1 p f l) in
     rw (e, has-room p _ _ _ size (passed (at-room .ensures) (at-if2 .left)))
     (at-branch .ensures p rd _ o i j k size s b at)
 

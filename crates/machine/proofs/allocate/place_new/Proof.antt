@@ -1,10 +1,10 @@
-use Rattle.image.specs.Memory.{place}
-use borrow.Author.Needs.{needs}
+use Rattle.image.specs.Memory.{deploy}
+use Rattle.value.specs.Prelude.{needs}
 use Rattle.machine.proofs.allocate.place_new.Statement.{statement}
 use Rattle.machine.proofs.allocate.place_new.Tie as tie
 
 returns : tie.Need-returns
-unfolding place
+unfolding deploy
 returns c =
     let at-set-used = c .before .before .set-used in
     let at-put3 = c .before .before .before .before .before .before .put3 in

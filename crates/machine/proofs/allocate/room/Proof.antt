@@ -1,6 +1,5 @@
 use Rattle.value.proofs.Tests.{same-le}
-use borrow.Author.Needs.{needs}
-use mathlib.Core.Path.{refl}
+use Rattle.value.specs.Prelude.{refl, needs}
 use Rattle.machine.proofs.allocate.room.Statement.{statement}
 use Rattle.machine.proofs.allocate.room.Tie as tie
 

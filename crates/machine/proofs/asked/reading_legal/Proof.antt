@@ -1,4 +1,4 @@
-use borrow.Author.Needs.{needs}
+use Rattle.value.specs.Prelude.{needs}
 use Rattle.machine.proofs.asked.reading_legal.Statement.{statement}
 use Rattle.machine.proofs.asked.reading_legal.Tie as tie
 

@@ -1,10 +1,7 @@
-use Prim.Native.Nat.{_+_}
+use Rattle.value.specs.Prelude.{_+_, _≡_, _∙_, arith, needs}
 use Rattle.machine.proofs.Chains.{below-here, below-next, below-out}
 use Rattle.program.specs.Bytes.{reactors}
 use Rattle.remus.specs.Undo.{below}
-use borrow.Author.Needs.{needs}
-use mathlib.Core.Path.{_∙_, _≡_}
-use native.Mathlib.Omega.{arith}
 use Rattle.machine.proofs.back.first_below.Statement.{statement}
 use Rattle.machine.proofs.back.first_below.Tie as tie
 
@@ -23,7 +20,8 @@ returns c = below-here _ _ _ _ (c .before .loop-test .taken) (omega arith) ∙ c
 loop-again : tie.Need-loop-again Inv-loop μ-loop
 loop-again c =
     let at-loop = c .before .before .before .loop in
-    rw (c .next .ensures) (below-next _ _ _ _ (c .before .before .loop-test .taken) (c .before .if1 .left) ∙ at-loop .inv)
+    rw (c .next .ensures)
+    (below-next _ _ _ _ (c .before .before .loop-test .taken) (c .before .if1 .left) ∙ at-loop .inv)
 
 returns-2 : tie.Need-returns-2 Inv-loop μ-loop
 returns-2 c = below-out _ _ _ _ (omega arith) ∙ c .before .loop .inv
@@ -32,5 +30,6 @@ pub first-below-spec : {M : Type 1} → statement M
 first-below-spec =
     tie.close
     (tie.spec
-    Inv-loop μ-loop (λ c κs. search needs) (λ c. search needs) (λ c. search needs) loop-holds returns (λ c κs. search needs)
+    Inv-loop μ-loop (λ c κs. search needs) (λ c. search needs)
+    (λ c. search needs) loop-holds returns (λ c κs. search needs)
     (λ c. omega arith) (λ c. omega arith) loop-again returns-2)

@@ -1,6 +1,6 @@
 use Rattle.machine.proofs.Clears.{slots-inside, slots-low}
 use Rattle.remus.specs.Undo.{oneBack}
-use borrow.Author.Needs.{needs}
+use Rattle.value.specs.Prelude.{needs}
 use Rattle.machine.proofs.back.one_back.Statement.{statement}
 use Rattle.machine.proofs.back.one_back.Tie as tie
 

@@ -1,6 +1,6 @@
 use Rattle.image.specs.Memory.{content, store}
 use Rattle.remus.specs.Undo.{slotBack}
-use borrow.Author.Needs.{needs}
+use Rattle.value.specs.Prelude.{needs}
 use Rattle.machine.proofs.back.point_back.Statement.{statement}
 use Rattle.machine.proofs.back.point_back.Tie as tie
 

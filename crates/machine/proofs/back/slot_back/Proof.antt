@@ -1,6 +1,5 @@
 use Rattle.machine.proofs.Passing.{slot-other, slot-point}
-use borrow.Author.Needs.{needs}
-use mathlib.Core.Path.{_∙_, sym}
+use Rattle.value.specs.Prelude.{sym, _∙_, needs}
 use Rattle.machine.proofs.back.slot_back.Statement.{statement}
 use Rattle.machine.proofs.back.slot_back.Tie as tie
 

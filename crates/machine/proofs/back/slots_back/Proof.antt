@@ -1,22 +1,18 @@
-use Prim.Native.Nat.{_-_}
+use Rattle.value.specs.Prelude.{_-_, _≡_, refl, _∙_, length, arith, needs}
 use Rattle.image.specs.Memory.{reactor}
 use Rattle.machine.proofs.Passing.{slots-done, slots-next}
-use Rattle.machine.proofs.Told.{code-at, slot-row, told}
-use Rattle.program.specs.Bytes.{declared}
+use Rattle.machine.proofs.FactLaws.{code-at, slot-row, told}
+use Rattle.program.specs.Bytes.{commandsD}
 use Rattle.program.specs.Command.{bytesOf, cmdOf}
 use Rattle.program.specs.Location.{commandLoc}
 use Rattle.remus.specs.Undo.{slotsBack}
-use borrow.Author.Needs.{needs}
-use lib.ListN.{length}
-use mathlib.Core.Path.{_∙_, _≡_, refl}
-use native.Mathlib.Omega.{arith}
 use Rattle.machine.proofs.back.slots_back.Statement.{statement}
 use Rattle.machine.proofs.back.slots_back.Tie as tie
 
 abbrev Inv-loop : tie.InvT-loop
 Inv-loop program facts memory₀ u o at first n j₀ memory j =
     (length memory ≡ length memory₀) × (reactor memory o ≡ reactor memory₀ o)
-    × (slotsBack program u (n - j) j memory o ≡ slotsBack program u (declared program (reactor memory₀ o)) 0 memory₀ o)
+    × (slotsBack program u (n - j) j memory o ≡ slotsBack program u (commandsD program (reactor memory₀ o)) 0 memory₀ o)
 
 abbrev μ-loop : tie.MeasureT-loop
 μ-loop program facts memory₀ u o at first n j₀ memory j = n - j
@@ -26,10 +22,10 @@ loop-holds c =
     let pre = c .before .before .before .before .before .before .before .before .pre in
     let at-reactor = c .before .before .before .before .reactor in
     let at-fact = c .before .before .before .fact in
-    let at-declared = c .declared in
+    let at-declared = c .commands-d in
     let args = c .before .before .before .before .before .before .before .before .args in
     let known = told (pre .0) (at-reactor .ensures) (pre .1) (at-fact .ensures .1 .1) in
-    let e : at-declared .result - 0 ≡ declared (args .program .now) (reactor (args .memory .now) (args .o)) = omega
+    let e : at-declared .result - 0 ≡ commandsD (args .program .now) (reactor (args .memory .now) (args .o)) = omega
     (arith, at-declared .ensures _ _ known) in
     (refl, refl, rw e)
 
@@ -40,7 +36,7 @@ loop-again c =
     let pre = c′ .before .before .before .before .before .before .before .pre in
     let at-reactor = c′ .before .before .before .reactor in
     let at-fact = c′ .before .before .fact in
-    let at-declared = c .before .before .before .before .before .before .before .declared in
+    let at-declared = c .before .before .before .before .before .before .before .commands-d in
     let at-loop = c .before .before .before .before .before .before .loop in
     let args = c′ .before .before .before .before .before .before .before .args in
     let at-slots-d = c′ .slots-d in

@@ -1,5 +1,4 @@
-use borrow.Author.Needs.{needs}
-use mathlib.Core.Path.{refl}
+use Rattle.value.specs.Prelude.{refl, needs}
 use Rattle.machine.proofs.calls.complete.Statement.{statement}
 use Rattle.machine.proofs.calls.complete.Tie as tie
 

@@ -1,8 +1,7 @@
 use Rattle.machine.proofs.Turning.{clock-after, run-stopped, run-whole, same-turned, undone, workable}
-use Rattle.machine.specs.Answer.{turned}
-use Rattle.remus.specs.Turn.{byRun, refused}
-use borrow.Author.Needs.{needs}
-use mathlib.Core.Path.{_∙_, refl}
+use Rattle.machine.specs.Contracts.{turned}
+use Rattle.remus.specs.Turn.{byRun, turnRefused}
+use Rattle.value.specs.Prelude.{refl, _∙_, needs}
 use Rattle.machine.proofs.calls.run_main.Statement.{statement}
 use Rattle.machine.proofs.calls.run_main.Tie as tie
 
@@ -48,7 +47,7 @@ returns c =
     rw (run-whole _ _ _ _ e) (at-complete .ensures)
 
 returns-2 : tie.Need-returns-2
-unfolding byRun refused turned
+unfolding byRun turnRefused turned
 returns-2 c =
     let at-give-back = c .before .before .give-back in
     let at-w = c .before .before .before .before .before .w in

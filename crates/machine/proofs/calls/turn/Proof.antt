@@ -1,20 +1,10 @@
-use Prim.Native.Nat.{ℕ}
 use Rattle.load.specs.Check.{checked}
 use Rattle.machine.proofs.Safety.{sure}
-use Rattle.machine.specs.Answer.{turned}
-use Rattle.remus.specs.Turn.{Turn, numberOf, placeOf, byCheck, refused, turnOf}
-use Rattle.remus.specs.declared.Turned.{Turned}
-use borrow.Author.Needs.{needs}
-use mathlib.Core.List.{List}
-use mathlib.Core.Path.{_≡_, ap, refl, sym}
+use Rattle.machine.specs.Contracts.{turned}
+use Rattle.remus.specs.Turn.{byCheck, turnRefused, turnOf}
+use Rattle.value.specs.Prelude.{refl, sym, needs}
 use Rattle.machine.proofs.calls.turn.Statement.{statement}
 use Rattle.machine.proofs.calls.turn.Tie as tie
-
--- number and place follow from the answer
-answered : (r : Turned) (m sk : List ℕ) {t : Turn} → turned r m sk ≡ t →
-    (turned r m sk ≡ t) × ((numberOf r ≡ numberOf (t .answer)) × (placeOf r ≡ placeOf (t .answer)))
-unfolding turned
-answered r m sk e = (e, (ap (λ (x : Turn). numberOf (x .answer)) e, ap (λ (x : Turn). placeOf (x .answer)) e))
 
 turn-accepted-requires : tie.Need-turn-accepted-requires
 unfolding checked
@@ -30,13 +20,13 @@ returns c =
     let at-enum-told = c .before .before .before .before .before .before .before .before .enum-told in
     let at-judge = c .before .before .before .before .before .before .before .before .before .before .judge in
     let e = sym (rw (at-enum-told .given .1) at (at-judge .ensures .0)) in
-    answered _ _ _ (rw e (at-turn-accepted .ensures))
+    rw e (at-turn-accepted .ensures)
 
 returns-2 : tie.Need-returns-2
-unfolding turnOf byCheck refused turned checked
+unfolding turnOf byCheck turnRefused turned checked
 returns-2 c =
     let e = sym (rw (c .before .w .given .1) at (c .before .before .before .judge .ensures .0)) in
-    answered _ _ _ (rw e)
+    rw e
 
 pub turn-spec : {M : Type 1} → statement M
 turn-spec =

@@ -1,14 +1,13 @@
 use Rattle.image.proofs.Starts.{words-legal}
-use Rattle.machine.specs.Answer.{turned}
-use Rattle.remus.specs.Turn.{byCheck, bySound, refused}
+use Rattle.machine.specs.Contracts.{turned}
+use Rattle.remus.specs.Turn.{byCheck, bySound, turnRefused}
 use Rattle.value.proofs.Tests.{goes, passed, refused as no-pass, stops}
-use borrow.Author.Needs.{needs}
-use mathlib.Core.Path.{refl, sym}
+use Rattle.value.specs.Prelude.{refl, sym, needs}
 use Rattle.machine.proofs.calls.turn_accepted.Statement.{statement}
 use Rattle.machine.proofs.calls.turn_accepted.Tie as tie
 
 returns : tie.Need-returns
-unfolding byCheck refused turned
+unfolding byCheck turnRefused turned
 returns c = stops _ (no-pass (c .before .words-legal .ensures) (c .if1 .taken)) refl
 
 sound-by-requires : tie.Need-sound-by-requires
@@ -37,7 +36,7 @@ returns-2 c =
     goes _ _ (passed (at-words-legal .ensures) (at-if1 .left)) (rw e (at-turn-on-sound .ensures))
 
 returns-3 : tie.Need-returns-3
-unfolding byCheck bySound refused turned
+unfolding byCheck bySound turnRefused turned
 returns-3 c =
     let at-sound-by = c .before .before .before .sound-by in
     let at-if1 = c .before .before .before .before .before .if1 in

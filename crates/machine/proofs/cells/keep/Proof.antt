@@ -1,11 +1,10 @@
 use Rattle.machine.proofs.Acting.{gives, read-at}
-use Rattle.machine.specs.Act.{acted}
+use Rattle.machine.specs.Contracts.{acted}
 use Rattle.program.specs.Command.{takesWords}
 use Rattle.remus.specs.Exec.{exec}
 use Rattle.value.specs.Test.{pick}
 use Rattle.remus.specs.Cells.{pending}
-use mathlib.Core.Path.{_∙_, ap}
-use borrow.Author.Needs.{needs}
+use Rattle.value.specs.Prelude.{_∙_, ap, needs}
 use Rattle.machine.proofs.cells.keep.Statement.{statement}
 use Rattle.machine.proofs.cells.keep.Tie as tie
 

@@ -1,7 +1,6 @@
 use Rattle.remus.specs.Cells.{kept}
 use Rattle.value.proofs.Tests.{eq!, eq×, no, yes}
-use borrow.Author.Needs.{needs}
-use mathlib.Core.Path.{refl}
+use Rattle.value.specs.Prelude.{refl, needs}
 use Rattle.machine.proofs.cells.kept.Statement.{statement}
 use Rattle.machine.proofs.cells.kept.Tie as tie
 

@@ -1,7 +1,7 @@
 use Rattle.remus.specs.Cells.{pending}
 use Rattle.value.proofs.Tests.{eq!, eq×, no, yes}
 use Rattle.value.specs.Value.{isBlank}
-use mathlib.Core.Path.{refl}
+use Rattle.value.specs.Prelude.{refl}
 use Rattle.machine.proofs.cells.pending.Statement.{statement}
 use Rattle.machine.proofs.cells.pending.Tie as tie
 

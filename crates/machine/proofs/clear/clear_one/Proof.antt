@@ -1,10 +1,7 @@
-use Prim.Native.Nat.{_+_, ℕ}
+use Rattle.value.specs.Prelude.{ℕ, _+_, refl, ap, arith, needs}
 use Rattle.image.specs.Memory.{sizeAt, slotsD, slotsR}
 use Rattle.machine.proofs.Clears.{cleared-part, lent-part}
-use Rattle.machine.proofs.Told.{told}
-use borrow.Author.Needs.{needs}
-use mathlib.Core.Path.{ap, refl}
-use native.Mathlib.Omega.{arith}
+use Rattle.machine.proofs.FactLaws.{told}
 use Rattle.machine.proofs.clear.clear_one.Statement.{statement}
 use Rattle.machine.proofs.clear.clear_one.Tie as tie
 

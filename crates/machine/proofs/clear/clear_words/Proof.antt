@@ -1,7 +1,5 @@
 use Rattle.machine.proofs.Clears.{wiped}
-use borrow.Author.Needs.{needs}
-use mathlib.Core.Path.{refl}
-use native.Mathlib.Omega.{arith}
+use Rattle.value.specs.Prelude.{refl, arith, needs}
 use Rattle.machine.proofs.clear.clear_words.Statement.{statement}
 use Rattle.machine.proofs.clear.clear_words.Tie as tie
 

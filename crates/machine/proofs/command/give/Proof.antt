@@ -1,8 +1,7 @@
 use Rattle.machine.proofs.Acting.{stored-at}
-use Rattle.machine.specs.Act.{did}
+use Rattle.machine.specs.Contracts.{did}
 use Rattle.machine.specs.declared.Outcome.the-variants.{Given}
-use borrow.Author.Needs.{needs}
-use mathlib.Core.Path.{ap}
+use Rattle.value.specs.Prelude.{ap, needs}
 use Rattle.machine.proofs.command.give.Statement.{statement}
 use Rattle.machine.proofs.command.give.Tie as tie
 

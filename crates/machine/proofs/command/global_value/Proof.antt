@@ -1,6 +1,5 @@
 use Rattle.machine.proofs.Acting.{global-reading, global-time}
-use borrow.Author.Needs.{needs}
-use native.Mathlib.Omega.{arith}
+use Rattle.value.specs.Prelude.{arith, needs}
 use Rattle.machine.proofs.command.global_value.Statement.{statement}
 use Rattle.machine.proofs.command.global_value.Tie as tie
 

@@ -1,4 +1,4 @@
-use borrow.Author.Needs.{needs}
+use Rattle.value.specs.Prelude.{needs}
 use Rattle.machine.proofs.command.of_kind.Statement.{statement}
 use Rattle.machine.proofs.command.of_kind.Tie as tie
 

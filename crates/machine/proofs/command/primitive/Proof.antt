@@ -1,10 +1,9 @@
 use Rattle.machine.proofs.Acting.{gives, read-at}
-use Rattle.machine.specs.Act.{acted}
+use Rattle.machine.specs.Contracts.{acted}
 use Rattle.program.specs.Command.{takesWords}
 use Rattle.remus.specs.Exec.{exec}
 use Rattle.value.specs.Test.{pick}
-use mathlib.Core.Path.{_∙_}
-use borrow.Author.Needs.{needs}
+use Rattle.value.specs.Prelude.{_∙_, needs}
 use Rattle.machine.proofs.command.primitive.Statement.{statement}
 use Rattle.machine.proofs.command.primitive.Tie as tie
 

@@ -1,5 +1,5 @@
 use Rattle.remus.specs.Turn.{readingAt}
-use borrow.Author.Needs.{needs}
+use Rattle.value.specs.Prelude.{needs}
 use Rattle.machine.proofs.command.reading_at.Statement.{statement}
 use Rattle.machine.proofs.command.reading_at.Tie as tie
 

@@ -1,9 +1,9 @@
 use Rattle.machine.proofs.Acting.{content-of, is-there, leaves, not-there, read-at, source-at, stored-at}
-use Rattle.machine.specs.Act.{acted}
+use Rattle.machine.specs.Contracts.{acted}
 use Rattle.program.specs.Command.{takesWords}
 use Rattle.remus.specs.Exec.{exec, supplied}
 use Rattle.value.specs.Test.{pick}
-use borrow.Author.Needs.{needs}
+use Rattle.value.specs.Prelude.{needs}
 use Rattle.machine.proofs.command.supply.Statement.{statement}
 use Rattle.machine.proofs.command.supply.Tie as tie
 

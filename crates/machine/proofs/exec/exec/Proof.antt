@@ -1,19 +1,13 @@
-use Prim.Native.Nat.{ℕ}
+use Rattle.value.specs.Prelude.{ℕ, _≡_, refl, sym, _∙_, ap, subst, List, arith, needs, now}
 use Rattle.machine.proofs.Placing.{reads-at}
 use Rattle.machine.proofs.Sequences.{command-at, no-R}
-use Rattle.machine.specs.Act.{Stands}
-use Rattle.machine.specs.Places.{Reaches}
-use Rattle.program.proofs.Decode.{as-constant, as-consume, as-fetch, as-global, as-keep}
-use Rattle.program.proofs.Decode.{as-poly, as-primitive, as-react, as-sink, as-supply}
+use Rattle.machine.specs.Contracts.{Stands, Reaches}
+use Rattle.program.proofs.Decode.{as-constant, as-consume, as-fetch, as-global, as-keep, as-poly, as-primitive}
+use Rattle.program.proofs.Decode.{as-react, as-sink, as-supply}
 use Rattle.program.specs.Command.{Cmd, decode, sequenceOf}
 use Rattle.program.specs.declared.Command.{Command}
 use Rattle.program.specs.Location.{commandLoc}
 use Rattle.remus.specs.Steady.{ReadsUpTo}
-use borrow.Author.Needs.{needs}
-use denote.Ref.{now}
-use mathlib.Core.List.{List}
-use mathlib.Core.Path.{_≡_, _∙_, ap, refl, subst, sym}
-use native.Mathlib.Omega.{arith}
 use Rattle.machine.proofs.exec.exec.Statement.{statement}
 use Rattle.machine.proofs.exec.exec.Tie as tie
 
@@ -43,7 +37,7 @@ consume-requires c κs =
     let pre = c .before .before .before .before .before .before .before .before .pre in
     let r = reach _ _ _ _ (as-consume (λ (d : Cmd). d) _ (c .before .match .keys5) refl) (at-bytes-within .ensures)
     (pre .1 .0) in
-    (r .0, omega (arith, r .1, c .before .before .place2 .ensures .1 .0))
+    (r .0, omega (arith, r .1, c .before .before .slot-index2 .ensures .1 .0))
 
 alloc-poly-requires : tie.Need-alloc-poly-requires
 alloc-poly-requires c κs =
@@ -54,12 +48,12 @@ alloc-poly-requires c κs =
       r .0,
       (
         (
-          omega (arith, r .1, c .before .before .before .place .ensures .1 .0),
+          omega (arith, r .1, c .before .before .before .slot-index .ensures .1 .0),
           omega (
             arith,
             r .2,
             c .before
-                .before .place2 .ensures .1 .0,
+                .before .slot-index2 .ensures .1 .0,
           ),
         ),
         pre .1 .1 .few,
@@ -74,12 +68,12 @@ primitive-requires c κs =
     (pre .1 .0) in (
       r .0,
       (
-        omega (arith, r .1, c .before .before .before .place .ensures .1 .0),
+        omega (arith, r .1, c .before .before .before .slot-index .ensures .1 .0),
         omega (
           arith,
           r .2,
           c .before
-              .before .place2 .ensures .1 .0,
+              .before .slot-index2 .ensures .1 .0,
         ),
       ),
     )
@@ -90,7 +84,7 @@ fetch-requires c κs =
     let pre = c .before .before .before .before .before .before .before .before .pre in
     let r = reach _ _ _ _ (as-fetch (λ (d : Cmd). d) _ (c .before .match .keys9) refl) (at-bytes-within .ensures) (pre
     .1 .0) in
-    (r .0, omega (arith, r .1, c .before .before .place2 .ensures .1 .0))
+    (r .0, omega (arith, r .1, c .before .before .slot-index2 .ensures .1 .0))
 
 keep-requires : tie.Need-keep-requires
 keep-requires c κs =
@@ -98,7 +92,7 @@ keep-requires c κs =
     let pre = c .before .before .before .before .before .before .before .before .pre in
     let r = reach _ _ _ _ (as-keep (λ (d : Cmd). d) _ (c .before .match .keys10) refl) (at-bytes-within .ensures) (pre
     .1 .0) in
-    (r .0, omega (arith, r .1, c .before .before .before .place .ensures .1 .0))
+    (r .0, omega (arith, r .1, c .before .before .before .slot-index .ensures .1 .0))
 
 returns : tie.Need-returns
 returns c =
@@ -106,7 +100,7 @@ returns c =
     let at-v = c .before .before .before .v in
     let at-match = c .before .before .before .before .before .match in
     let at-bytes-within = c .before .before .before .before .before .before .before .before .bytes-within in
-    λ r i f few lt at in-R fit here placed.
+    λ r i f lt at in-R fit here placed.
     let is = command-at _ r i _ (at-bytes-within .ensures) at in
     let cmd = as-constant (λ (d : Cmd). d) _ (at-match .keys1) refl ∙ is in
     rw (← cmd, ← at-v .ensures) (at-constant .ensures _ _ _ i here _)
@@ -116,7 +110,7 @@ returns-2 c =
     let at-global = c .before .before .global in
     let at-match = c .before .before .before .before .match in
     let at-bytes-within = c .before .before .before .before .before .before .before .bytes-within in
-    λ r i f few lt at in-R fit here placed.
+    λ r i f lt at in-R fit here placed.
     let is = command-at _ r i _ (at-bytes-within .ensures) at in
     let cmd = as-global (λ (d : Cmd). d) _ (at-match .keys2) refl ∙ is in
     rw (← cmd) (at-global .ensures _ _ _ i here)
@@ -125,96 +119,96 @@ returns-3 : tie.Need-returns-3
 returns-3 c =
     let at-supply = c .before .before .supply in
     let at-match = c .before .before .before .before .match in
-    let at-place2 = c .before .before .before .before .before .place2 in
-    let at-place = c .before .before .before .before .before .before .place in
+    let at-slot2 = c .before .before .before .before .before .slot-index2 in
+    let at-slot = c .before .before .before .before .before .before .slot-index in
     let at-bytes-within = c .before .before .before .before .before .before .before .bytes-within in
     let args = c .before .before .before .before .before .before .before .before .before .before .before .args in
-    λ r i f few lt at in-R fit here placed.
+    λ r i f lt at in-R fit here placed.
     let is = command-at _ r i _ (at-bytes-within .ensures) at in
     let cmd = as-supply (λ (d : Cmd). d) _ (at-match .keys3) refl ∙ is in
     let t = now (args .slots) in
     let up = subst (ReadsUpTo (commandLoc _ r i)) (sym cmd) (fit .reads) in
-    let a = at-place .ensures .0 _ _ (reads-at _ _ t _ r _ _ (fit .same) placed (up .0)) in
-    let b = at-place2 .ensures .0 _ _ (reads-at _ _ t _ r _ _ (fit .same) placed (up .1)) in
+    let a = at-slot .ensures .0 _ _ (reads-at _ _ t _ r _ _ (fit .same) placed (up .0)) in
+    let b = at-slot2 .ensures .0 _ _ (reads-at _ _ t _ r _ _ (fit .same) placed (up .1)) in
     rw (← cmd) (at-supply .ensures _ _ _ i _ _ a b (fit .supplies _ _ _ (sym cmd)) _)
 
 returns-4 : tie.Need-returns-4
 returns-4 c =
     let at-match = c .before .before .match in
-    let at-place2 = c .before .before .before .place2 in
+    let at-slot2 = c .before .before .before .slot-index2 in
     let at-bytes-within = c .before .before .before .before .before .bytes-within in
     let args = c .before .before .before .before .before .before .before .before .before .args in
-    λ r i f few lt at in-R fit here placed.
+    λ r i f lt at in-R fit here placed.
     let is = command-at _ r i _ (at-bytes-within .ensures) at in
     let cmd = as-react (λ (d : Cmd). d) _ (at-match .keys4) refl ∙ is in
     let t = now (args .slots) in
     let up = subst (ReadsUpTo (commandLoc _ r i)) (sym cmd) (fit .reads) in
-    let b = at-place2 .ensures .0 _ _ (reads-at _ _ t _ r _ _ (fit .same) placed up) in
+    let b = at-slot2 .ensures .0 _ _ (reads-at _ _ t _ r _ _ (fit .same) placed up) in
     rw (← cmd) (c .react .ensures _ _ _ i _ b _)
 
 returns-5 : tie.Need-returns-5
 returns-5 c =
     let at-consume = c .before .before .consume in
     let at-match = c .before .before .before .before .match in
-    let at-place2 = c .before .before .before .before .before .place2 in
+    let at-slot2 = c .before .before .before .before .before .slot-index2 in
     let at-bytes-within = c .before .before .before .before .before .before .before .bytes-within in
     let args = c .before .before .before .before .before .before .before .before .before .before .before .args in
-    λ r i f few lt at in-R fit here placed.
+    λ r i f lt at in-R fit here placed.
     let is = command-at _ r i _ (at-bytes-within .ensures) at in
     let cmd = as-consume (λ (d : Cmd). d) _ (at-match .keys5) refl ∙ is in
     let t = now (args .slots) in
     let up = subst (ReadsUpTo (commandLoc _ r i)) (sym cmd) (fit .reads) in
-    let b = at-place2 .ensures .0 _ _ (reads-at _ _ t _ r _ _ (fit .same) placed up) in
-    rw (← cmd) (at-consume .ensures _ _ _ i _ f few b here (fit .consumes _ _ (sym cmd)) _)
+    let b = at-slot2 .ensures .0 _ _ (reads-at _ _ t _ r _ _ (fit .same) placed up) in
+    rw (← cmd) (at-consume .ensures _ _ _ i _ f b here (fit .consumes _ _ (sym cmd)) _)
 
 returns-6 : tie.Need-returns-6
 returns-6 c =
     let at-sink = c .before .before .sink in
     let at-match = c .before .before .before .before .match in
-    let at-place = c .before .before .before .before .before .before .place in
+    let at-slot = c .before .before .before .before .before .before .slot-index in
     let at-bytes-within = c .before .before .before .before .before .before .before .bytes-within in
     let args = c .before .before .before .before .before .before .before .before .before .before .before .args in
-    λ r i f few lt at in-R fit here placed.
+    λ r i f lt at in-R fit here placed.
     let is = command-at _ r i _ (at-bytes-within .ensures) at in
     let cmd = as-sink (λ (d : Cmd). d) _ (at-match .keys6) refl ∙ is in
     let t = now (args .slots) in
     let up = subst (ReadsUpTo (commandLoc _ r i)) (sym cmd) (fit .reads) in
-    let a = at-place .ensures .0 _ _ (reads-at _ _ t _ r _ _ (fit .same) placed up) in
-    rw (← cmd) (at-sink .ensures _ _ i _ f few (omega (arith, fit .same, lt)) a _)
+    let a = at-slot .ensures .0 _ _ (reads-at _ _ t _ r _ _ (fit .same) placed up) in
+    rw (← cmd) (at-sink .ensures _ _ i _ f (omega (arith, fit .same, lt)) a _)
 
 returns-7 : tie.Need-returns-7
 returns-7 c =
     let at-alloc-poly = c .before .before .alloc-poly in
     let at-match = c .before .before .before .before .match in
-    let at-place2 = c .before .before .before .before .before .place2 in
-    let at-place = c .before .before .before .before .before .before .place in
+    let at-slot2 = c .before .before .before .before .before .slot-index2 in
+    let at-slot = c .before .before .before .before .before .before .slot-index in
     let at-bytes-within = c .before .before .before .before .before .before .before .bytes-within in
     let args = c .before .before .before .before .before .before .before .before .before .before .before .args in
-    λ r i f few lt at in-R fit here placed.
+    λ r i f lt at in-R fit here placed.
     let is = command-at _ r i _ (at-bytes-within .ensures) at in
     let cmd = as-poly (λ (d : Cmd). d) _ (at-match .keys7) refl ∙ is in
     let t = now (args .slots) in
     let up = subst (ReadsUpTo (commandLoc _ r i)) (sym cmd) (fit .reads) in
-    let a = at-place .ensures .0 _ _ (reads-at _ _ t _ r _ _ (fit .same) placed (up .0)) in
-    let b = at-place2 .ensures .0 _ _ (reads-at _ _ t _ r _ _ (fit .same) placed (up .1)) in
+    let a = at-slot .ensures .0 _ _ (reads-at _ _ t _ r _ _ (fit .same) placed (up .0)) in
+    let b = at-slot2 .ensures .0 _ _ (reads-at _ _ t _ r _ _ (fit .same) placed (up .1)) in
     let stands : Stands _ _ = record { above = fit .above; below = fit .below } in
-    rw (← cmd) (at-alloc-poly .ensures _ i _ _ f few stands a b here (fit .operators _ _ (sym cmd)) _)
+    rw (← cmd) (at-alloc-poly .ensures _ i _ _ f stands a b here (fit .operators _ _ (sym cmd)) _)
 
 returns-8 : tie.Need-returns-8
 returns-8 c =
     let at-primitive = c .before .before .primitive in
     let at-match = c .before .before .before .before .match in
-    let at-place2 = c .before .before .before .before .before .place2 in
-    let at-place = c .before .before .before .before .before .before .place in
+    let at-slot2 = c .before .before .before .before .before .slot-index2 in
+    let at-slot = c .before .before .before .before .before .before .slot-index in
     let at-bytes-within = c .before .before .before .before .before .before .before .bytes-within in
     let args = c .before .before .before .before .before .before .before .before .before .before .before .args in
-    λ r i f few lt at in-R fit here placed.
+    λ r i f lt at in-R fit here placed.
     let is = command-at _ r i _ (at-bytes-within .ensures) at in
     let cmd = as-primitive (λ (d : Cmd). d) _ (at-match .keys8) refl ∙ is in
     let t = now (args .slots) in
     let up = subst (ReadsUpTo (commandLoc _ r i)) (sym cmd) (fit .reads) in
-    let a = at-place .ensures .0 _ _ (reads-at _ _ t _ r _ _ (fit .same) placed (up .0)) in
-    let b = at-place2 .ensures .0 _ _ (reads-at _ _ t _ r _ _ (fit .same) placed (up .1)) in
+    let a = at-slot .ensures .0 _ _ (reads-at _ _ t _ r _ _ (fit .same) placed (up .0)) in
+    let b = at-slot2 .ensures .0 _ _ (reads-at _ _ t _ r _ _ (fit .same) placed (up .1)) in
     let l = reads-at _ _ t _ r _ _ (fit .same) placed (up .2) in
     rw (← cmd) (at-primitive .ensures _ _ i _ _ a b l here _)
 
@@ -222,36 +216,36 @@ returns-9 : tie.Need-returns-9
 returns-9 c =
     let at-fetch = c .before .before .fetch in
     let at-match = c .before .before .before .before .match in
-    let at-place2 = c .before .before .before .before .before .place2 in
+    let at-slot2 = c .before .before .before .before .before .slot-index2 in
     let at-bytes-within = c .before .before .before .before .before .before .before .bytes-within in
     let args = c .before .before .before .before .before .before .before .before .before .before .before .args in
-    λ r i f few lt at in-R fit here placed.
+    λ r i f lt at in-R fit here placed.
     let is = command-at _ r i _ (at-bytes-within .ensures) at in
     let cmd = as-fetch (λ (d : Cmd). d) _ (at-match .keys9) refl ∙ is in
     let t = now (args .slots) in
     let up = subst (ReadsUpTo (commandLoc _ r i)) (sym cmd) (fit .reads) in
-    let b = at-place2 .ensures .0 _ _ (reads-at _ _ t _ r _ _ (fit .same) placed up) in
+    let b = at-slot2 .ensures .0 _ _ (reads-at _ _ t _ r _ _ (fit .same) placed up) in
     rw (← cmd) (at-fetch .ensures _ _ _ i _ b here _)
 
 returns-10 : tie.Need-returns-10
 returns-10 c =
     let at-keep = c .before .before .keep in
     let at-match = c .before .before .before .before .match in
-    let at-place = c .before .before .before .before .before .before .place in
+    let at-slot = c .before .before .before .before .before .before .slot-index in
     let at-bytes-within = c .before .before .before .before .before .before .before .bytes-within in
     let args = c .before .before .before .before .before .before .before .before .before .before .before .args in
-    λ r i f few lt at in-R fit here placed.
+    λ r i f lt at in-R fit here placed.
     let is = command-at _ r i _ (at-bytes-within .ensures) at in
     let cmd = as-keep (λ (d : Cmd). d) _ (at-match .keys10) refl ∙ is in
     let t = now (args .slots) in
     let up = subst (ReadsUpTo (commandLoc _ r i)) (sym cmd) (fit .reads) in
-    let a = at-place .ensures .0 _ _ (reads-at _ _ t _ r _ _ (fit .same) placed (up .0)) in
+    let a = at-slot .ensures .0 _ _ (reads-at _ _ t _ r _ _ (fit .same) placed (up .0)) in
     rw (← cmd) (at-keep .ensures _ _ _ i _ _ a here _)
 
 returns-11 : tie.Need-returns-11
 returns-11 c =
     let at-bytes-within = c .before .before .before .bytes-within in
-    λ r i f few lt at in-R fit here placed.
+    λ r i f lt at in-R fit here placed.
     let cmd = command-at _ r i _ (at-bytes-within .ensures) at in
     absurd (no-R _ (c .match .rest) (ap sequenceOf cmd ∙ fit .runs in-R))
 

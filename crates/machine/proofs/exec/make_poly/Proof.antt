@@ -1,9 +1,8 @@
 use Rattle.machine.proofs.Acting.{stored-at}
-use Rattle.machine.specs.Act.{ranAs}
+use Rattle.machine.specs.Contracts.{ranAs}
 use Rattle.remus.specs.Exec.{exec}
 use Rattle.remus.specs.Run.{entered, ran}
-use borrow.Author.Needs.{needs}
-use mathlib.Core.Path.{ap}
+use Rattle.value.specs.Prelude.{ap, needs}
 use Rattle.machine.proofs.exec.make_poly.Statement.{statement}
 use Rattle.machine.proofs.exec.make_poly.Tie as tie
 

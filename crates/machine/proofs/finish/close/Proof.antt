@@ -1,9 +1,6 @@
-use Prim.Native.Nat.{ℕ}
-use Rattle.machine.specs.Act.{eachOf}
+use Rattle.value.specs.Prelude.{ℕ, _≡_, arith, needs}
+use Rattle.machine.specs.Contracts.{eachOf}
 use Rattle.remus.specs.Clear.{clearOf, closed}
-use borrow.Author.Needs.{needs}
-use mathlib.Core.Path.{_≡_}
-use native.Mathlib.Omega.{arith}
 use Rattle.machine.proofs.finish.close.Statement.{statement}
 use Rattle.machine.proofs.finish.close.Tie as tie
 

@@ -1,8 +1,7 @@
-use Rattle.machine.proofs.Kept.{keeps-none}
-use Rattle.machine.specs.Act.{eachOf}
+use Rattle.machine.proofs.CellBytes.{keeps-none}
+use Rattle.machine.specs.Contracts.{eachOf}
 use Rattle.remus.specs.Cells.{keepOf}
-use borrow.Author.Needs.{needs}
-use mathlib.Core.Path.{_∙_, sym}
+use Rattle.value.specs.Prelude.{sym, _∙_, needs}
 use Rattle.machine.proofs.finish.fill_cells.Statement.{statement}
 use Rattle.machine.proofs.finish.fill_cells.Tie as tie
 

@@ -1,7 +1,5 @@
-use Prim.Native.Nat.{_<_, ℕ}
+use Rattle.value.specs.Prelude.{ℕ, _<_, sym, subst, needs}
 use Rattle.remus.specs.Clear.{finished}
-use borrow.Author.Needs.{needs}
-use mathlib.Core.Path.{subst, sym}
 use Rattle.machine.proofs.finish.finish.Statement.{statement}
 use Rattle.machine.proofs.finish.finish.Tie as tie
 

@@ -1,14 +1,11 @@
-use Prim.Native.Nat.{_*_, _-_, _<_, ℕ}
+use Rattle.value.specs.Prelude.{ℕ, _-_, _*_, _<_, _≡_, refl, sym, _∙_, subst, length, arith, needs}
 use Rattle.image.specs.Memory.{patch}
 use Rattle.machine.proofs.Passing.{sinks-done, sinks-next}
-use Rattle.machine.proofs.Told.{told}
+use Rattle.machine.proofs.FactLaws.{told}
 use Rattle.program.specs.Bytes.{mainOf, reactors}
-use Rattle.program.specs.Location.{sinks}
+use Rattle.program.specs.Location.{sinkCount}
 use Rattle.remus.specs.Clear.{pairs, pairsFrom, sunk}
-use borrow.Author.Needs.{needs}
-use lib.ListN.{length, length-set}
-use mathlib.Core.Path.{_∙_, _≡_, refl, subst, sym}
-use native.Mathlib.Omega.{arith}
+use lib.ListN.{length-set}
 use Rattle.machine.proofs.finish.write_sinks.Statement.{statement}
 use Rattle.machine.proofs.finish.write_sinks.Tie as tie
 
@@ -24,24 +21,24 @@ loop-holds : tie.Need-loop-holds Inv-loop μ-loop
 unfolding sunk pairs
 loop-holds c =
     let args = c .before .before .before .before .before .before .args in
-    let at-sinks = c .sinks in
+    let at-sinks = c .sink-count in
     let pre = c .before .before .before .before .before .before .pre in
     let at-main-of = c .before .before .main-of in
     let at-fact = c .before .fact in
     let p = args .program .now in
     let n = at-sinks .ensures _ _ (told (pre .0) (at-main-of .ensures) (pre .1 .1 .0) (at-fact .ensures .1 .1)) in
-    let e : at-sinks .result - 0 ≡ sinks p (mainOf p) = omega (arith, n) in
+    let e : at-sinks .result - 0 ≡ sinkCount p (mainOf p) = omega (arith, n) in
     (refl, rw e)
 
 loop-again : tie.Need-loop-again Inv-loop μ-loop
 loop-again c =
     let c′ = c .before .before .before .before .before .before .before .before in
     let args = c′ .before .before .before .before .before .before .args in
-    let at-sinks = c′ .sinks in
+    let at-sinks = c′ .sink-count in
     let pre = c′ .before .before .before .before .before .before .pre in
     let at-main-of = c′ .before .before .main-of in
     let at-fact = c′ .before .fact in
-    let at-sink-place = c .before .before .before .before .before .sink-place in
+    let at-sink-index = c .before .before .before .before .before .sink-index in
     let at-put-pair = c .before .before .put-pair in
     let at-loop = c .before .before .before .before .before .before .before .loop in
     let at-pair = c .before .before .before .before .pair in
@@ -50,7 +47,7 @@ loop-again c =
     let n = at-sinks .ensures _ _ (told (pre .0) (at-main-of .ensures) (pre .1 .1 .0) (at-fact .ensures .1 .1)) in
     let main = pre .1 .0 in
     let low = subst (λ (r : ℕ). r < reactors p) (sym main) (pre .1 .1 .0) in
-    let here = at-sink-place .ensures .0 p (pre .0 .facts) (pre .0 .few) low in
+    let here = at-sink-index .ensures .0 p (pre .0 .facts) low in
     rw (at-put-pair .ensures) (
       simp length-set (at-loop .inv .0),
       sinks-next _ _ _ _ _ _ _ main here (at-pair .ensures) (at-loop-test .taken)

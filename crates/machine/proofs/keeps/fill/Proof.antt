@@ -1,10 +1,9 @@
 use Rattle.image.specs.Memory.{store}
-use Rattle.machine.proofs.Told.{value-there}
+use Rattle.machine.proofs.FactLaws.{value-there}
 use Rattle.remus.specs.Cells.{keepBy}
 use Rattle.value.proofs.Tests.{eq!, eq×, no, yes}
 use Rattle.value.specs.Value.{isBlank}
-use borrow.Author.Needs.{needs}
-use mathlib.Core.Path.{refl}
+use Rattle.value.specs.Prelude.{refl, needs}
 use Rattle.machine.proofs.keeps.fill.Statement.{statement}
 use Rattle.machine.proofs.keeps.fill.Tie as tie
 

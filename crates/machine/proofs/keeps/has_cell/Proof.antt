@@ -1,13 +1,10 @@
-use Prim.Native.Nat.{_-_, ℕ}
-use Rattle.machine.proofs.Kept.{cell-here, cell-not}
-use Rattle.machine.specs.Cells.{hasCell, noCell}
+use Rattle.value.specs.Prelude.{ℕ, _-_, _≡_, sym, _∙_, ap, arith, needs}
+use Rattle.machine.proofs.CellBytes.{cell-here, cell-not}
+use Rattle.machine.specs.Contracts.{hasCell, noCell}
 use Rattle.program.specs.Bytes.{commandsAt}
 use Rattle.value.proofs.Sweeps.{sweep-done, sweep-found, sweep-next}
 use Rattle.value.proofs.Tests.{lt!, lt×}
 use Rattle.value.specs.Test.{sweep}
-use borrow.Author.Needs.{needs}
-use mathlib.Core.Path.{_∙_, _≡_, ap, sym}
-use native.Mathlib.Omega.{arith}
 use Rattle.machine.proofs.keeps.has_cell.Statement.{statement}
 use Rattle.machine.proofs.keeps.has_cell.Tie as tie
 
@@ -29,7 +26,7 @@ returns c =
     let at-if1 = c .if1 in
     let at-loop-test = c .before .before .loop-test in
     let at-loop = c .before .before .before .loop in
-    let at-declared = c .before .before .before .before .before .declared in
+    let at-declared = c .before .before .before .before .before .commands-d in
     λ r known.
     let at = at-at .ensures .0 _ r known in
     let here = cell-here _ r _ _ _ at (at-byte .ensures) (at-if1 .taken) in
@@ -52,7 +49,7 @@ returns-2 c =
     let at-loop-test = c .loop-test in
     let at-loop = c .before .loop in
     let at-at = c .before .before .at in
-    let at-declared = c .before .before .before .declared in
+    let at-declared = c .before .before .before .commands-d in
     λ r known.
     let swept = sweep-done _ _ _ (at-loop-test .left) ∙ at-loop .inv r (at-at .ensures .0 _ r known) in
     rw (← at-declared .ensures _ r known, ← swept) (sym (lt× (at-loop-test .left)))

@@ -1,13 +1,9 @@
-use Prim.Native.Nat.{_-_, ℕ}
-use Rattle.machine.proofs.Told.{told}
-use Rattle.machine.specs.Cells.{hasCell, hasCells}
+use Rattle.value.specs.Prelude.{ℕ, _-_, _≡_, refl, sym, _∙_, ap, not, arith, needs}
+use Rattle.machine.proofs.FactLaws.{told}
+use Rattle.machine.specs.Contracts.{hasCell, hasCells}
 use Rattle.value.proofs.Sweeps.{sweep-done, sweep-found, sweep-next}
 use Rattle.value.proofs.Tests.{lt!, lt×}
 use Rattle.value.specs.Test.{sweep}
-use borrow.Author.Needs.{needs}
-use mathlib.Core.Bool.{not}
-use mathlib.Core.Path.{_∙_, _≡_, ap, refl, sym}
-use native.Mathlib.Omega.{arith}
 use Rattle.machine.proofs.keeps.has_cells.Statement.{statement}
 use Rattle.machine.proofs.keeps.has_cells.Tie as tie
 

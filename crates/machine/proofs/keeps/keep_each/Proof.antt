@@ -1,17 +1,13 @@
-use Prim.Native.Nat.{_*_, _+_, _-_, _≤_}
+use Rattle.value.specs.Prelude.{_+_, _-_, _*_, _≤_, _≡_, refl, sym, _∙_, ap, length, arith, needs}
 use Rattle.image.specs.Memory.{reactor}
-use Rattle.machine.proofs.Kept.{keep-here, keep-not}
+use Rattle.machine.proofs.CellBytes.{keep-here, keep-not}
 use Rattle.machine.proofs.Passing.{keeps-done, keeps-first, keeps-next}
-use Rattle.machine.proofs.Told.{bytes-here, slot-after, slot-cell, slot-run}
-use Rattle.program.specs.Bytes.{commandsIn, declared}
+use Rattle.machine.proofs.FactLaws.{bytes-here, slot-after, slot-cell, slot-run}
+use Rattle.program.specs.Bytes.{commandsIn, commandsD}
 use Rattle.program.specs.Command.{bytesOf, cmdOf}
-use Rattle.program.specs.Location.{slotAt, sources}
+use Rattle.program.specs.Location.{slotAt, sourceCount}
 use Rattle.program.specs.declared.Command.{Command}
 use Rattle.remus.specs.Cells.{keepFrom, keepOne}
-use borrow.Author.Needs.{needs}
-use lib.ListN.{length}
-use mathlib.Core.Path.{_∙_, _≡_, ap, refl, sym}
-use native.Mathlib.Omega.{arith}
 use Rattle.machine.proofs.keeps.keep_each.Statement.{statement}
 use Rattle.machine.proofs.keeps.keep_each.Tie as tie
 
@@ -19,9 +15,9 @@ abbrev Inv-loop : tie.InvT-loop
 Inv-loop program memory₀ o at n i₀ j₀ memory i j =
     (length memory ≡ length memory₀) × (reactor memory o ≡ reactor memory₀ o)
     × (i ≡ o + slotAt program (reactor memory₀ o)
-    (sources program (reactor memory₀ o) + declared program (reactor memory₀ o) + j))
+    (sourceCount program (reactor memory₀ o) + commandsD program (reactor memory₀ o) + j))
     × (i ≤ o + 1024 + 2 * j)
-    × (keepFrom program (n - j) (declared program (reactor memory₀ o) + j) memory o ≡ keepOne program memory₀ o)
+    × (keepFrom program (n - j) (commandsD program (reactor memory₀ o) + j) memory o ≡ keepOne program memory₀ o)
 
 abbrev μ-loop : tie.MeasureT-loop
 μ-loop program memory₀ o at n i₀ j₀ memory i j = n - j
@@ -31,12 +27,12 @@ loop-holds c =
     let args = c .before .before .before .before .before .before .args in
     let pre = c .before .before .before .before .before .before .pre in
     let at-slots-r = c .slots-r in
-    let at-running = c .before .running in
+    let at-running = c .before .commands-r in
     let p = args .program .now in
     let r = reactor (args .memory .now) (args .o) in
     let tells = pre .1 .1 .1 in
     let start = at-slots-r .ensures .0 p r tells in
-    let first : sources p r + declared p r + 0 ≡ sources p r + declared p r = omega arith in
+    let first : sourceCount p r + commandsD p r + 0 ≡ sourceCount p r + commandsD p r = omega arith in
     (refl, refl, rw first (omega (arith, start)), omega arith, keeps-first p _ _ _ (at-running .ensures p r tells))
 
 bytes-within-requires : tie.Need-bytes-within-requires Inv-loop μ-loop
@@ -44,9 +40,9 @@ unfolding commandsIn
 bytes-within-requires c κs =
     let args = c .before .before .before .before .before .before .before .before .args in
     let pre = c .before .before .before .before .before .before .before .before .pre in
-    let at-running = c .before .before .before .running in
+    let at-running = c .before .before .before .commands-r in
     let at-at = c .before .before .before .before .before .at in
-    let at-declared = c .before .before .before .before .declared in
+    let at-declared = c .before .before .before .before .commands-d in
     let p = args .program .now in
     let r = reactor (args .memory .now) (args .o) in
     let tells = pre .1 .1 .1 in
@@ -63,9 +59,9 @@ loop-again c =
     let args = c′ .before .before .before .before .before .before .before .before .before .args in
     let at-loop = c′ .before .before .loop in
     let pre = c′ .before .before .before .before .before .before .before .before .before .pre in
-    let at-running = c′ .before .before .before .before .running in
+    let at-running = c′ .before .before .before .before .commands-r in
     let at-at = c′ .before .before .before .before .before .before .at in
-    let at-declared = c′ .before .before .before .before .before .declared in
+    let at-declared = c′ .before .before .before .before .before .commands-d in
     let at-bytes-within = c′ .bytes-within in
     let at-result-of = c .before .before .before .before .before .before .before .result-of in
     let at-if1 = c .before .before .before .before .before .if1 in
@@ -80,7 +76,7 @@ loop-again c =
     let same = at-loop .inv .1 in
     let is = bytes-here p r j _ _ _ (at-at .ensures .0 p r tells) (at-declared .ensures p r tells)
     (at-bytes-within .ensures) in
-    let words = at-result-of .ensures .0 (bytesOf p r (declared p r + j)) (ap (λ (d : Command). d .code) (sym is)) in
+    let words = at-result-of .ensures .0 (bytesOf p r (commandsD p r + j)) (ap (λ (d : Command). d .code) (sym is)) in
     let after = slot-after p r j _ (omega arith) words in
     let here = slot-run p (at-loop .memory) o r same _ j (at-loop .inv .2) in
     let cell = slot-cell p (at-loop .memory) o r same _ _ (pre .0) (pre .1 .0) (omega arith) is (at-if1 .taken) in
@@ -96,9 +92,9 @@ loop-again-2 c =
     let args = c′ .before .before .before .before .args in
     let at-loop = c .before .before .before .before .before .loop in
     let pre = c′ .before .before .before .before .pre in
-    let at-running = c .before .before .before .before .before .before .before .running in
+    let at-running = c .before .before .before .before .before .before .before .commands-r in
     let at-at = c′ .before .at in
-    let at-declared = c′ .declared in
+    let at-declared = c′ .commands-d in
     let at-bytes-within = c .before .before .before .bytes-within in
     let at-result-of = c .before .before .result-of in
     let at-if1 = c .if1 in
@@ -112,7 +108,7 @@ loop-again-2 c =
     let same = at-loop .inv .1 in
     let is = bytes-here p r j _ _ _ (at-at .ensures .0 p r tells) (at-declared .ensures p r tells)
     (at-bytes-within .ensures) in
-    let words = at-result-of .ensures .0 (bytesOf p r (declared p r + j)) (ap (λ (d : Command). d .code) (sym is)) in
+    let words = at-result-of .ensures .0 (bytesOf p r (commandsD p r + j)) (ap (λ (d : Command). d .code) (sym is)) in
     let after = slot-after p r j _ (omega arith) words in
     let done = keep-not p (at-loop .memory) o _ r _ _ is (at-if1 .left) in
     let next = keeps-next p (at-loop .memory) o _ (pre .0) r j (pre .1 .0) count same _ _ (at-loop-test .taken) done

@@ -1,7 +1,6 @@
-use Rattle.machine.proofs.Kept.{keep-none}
-use Rattle.machine.proofs.Told.{told}
-use borrow.Author.Needs.{needs}
-use mathlib.Core.Path.{_∙_, sym}
+use Rattle.machine.proofs.CellBytes.{keep-none}
+use Rattle.machine.proofs.FactLaws.{told}
+use Rattle.value.specs.Prelude.{sym, _∙_, needs}
 use Rattle.machine.proofs.keeps.keep_one.Statement.{statement}
 use Rattle.machine.proofs.keeps.keep_one.Tie as tie
 

@@ -1,5 +1,5 @@
-use Rattle.machine.specs.Act.{eachOf}
-use borrow.Author.Needs.{needs}
+use Rattle.machine.specs.Contracts.{eachOf}
+use Rattle.value.specs.Prelude.{needs}
 use Rattle.machine.proofs.passes.pass_one.Statement.{statement}
 use Rattle.machine.proofs.passes.pass_one.Tie as tie
 

@@ -1,15 +1,11 @@
-use Prim.Native.Nat.{_-_}
-use Rattle.image.specs.Cut.{Tiling, startsOn}
+use Rattle.value.specs.Prelude.{_-_, _≡_, refl, _∙_, length, arith, needs}
+use Rattle.image.specs.Contracts.{Tiling, startsOn}
 use Rattle.image.specs.Memory.{sizeAt, startsBelow}
 use Rattle.image.specs.Passes.{over}
 use Rattle.machine.proofs.Clears.{local-each}
 use Rattle.machine.proofs.Passing.{pass-done, pass-inside, pass-legal, pass-next, pass-rises, pass-within}
-use Rattle.machine.proofs.Told.{told}
-use Rattle.machine.specs.Act.{eachOf}
-use borrow.Author.Needs.{needs}
-use lib.ListN.{length}
-use mathlib.Core.Path.{_∙_, _≡_, refl}
-use native.Mathlib.Omega.{arith}
+use Rattle.machine.proofs.FactLaws.{told}
+use Rattle.machine.specs.Contracts.{eachOf}
 use Rattle.machine.proofs.passes.pass_over.Statement.{statement}
 use Rattle.machine.proofs.passes.pass_over.Tie as tie
 

@@ -1,6 +1,5 @@
 use Rattle.image.specs.Memory.{slot}
-use borrow.Author.Needs.{needs}
-use native.Mathlib.Omega.{arith}
+use Rattle.value.specs.Prelude.{arith, needs}
 use Rattle.machine.proofs.places.after.Statement.{statement}
 use Rattle.machine.proofs.places.after.Tie as tie
 

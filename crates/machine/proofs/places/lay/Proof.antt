@@ -1,5 +1,4 @@
-use borrow.Author.Needs.{needs}
-use native.Mathlib.Omega.{arith}
+use Rattle.value.specs.Prelude.{arith, needs}
 use Rattle.machine.proofs.places.lay.Statement.{statement}
 use Rattle.machine.proofs.places.lay.Tie as tie
 

@@ -1,12 +1,7 @@
-use Prim.Native.Nat.{ℕ, _-_, _≤_}
+use Rattle.value.specs.Prelude.{ℕ, _-_, _≤_, _≡_, sym, List, length, arith, needs}
 use Rattle.machine.proofs.Placing.{long-next, placed-next}
-use Rattle.machine.specs.Places.{PlacedTo}
+use Rattle.machine.specs.Contracts.{PlacedTo}
 use Rattle.program.proofs.Slots.{firstR, slot-low}
-use lib.ListN.{length}
-use borrow.Author.Needs.{needs}
-use mathlib.Core.List.{List}
-use mathlib.Core.Path.{_≡_, sym}
-use native.Mathlib.Omega.{arith}
 use Rattle.machine.proofs.places.lay_first.Statement.{statement}
 use Rattle.machine.proofs.places.lay_first.Tie as tie
 

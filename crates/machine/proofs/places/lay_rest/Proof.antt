@@ -1,20 +1,16 @@
-use Prim.Native.Nat.{ℕ, _+_, _-_, _≤_}
+use Rattle.value.specs.Prelude.{ℕ, _+_, _-_, _≤_, _≡_, refl, length, arith, needs}
 use Rattle.machine.proofs.Placing.{long-next, place-R, placed-next, results-next}
-use Rattle.machine.specs.Places.{PlacedTo}
+use Rattle.machine.specs.Contracts.{PlacedTo}
 use Rattle.program.proofs.Slots.{firstR}
-use Rattle.program.specs.Bytes.{byte, commandAt, declared, running}
+use Rattle.program.specs.Bytes.{byte, commandAt, commandsD, commandsR}
 use Rattle.program.specs.Location.{results}
-use lib.ListN.{length}
-use borrow.Author.Needs.{needs}
-use mathlib.Core.Path.{_≡_, refl}
-use native.Mathlib.Omega.{arith}
 use Rattle.machine.proofs.places.lay_rest.Statement.{statement}
 use Rattle.machine.proofs.places.lay_rest.Tie as tie
 
 abbrev Inv-loop : tie.InvT-loop
 Inv-loop program slots₀ at first n m₀ j₀ slots m j =
     (j ≤ n) × (m ≤ first + j) × (length slots ≡ 256)
-    × ((r : ℕ) → at ≡ commandAt program r (declared program r) → first ≡ firstR program r → n ≤ running program r
+    × ((r : ℕ) → at ≡ commandAt program r (commandsD program r) → first ≡ firstR program r → n ≤ commandsR program r
     → (m ≡ firstR program r + results program r j)
     × (PlacedTo program r slots₀ first → PlacedTo program r slots (first + j)))
 

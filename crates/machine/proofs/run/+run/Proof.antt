@@ -1,15 +1,13 @@
-use Prim.Native.Nat.{_+_, _-_, _≤_, _<_, ℕ}
+use Rattle.value.specs.Prelude.{ℕ, _+_, _-_, _≤_, _<_, _≡_, refl, _∙_, length, arith, needs}
 use Rattle.image.specs.Memory.{reactor}
-use Rattle.machine.proofs.Going.{Going, begun, stopped-there, all-inside, counted, fits, found, goes}
-use Rattle.machine.proofs.Going.{going-call, going-fail, going-given, going-move}
-use Rattle.machine.proofs.Going.{begins-at, here-at, lay-at, nested, not-deep, noted-loc, own, same, short, steady-below, stops, whole}
+use Rattle.machine.proofs.BeforeCommand.{Going, begun, stopped-there, all-inside, counted, fits, found, goes}
+use Rattle.machine.proofs.BeforeCommand.{going-call, going-fail, going-given, going-move}
+use Rattle.machine.proofs.BeforeCommand.{begins-at, here-at, lay-at, nested, not-deep, noted-loc, own, same}
+use Rattle.machine.proofs.BeforeCommand.{short, steady-below, stops, whole}
 use Rattle.machine.proofs.Opening.{legal}
-use Rattle.machine.proofs.Told.{told}
+use Rattle.machine.proofs.FactLaws.{told}
 use Rattle.program.specs.Bytes.{commandsIn}
-use lib.ListN.{length, length-set}
-use mathlib.Core.Path.{_≡_, _∙_, refl}
-use borrow.Author.Needs.{needs}
-use native.Mathlib.Omega.{arith}
+use lib.ListN.{length-set}
 use borrow.Fn.Kinds.{In}
 use borrow.Fn.PlainCycle.{Measures, is, falls, and}
 use Rattle.machine.proofs.run.run.Reads as run
@@ -22,9 +20,9 @@ use Rattle.machine.proofs.places.lay.Reads as lay-reads
 use Rattle.machine.proofs.places.note.Reads as note-reads
 use Rattle.machine.proofs.run.enter.Reads as enter-reads
 use Rattle.program.proofs.Counts.at.Reads as at-reads
-use Rattle.program.proofs.Counts.declared.Reads as declared-reads
+use Rattle.program.proofs.Counts.commands_d.Reads as commands-d-reads
 use Rattle.program.proofs.Counts.first.Reads as first-reads
-use Rattle.program.proofs.Counts.running.Reads as running-reads
+use Rattle.program.proofs.Counts.commands_r.Reads as commands-r-reads
 use Rattle.program.proofs.fact.Reads as fact-reads
 use Rattle.machine.proofs.run.+run.{statement}
 use Rattle.machine.proofs.run.+run.Tie.{close}
@@ -51,10 +49,10 @@ run-cs t = (
   first-reads.Learnt,
   at-reads.Asked,
   at-reads.Learnt,
-  declared-reads.Asked,
-  declared-reads.Learnt,
-  running-reads.Asked,
-  running-reads.Learnt,
+  commands-d-reads.Asked,
+  commands-d-reads.Learnt,
+  commands-r-reads.Asked,
+  commands-r-reads.Learnt,
   lay-reads.Asked,
   lay-reads.Learnt,
   note-reads.Asked,
@@ -107,7 +105,7 @@ run-cast-first t c =
 run-lay-requires : (t : ℕ) → run-lts.Need-lay-requires (run-cs t) (run-at t) run.Post run-Inv-loop run-μ-loop
 unfolding commandsIn
 run-lay-requires t c κs =
-    let at-declared = c .before .before .declared in
+    let at-declared = c .before .before .commands-d in
     let at-at = c .before .before .before .at in
     let at-first = c .before .before .before .before .first in
     let at-enum-told = c .before .before .before .before .before .enum-told in
@@ -129,8 +127,8 @@ run-lay-requires t c κs =
 
 run-loop-holds : (t : ℕ) → run-lts.Need-loop-holds (run-cs t) (run-at t) run.Post run-Inv-loop run-μ-loop
 run-loop-holds t c =
-    let at-running = c .before .before .running in
-    let at-declared = c .before .before .before .declared in
+    let at-running = c .before .before .commands-r in
+    let at-declared = c .before .before .before .commands-d in
     let at-at = c .before .before .before .before .at in
     let at-first = c .before .before .before .before .before .first in
     let at-enum-told = c .before .before .before .before .before .before .enum-told in
@@ -206,7 +204,7 @@ run-loop-again t c =
     let g = at-loop .inv .2 in
     let in-loop = at-loop-test .taken in
     let known = pre .1 .0 in
-    let code = at-exec .ensures _ _ (known .facts) (known .few) (g .legal) (here-at _ _ _ _ _ _ _ _ _ known _ _ _ _ g)
+    let code = at-exec .ensures _ _ (known .facts) (g .legal) (here-at _ _ _ _ _ _ _ _ _ known _ _ _ _ g)
     (omega arith)
     (fits _ _ _ _ _ _ _ _ _ known _ _ _ _ g in-loop) (own _ _ _ _ _ _ _ _ _ known _ _ _ _ g in-loop _
     (at-after .ensures .0))
@@ -230,7 +228,7 @@ run-loop-again-2 t c =
     let g = at-loop .inv .2 in
     let in-loop = at-loop-test .taken in
     let known = pre .1 .0 in
-    let code = at-exec .ensures _ _ (known .facts) (known .few) (g .legal) (here-at _ _ _ _ _ _ _ _ _ known _ _ _ _ g)
+    let code = at-exec .ensures _ _ (known .facts) (g .legal) (here-at _ _ _ _ _ _ _ _ _ known _ _ _ _ g)
     (omega arith)
     (fits _ _ _ _ _ _ _ _ _ known _ _ _ _ g in-loop) (own _ _ _ _ _ _ _ _ _ known _ _ _ _ g in-loop _
     (at-after .ensures .0))
@@ -257,7 +255,7 @@ run-run-requires t c κs =
     let g = at-loop .inv .2 in
     let in-loop = at-loop-test .taken in
     let known = pre .1 .0 in
-    let code = at-exec .ensures _ _ (known .facts) (known .few) (g .legal) (here-at _ _ _ _ _ _ _ _ _ known _ _ _ _ g)
+    let code = at-exec .ensures _ _ (known .facts) (g .legal) (here-at _ _ _ _ _ _ _ _ _ known _ _ _ _ g)
     (omega arith)
     (fits _ _ _ _ _ _ _ _ _ known _ _ _ _ g in-loop) (own _ _ _ _ _ _ _ _ _ known _ _ _ _ g in-loop _
     (at-after .ensures .0))
@@ -303,7 +301,7 @@ run-loop-again-3 t c =
     let g = at-loop .inv .2 in
     let in-loop = at-loop-test .taken in
     let known = pre .1 .0 in
-    let code = at-exec .ensures _ _ (known .facts) (known .few) (g .legal) (here-at _ _ _ _ _ _ _ _ _ known _ _ _ _ g)
+    let code = at-exec .ensures _ _ (known .facts) (g .legal) (here-at _ _ _ _ _ _ _ _ _ known _ _ _ _ g)
     (omega arith)
     (fits _ _ _ _ _ _ _ _ _ known _ _ _ _ g in-loop) (own _ _ _ _ _ _ _ _ _ known _ _ _ _ g in-loop _
     (at-after .ensures .0))
@@ -342,7 +340,7 @@ run-returns-2 t c =
     let g = at-loop .inv .2 in
     let in-loop = at-loop-test .taken in
     let known = pre .1 .0 in
-    let code = at-exec .ensures _ _ (known .facts) (known .few) (g .legal) (here-at _ _ _ _ _ _ _ _ _ known _ _ _ _ g)
+    let code = at-exec .ensures _ _ (known .facts) (g .legal) (here-at _ _ _ _ _ _ _ _ _ known _ _ _ _ g)
     (omega arith)
     (fits _ _ _ _ _ _ _ _ _ known _ _ _ _ g in-loop) (own _ _ _ _ _ _ _ _ _ known _ _ _ _ g in-loop _
     (at-after .ensures .0))
@@ -374,12 +372,13 @@ run-returns-3 t c =
     let g = at-loop .inv .2 in
     let in-loop = at-loop-test .taken in
     let known = pre .1 .0 in
-    let code = at-exec .ensures _ _ (known .facts) (known .few) (g .legal) (here-at _ _ _ _ _ _ _ _ _ known _ _ _ _ g)
+    let code = at-exec .ensures _ _ (known .facts) (g .legal) (here-at _ _ _ _ _ _ _ _ _ known _ _ _ _ g)
     (omega arith)
     (fits _ _ _ _ _ _ _ _ _ known _ _ _ _ g in-loop) (own _ _ _ _ _ _ _ _ _ known _ _ _ _ g in-loop _
     (at-after .ensures .0))
     (rw (at-note .ensures) (noted-loc _ _ _ _ _ _ _ _ _ known _ _ _ _ g in-loop)) in
-    let b = begun _ _ _ _ _ _ _ _ known (pre .1 .1 .0) (pre .1 .1 .1 .0) (at-enum-told .given .1) (at-enter .ensures) in (
+    let b = begun _ _ _ _ _ _ _ _ known (pre .1 .1 .0) (pre .1 .1 .1 .0) (at-enum-told .given .1)
+    (at-enter .ensures) in (
       rw (at-note .ensures) (simp length-set (g .table)),
       b .ends-stopped _ _
           (going-fail _ _ _ _ _ _ _ _ _ known _ _ _ _ g in-loop _ _ (at-loop .slots) code _ (c .before .w3 .given .1)),

@@ -1,6 +1,5 @@
 use Rattle.machine.proofs.Opening.{from-D, opened}
-use borrow.Author.Needs.{needs}
-use mathlib.Core.Path.{_∙_, sym}
+use Rattle.value.specs.Prelude.{sym, _∙_, needs}
 use Rattle.machine.proofs.run.enter.Statement.{statement}
 use Rattle.machine.proofs.run.enter.Tie as tie
 

@@ -1,16 +1,11 @@
-use Prim.Native.Nat.{ℕ, suc, _-_, _≤_}
+use Rattle.value.specs.Prelude.{ℕ, suc, _-_, _≤_, _≡_, refl, List, length, arith, needs}
 use Rattle.image.specs.Memory.{reactor, wired}
 use Rattle.machine.proofs.Declaring.{bytes-there, declared-off, declared-on}
 use Rattle.machine.proofs.Opening.{from-first, left-at}
-use Rattle.machine.specs.Opened.{Left}
+use Rattle.machine.specs.Contracts.{Left}
 use Rattle.program.specs.Bytes.{commandsIn}
 use Rattle.remus.specs.Run.{runOf}
 use Rattle.remus.specs.Steady.{Steady}
-use borrow.Author.Needs.{needs}
-use lib.ListN.{length}
-use mathlib.Core.List.{List}
-use mathlib.Core.Path.{_≡_, refl}
-use native.Mathlib.Omega.{arith}
 use Rattle.machine.proofs.run.wire.Statement.{statement}
 use Rattle.machine.proofs.run.wire.Tie as tie
 
@@ -35,7 +30,7 @@ bytes-within-requires c κs =
     let pre = c .before .before .before .before .before .before .before .pre in
     let inside = pre .0 .inside _ (pre .1 .0) in
     let at = c .before .before .before .at .ensures .0 _ _ (pre .1 .1 .0) in
-    let n = c .before .before .before .before .declared .ensures _ _ (pre .1 .1 .0) in
+    let n = c .before .before .before .before .commands-d .ensures _ _ (pre .1 .1 .0) in
     omega arith
 
 declare-requires : tie.Need-declare-requires Inv-loop μ-loop
@@ -54,7 +49,7 @@ loop-again c =
     let at-slots-d = c .before .before .before .before .before .before .before .before .before .slots-d in
     let at-at = c .before .before .before .before .before .before .before .before .before .before .at in
     let at-declared = c .before .before .before .before .before .before .before .before .before .before .before
-    .declared in
+    .commands-d in
     let pre = c .before .before .before .before .before .before .before .before .before .before .before .before .before
     .before .pre in
     let counts = pre .1 .1 .0 in
@@ -65,7 +60,7 @@ loop-again c =
       cc,
       omega arith,
       λ rd f s z. declared-on _ _ _ _ _ _ _ _ _ _ _ _ (omega arith) (omega arith)
-          (at-declare .ensures _ _ _ _ (pre .0 .facts) (pre .0 .few) bytes (omega arith)) (at-loop .inv .2 rd f s z)
+          (at-declare .ensures _ _ _ _ (pre .0 .facts) bytes (omega arith)) (at-loop .inv .2 rd f s z)
           (c .enum-told .given .1),
     )
 
@@ -78,7 +73,7 @@ returns c =
     let at-slots-d = c .before .before .before .before .before .before .before .before .before .before .slots-d in
     let at-at = c .before .before .before .before .before .before .before .before .before .before .before .at in
     let at-declared = c .before .before .before .before .before .before .before .before .before .before .before .before
-    .declared in
+    .commands-d in
     let pre = c .before .before .before .before .before .before .before .before .before .before .before .before .before
     .before .before .pre in
     let counts = pre .1 .1 .0 in
@@ -87,7 +82,7 @@ returns c =
     let bytes = bytes-there _ _ _ _ _ (at-bytes-within .ensures) (at-at .ensures .0 _ _ counts) in
     let low = at-loop-test .taken in
     λ rd f s z. declared-off _ _ _ _ _ _ _ _ _ _ _ _ (omega arith) (omega arith)
-    (at-declare .ensures _ _ _ _ (pre .0 .facts) (pre .0 .few) bytes (omega arith)) (at-loop .inv .2 rd f s z)
+    (at-declare .ensures _ _ _ _ (pre .0 .facts) bytes (omega arith)) (at-loop .inv .2 rd f s z)
     _ (c .before .w .given .1)
 
 returns-2 : tie.Need-returns-2 Inv-loop μ-loop
@@ -95,7 +90,7 @@ unfolding commandsIn
 returns-2 c =
     let at-loop = c .before .loop in
     let pre = c .before .before .before .before .before .before .before .pre in
-    let n = c .before .before .before .before .declared .ensures _ _ (pre .1 .1 .0) in
+    let n = c .before .before .before .before .commands-d .ensures _ _ (pre .1 .1 .0) in
     let past = c .loop-test .left in
     let upto = at-loop .inv .1 in
     λ rd f s z. left-at _ _ _ _ _ (omega arith) (omega arith) (at-loop .inv .2 rd f s z)

@@ -1,5 +1,5 @@
 use Rattle.value.proofs.Tests.{eq!, eq×}
-use borrow.Author.Needs.{needs}
+use Rattle.value.specs.Prelude.{needs}
 use Rattle.machine.proofs.undo.back.Statement.{statement}
 use Rattle.machine.proofs.undo.back.Tie as tie
 
@@ -19,4 +19,5 @@ pub back-spec : {M : Type 1} → statement M
 back-spec =
     tie.close
     (tie.spec
-    (λ c κs. search needs) (λ c κs. search needs) (λ c κs. search needs) (λ c. search needs) returns (λ c. search needs) returns-2)
+    (λ c κs. search needs) (λ c κs. search needs) (λ c κs. search needs) (λ c. search needs) returns
+    (λ c. search needs) returns-2)

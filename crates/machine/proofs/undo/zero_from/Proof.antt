@@ -1,6 +1,5 @@
 use Rattle.machine.proofs.Stretch.{zero-none, zero-rest}
-use borrow.Author.Needs.{needs}
-use mathlib.Core.Path.{refl}
+use Rattle.value.specs.Prelude.{refl, needs}
 use Rattle.machine.proofs.undo.zero_from.Statement.{statement}
 use Rattle.machine.proofs.undo.zero_from.Tie as tie
 
@@ -14,5 +13,6 @@ pub zero-from-spec : {M : Type 1} → statement M
 zero-from-spec =
     tie.close
     (tie.spec
-    (λ c. search needs) (λ c. search needs) (λ c. search needs) (λ c. search needs) (λ c κs. search needs) (λ c. search needs)
+    (λ c. search needs) (λ c. search needs) (λ c. search needs) (λ c. search needs)
+    (λ c κs. search needs) (λ c. search needs)
     returns returns-2)

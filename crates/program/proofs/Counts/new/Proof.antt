@@ -1,5 +1,4 @@
-use native.Mathlib.Omega.{arith}
-use borrow.Author.Needs.{needs}
+use Rattle.value.specs.Prelude.{arith, needs}
 use Rattle.program.proofs.Counts.new.Statement.{statement}
 use Rattle.program.proofs.Counts.new.Tie as tie
 

@@ -1,5 +1,5 @@
 use Rattle.value.specs.Test.{_=?_}
-use mathlib.Core.Path.{refl}
+use Rattle.value.specs.Prelude.{refl}
 use Rattle.program.proofs.Counts.none.Statement.{statement}
 use Rattle.program.proofs.Counts.none.Tie as tie
 

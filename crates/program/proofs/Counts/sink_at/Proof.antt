@@ -1,10 +1,7 @@
-use Prim.Native.Nat.{_+_}
+use Rattle.value.specs.Prelude.{_+_, _≡_, ap, arith, needs}
 use Rattle.program.proofs.Slots.{firstR, slot-high}
-use Rattle.program.specs.Bytes.{running, commandsIn}
+use Rattle.program.specs.Bytes.{commandsR, commandsIn}
 use Rattle.program.specs.Location.{slotAt, sinkLoc}
-use borrow.Author.Needs.{needs}
-use mathlib.Core.Path.{_≡_, ap}
-use native.Mathlib.Omega.{arith}
 use Rattle.program.proofs.Counts.sink_at.Statement.{statement}
 use Rattle.program.proofs.Counts.sink_at.Tie as tie
 
@@ -13,7 +10,8 @@ unfolding sinkLoc commandsIn
 returns c = (
   (λ p r e.
       let x = c .before .before .args .x in
-      let at : slotAt p r (firstR p r + running p r + x) ≡ slotAt p r (sinkLoc p r x) = ap (slotAt p r) (omega arith) in
+      let at : slotAt p r (firstR p r + commandsR p r + x) ≡ slotAt p r (sinkLoc p r x) =
+      ap (slotAt p r) (omega arith) in
       omega (arith, c .before .first .ensures .0 p r e, c .results .ensures p r e, slot-high p r x, at)),
   (omega (arith, c .before .first .ensures .1), omega arith),
 )

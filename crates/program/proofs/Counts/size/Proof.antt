@@ -1,13 +1,12 @@
 use Rattle.program.specs.Location.{slotAt, sinkLoc, sizeOf, locations}
-use borrow.Author.Needs.{needs}
-use mathlib.Core.Path.{_∙_, ap}
+use Rattle.value.specs.Prelude.{_∙_, ap, needs}
 use Rattle.program.proofs.Counts.size.Statement.{statement}
 use Rattle.program.proofs.Counts.size.Tie as tie
 
 returns : tie.Need-returns
 unfolding sizeOf locations
 returns c = (
-  (λ p r e. c .sink-at .ensures .0 p r e ∙ ap (λ x. slotAt p r (sinkLoc p r x)) (c .before .sinks .ensures p r e)),
+  (λ p r e. c .sink-at .ensures .0 p r e ∙ ap (λ x. slotAt p r (sinkLoc p r x)) (c .before .sink-count .ensures p r e)),
   c .sink-at .ensures .1,
 )
 

@@ -1,13 +1,12 @@
 use Rattle.program.proofs.Slots.{slot-low}
-use Rattle.program.specs.Location.{sources}
-use borrow.Author.Needs.{needs}
-use native.Mathlib.Omega.{arith}
+use Rattle.program.specs.Location.{sourceCount}
+use Rattle.value.specs.Prelude.{arith, needs}
 use Rattle.program.proofs.Counts.slots_d.Statement.{statement}
 use Rattle.program.proofs.Counts.slots_d.Tie as tie
 
 returns : tie.Need-returns
 returns c = (
-  (λ p r e. omega (arith, c .sources .ensures p r e, slot-low p r (sources p r) (omega arith))),
+  (λ p r e. omega (arith, c .source-count .ensures p r e, slot-low p r (sourceCount p r) (omega arith))),
   (omega arith, omega arith),
 )
 

@@ -1,6 +1,5 @@
 use Rattle.program.proofs.Slots.{firstR, slot-low}
-use borrow.Author.Needs.{needs}
-use native.Mathlib.Omega.{arith}
+use Rattle.value.specs.Prelude.{arith, needs}
 use Rattle.program.proofs.Counts.slots_r.Statement.{statement}
 use Rattle.program.proofs.Counts.slots_r.Tie as tie
 

@@ -1,8 +1,6 @@
 use Rattle.program.specs.Bytes.{byte}
-use borrow.Author.Needs.{needs}
-use denote.Ref.{now}
+use Rattle.value.specs.Prelude.{sym, needs, now}
 use lib.ListN.{List·getD-eq-default}
-use mathlib.Core.Path.{sym}
 use Rattle.program.proofs.bytes.byte.Statement.{statement}
 use Rattle.program.proofs.bytes.byte.Tie as tie
 

@@ -1,8 +1,6 @@
 use Rattle.program.specs.Bytes.{globalKind}
 use Rattle.value.proofs.Tests.{eq!, eq×, no, yes}
-use borrow.Author.Needs.{needs}
-use mathlib.Core.Path.{refl}
-use native.Mathlib.Omega.{arith}
+use Rattle.value.specs.Prelude.{refl, arith, needs}
 use Rattle.program.proofs.bytes.global_kind.Statement.{statement}
 use Rattle.program.proofs.bytes.global_kind.Tie as tie
 

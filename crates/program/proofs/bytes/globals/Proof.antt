@@ -1,5 +1,5 @@
 use Rattle.program.specs.Bytes.{globals}
-use borrow.Author.Needs.{needs}
+use Rattle.value.specs.Prelude.{needs}
 use Rattle.program.proofs.bytes.globals.Statement.{statement}
 use Rattle.program.proofs.bytes.globals.Tie as tie
 

@@ -1,5 +1,5 @@
 use Rattle.program.specs.Bytes.{reactors}
-use borrow.Author.Needs.{needs}
+use Rattle.value.specs.Prelude.{needs}
 use Rattle.program.proofs.bytes.reactors.Statement.{statement}
 use Rattle.program.proofs.bytes.reactors.Tie as tie
 

@@ -1,5 +1,5 @@
 use Rattle.program.specs.Bytes.{shapes}
-use borrow.Author.Needs.{needs}
+use Rattle.value.specs.Prelude.{needs}
 use Rattle.program.proofs.bytes.shapes.Statement.{statement}
 use Rattle.program.proofs.bytes.shapes.Tie as tie
 

@@ -1,6 +1,6 @@
 use Rattle.program.specs.Bytes.{byte}
 use Rattle.program.specs.Command.{bytesAt}
-use borrow.Author.Needs.{needs}
+use Rattle.value.specs.Prelude.{needs}
 use Rattle.program.proofs.commands.bytes_within.Statement.{statement}
 use Rattle.program.proofs.commands.bytes_within.Tie as tie
 

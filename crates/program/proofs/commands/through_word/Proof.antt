@@ -1,6 +1,5 @@
-use Rattle.program.proofs.Same.{same-command}
-use borrow.Author.Needs.{needs}
-use native.Mathlib.Omega.{arith}
+use Rattle.program.proofs.EqualByBytes.{same-command}
+use Rattle.value.specs.Prelude.{arith, needs}
 use Rattle.program.proofs.commands.through_word.Statement.{statement}
 use Rattle.program.proofs.commands.through_word.Tie as tie
 

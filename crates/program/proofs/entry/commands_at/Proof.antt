@@ -1,10 +1,6 @@
-use Prim.Native.Nat.{_*_, _+_, _-_, _≤_}
+use Rattle.value.specs.Prelude.{_+_, _-_, _*_, _≤_, _≡_, sym, _∙_, ap, arith, needs, now}
 use Rattle.program.proofs.Places.{commands-first, commands-next}
 use Rattle.program.specs.Bytes.{commandsAt}
-use borrow.Author.Needs.{needs}
-use denote.Ref.{now}
-use mathlib.Core.Path.{_∙_, _≡_, ap, sym}
-use native.Mathlib.Omega.{arith}
 use Rattle.program.proofs.entry.commands_at.Statement.{statement}
 use Rattle.program.proofs.entry.commands_at.Tie as tie
 
@@ -18,7 +14,14 @@ loop-holds : tie.Need-loop-holds Inv-loop μ-loop
 loop-holds c = (c .tables-end .ensures ∙ sym (commands-first _), omega arith, omega arith)
 
 loop-again : tie.Need-loop-again Inv-loop μ-loop
-loop-again c = (omega (arith, commands-next (now (c .before .before .before .before .before .args .program)) (c .before .before .loop .i)), omega arith, omega arith)
+loop-again c = (
+  omega (
+    arith,
+    commands-next (now (c .before .before .before .before .before .args .program)) (c .before .before .loop .i),
+  ),
+  omega arith,
+  omega arith,
+)
 
 returns : tie.Need-returns Inv-loop μ-loop
 returns c = (c .before .loop .inv .0 ∙ ap (commandsAt _) (omega arith), omega arith)

@@ -1,6 +1,5 @@
 use Rattle.program.specs.Bytes.{commandsIn}
-use borrow.Author.Needs.{needs}
-use native.Mathlib.Omega.{arith}
+use Rattle.value.specs.Prelude.{arith, needs}
 use Rattle.program.proofs.entry.commands_in.Statement.{statement}
 use Rattle.program.proofs.entry.commands_in.Tie as tie
 

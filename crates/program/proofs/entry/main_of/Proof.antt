@@ -1,6 +1,5 @@
 use Rattle.program.specs.Bytes.{mainOf}
-use borrow.Author.Needs.{needs}
-use native.Mathlib.Omega.{arith}
+use Rattle.value.specs.Prelude.{arith, needs}
 use Rattle.program.proofs.entry.main_of.Statement.{statement}
 use Rattle.program.proofs.entry.main_of.Tie as tie
 

@@ -1,6 +1,5 @@
 use Rattle.program.specs.Bytes.{entryAt, tablesEnd}
-use borrow.Author.Needs.{needs}
-use mathlib.Core.Path.{_∙_, ap}
+use Rattle.value.specs.Prelude.{_∙_, ap, needs}
 use Rattle.program.proofs.entry.tables_end.Statement.{statement}
 use Rattle.program.proofs.entry.tables_end.Tie as tie
 

@@ -1,6 +1,5 @@
 use Rattle.program.specs.Bytes.{commandsAt, wholeLength}
-use borrow.Author.Needs.{needs}
-use mathlib.Core.Path.{_∙_, ap}
+use Rattle.value.specs.Prelude.{_∙_, ap, needs}
 use Rattle.program.proofs.entry.whole_length.Statement.{statement}
 use Rattle.program.proofs.entry.whole_length.Tie as tie
 

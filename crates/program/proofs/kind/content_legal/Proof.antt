@@ -1,7 +1,6 @@
 use Rattle.program.proofs.Contents.{no-reactor, number-content, reactor-content, truth-content}
 use Rattle.value.specs.Test.{_<?_, _=?_}
-use borrow.Author.Needs.{needs}
-use native.Mathlib.Omega.{arith}
+use Rattle.value.specs.Prelude.{arith, needs}
 use Rattle.program.proofs.kind.content_legal.Statement.{statement}
 use Rattle.program.proofs.kind.content_legal.Tie as tie
 

@@ -1,5 +1,5 @@
 use Rattle.program.proofs.Contents.{number-mark, reactor-mark, truth-mark}
-use native.Mathlib.Omega.{arith}
+use Rattle.value.specs.Prelude.{arith}
 use Rattle.program.proofs.kind.mark_of.Statement.{statement}
 use Rattle.program.proofs.kind.mark_of.Tie as tie
 

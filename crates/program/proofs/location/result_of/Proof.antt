@@ -1,6 +1,4 @@
-use Prim.Native.Nat.{ℕ}
-use mathlib.Core.Path.{_≡_, refl}
-use native.Mathlib.Omega.{arith}
+use Rattle.value.specs.Prelude.{ℕ, _≡_, refl, arith}
 use Rattle.value.specs.Test.{pick}
 use Rattle.program.specs.Command.{Cmd, takesWords}
 use Rattle.program.proofs.Decode.{by-code, as-supply, as-react, as-sink}

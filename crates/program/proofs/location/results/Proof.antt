@@ -1,13 +1,13 @@
 use Rattle.program.specs.Bytes.{commandAt}
-use borrow.Author.Needs.{needs}
-use native.Mathlib.Omega.{arith}
+use Rattle.value.specs.Prelude.{arith, needs}
 use Rattle.program.proofs.location.results.Statement.{statement}
 use Rattle.program.proofs.location.results.Tie as tie
 
 returns : tie.Need-returns
 unfolding commandAt
 returns c = (
-  c .results-from .ensures .0 _ (omega (arith, c .before .before .commands-at .ensures, c .before .declared .ensures)),
+  c .results-from .ensures .0 _
+      (omega (arith, c .before .before .commands-at .ensures, c .before .commands-d .ensures)),
   c .results-from .ensures .1,
 )
 

@@ -1,19 +1,15 @@
-use Prim.Native.Nat.{ℕ, suc, _+_, _*_, _-_, _≤_}
-use mathlib.Core.Path.{_≡_, _∙_, ap, refl, sym}
-use mathlib.Core.List.{List}
-use native.Mathlib.Omega.{arith}
+use Rattle.value.specs.Prelude.{ℕ, suc, _+_, _-_, _*_, _≤_, _≡_, refl, sym, _∙_, ap, List, arith, needs}
 use Rattle.value.specs.Test.{pick}
-use Rattle.program.specs.Bytes.{byte, declared, commandAt}
+use Rattle.program.specs.Bytes.{byte, commandsD, commandAt}
 use Rattle.program.specs.Command.{takesWords, decode, bytesAt, bytesOf, cmdOf}
 use Rattle.program.specs.Location.{results}
 use Rattle.program.specs.declared.Command.{Command}
-use borrow.Author.Needs.{needs}
 use Rattle.program.proofs.location.results_from.Statement.{statement}
 use Rattle.program.proofs.location.results_from.Tie as tie
 
 abbrev Inv-loop : tie.InvT-loop
 Inv-loop program at n i m₀ j₀ m j =
-    ((r : ℕ) → at ≡ commandAt program r (declared program r) → m ≡ results program r j) × (m ≤ j) × (j ≤ n)
+    ((r : ℕ) → at ≡ commandAt program r (commandsD program r) → m ≡ results program r j) × (m ≤ j) × (j ≤ n)
 
 abbrev μ-loop : tie.MeasureT-loop
 μ-loop program at n i m₀ j₀ m j = n - j
@@ -23,12 +19,12 @@ unfolding results
 loop-holds c = ((λ r e. refl), omega arith, omega arith)
 
 -- one command more
-one-more : (p : List ℕ) (r at j m b n : ℕ) → at ≡ commandAt p r (declared p r) → b ≡ byte p (at + 8 * j) →
+one-more : (p : List ℕ) (r at j m b n : ℕ) → at ≡ commandAt p r (commandsD p r) → b ≡ byte p (at + 8 * j) →
     ((c : Command) → c .code ≡ b → n ≡ pick (takesWords (decode c)) 1 0) → m ≡ results p r j →
     m + n ≡ results p r (j + 1)
 unfolding results commandAt bytesOf cmdOf bytesAt
 one-more p r at j m b n e f g h =
-    let c = bytesOf p r (declared p r + j) in
+    let c = bytesOf p r (commandsD p r + j) in
     let s : j + 1 ≡ suc j = omega arith in
     rw s (omega (arith, h, g c (ap (byte p) (omega arith) ∙ sym f)))
 

@@ -1,6 +1,5 @@
 use Rattle.program.specs.Location.{sinkLoc}
-use borrow.Author.Needs.{needs}
-use native.Mathlib.Omega.{arith}
+use Rattle.value.specs.Prelude.{arith, needs}
 use Rattle.program.proofs.location.sink_loc.Statement.{statement}
 use Rattle.program.proofs.location.sink_loc.Tie as tie
 

@@ -1,11 +1,7 @@
-use Prim.Native.Nat.{_+_, _-_}
-use mathlib.Core.Path.{_≡_, _∙_, ap}
-use native.Mathlib.Omega.{arith}
-use denote.Ref.{now}
-use Rattle.program.specs.Bytes.{running}
+use Rattle.value.specs.Prelude.{_+_, _-_, _≡_, _∙_, ap, arith, needs, now}
+use Rattle.program.specs.Bytes.{commandsR}
 use Rattle.program.specs.Location.{slotAt, results}
 use Rattle.program.proofs.Slots.{firstR, slot-low, slot-R, slot-high}
-use borrow.Author.Needs.{needs}
 use Rattle.program.proofs.location.slot_at.Statement.{statement}
 use Rattle.program.proofs.location.slot_at.Tie as tie
 
@@ -13,8 +9,8 @@ use Rattle.program.proofs.location.slot_at.Tie as tie
 returns : tie.Need-returns
 returns c =
     let args = c .before .before .before .before .args in
-    let s = c .before .before .sources .ensures in
-    let d = c .before .declared .ensures in
+    let s = c .before .before .source-count .ensures in
+    let d = c .before .commands-d .ensures in
     let low = slot-low (now (args .program)) (args .r) (args .l) (omega (arith, s, d)) in
     (omega (arith, s, d, low), omega arith)
 
@@ -24,11 +20,11 @@ returns-2 c =
     let args = c .before .before .before .before .before .before .before .args in
     let p = now (args .program) in
     let r = args .r in
-    let S = c .before .before .before .before .before .sources in
-    let D = c .before .before .before .before .declared in
+    let S = c .before .before .before .before .before .source-count in
+    let D = c .before .before .before .before .commands-d in
     let s = S .ensures in
     let d = D .ensures in
-    let run = c .before .before .running .ensures in
+    let run = c .before .before .commands-r .ensures in
     let past = args .l - firstR p r in
     let same : args .l - (S .result + D .result) ≡ past = omega (arith, s, d, run) in
     let counted = c .results .ensures .0 ∙ ap (results p r) same in
@@ -42,10 +38,10 @@ returns-3 c =
     let args = c .before .before .before .before .before .before .before .args in
     let p = now (args .program) in
     let r = args .r in
-    let s = c .before .before .before .before .before .sources .ensures in
-    let d = c .before .before .before .before .declared .ensures in
-    let run = c .before .before .running .ensures in
-    let end = firstR p r + running p r in
+    let s = c .before .before .before .before .before .source-count .ensures in
+    let d = c .before .before .before .before .commands-d .ensures in
+    let run = c .before .before .commands-r .ensures in
+    let end = firstR p r + commandsR p r in
     let past = args .l - end in
     let counted = c .results2 .ensures .0 ∙ ap (results p r) run in
     let is : slotAt p r (args .l) ≡ slotAt p r (end + past) = ap (slotAt p r) (omega (arith, s, d, run)) in

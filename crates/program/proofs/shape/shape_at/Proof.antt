@@ -1,6 +1,5 @@
 use Rattle.program.specs.Bytes.{shapeAt}
-use borrow.Author.Needs.{needs}
-use native.Mathlib.Omega.{arith}
+use Rattle.value.specs.Prelude.{arith, needs}
 use Rattle.program.proofs.shape.shape_at.Statement.{statement}
 use Rattle.program.proofs.shape.shape_at.Tie as tie
 

@@ -1,7 +1,5 @@
 use Rattle.program.specs.Bytes.{byte, sinksIn}
-use borrow.Author.Needs.{needs}
-use mathlib.Core.Path.{_∙_, ap}
-use native.Mathlib.Omega.{arith}
+use Rattle.value.specs.Prelude.{_∙_, ap, arith, needs}
 use Rattle.program.proofs.shape.sinks_in.Statement.{statement}
 use Rattle.program.proofs.shape.sinks_in.Tie as tie
 

@@ -1,7 +1,5 @@
 use Rattle.program.specs.Bytes.{byte, sourceKind}
-use borrow.Author.Needs.{needs}
-use mathlib.Core.Path.{_∙_, ap}
-use native.Mathlib.Omega.{arith}
+use Rattle.value.specs.Prelude.{_∙_, ap, arith, needs}
 use Rattle.program.proofs.shape.source_kind.Statement.{statement}
 use Rattle.program.proofs.shape.source_kind.Tie as tie
 

@@ -1,12 +1,8 @@
-use Prim.Native.Nat.{_-_, _≤_}
+use Rattle.value.specs.Prelude.{_-_, _≤_, _≡_, refl, _∙_, _++_, append-nil, length, take, drop, arith, needs}
 use Rattle.rig.proofs.Copying.{load-more}
 use Rattle.rig.specs.Words.{wordsOf}
-use borrow.Author.Needs.{needs}
-use lib.ListN.{length, take, drop, length-set}
+use lib.ListN.{length-set}
 use lib.Seq.{drop-length}
-use mathlib.Core.List.{_++_, append-nil}
-use mathlib.Core.Path.{_≡_, refl, _∙_}
-use native.Mathlib.Omega.{arith}
 use Rattle.rig.proofs.bytes.load.Statement.{statement}
 use Rattle.rig.proofs.bytes.load.Tie as tie
 

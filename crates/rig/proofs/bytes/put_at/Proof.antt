@@ -1,6 +1,5 @@
-use borrow.Author.Needs.{needs}
+use Rattle.value.specs.Prelude.{arith, needs}
 use lib.ListN.{length-set}
-use native.Mathlib.Omega.{arith}
 use Rattle.rig.proofs.bytes.put_at.Statement.{statement}
 use Rattle.rig.proofs.bytes.put_at.Tie as tie
 

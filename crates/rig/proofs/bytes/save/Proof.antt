@@ -1,10 +1,6 @@
-use Prim.Native.Nat.{_-_, _*_, _≤_}
+use Rattle.value.specs.Prelude.{_-_, _*_, _≤_, _≡_, refl, _∙_, ap, length, getD, arith, needs}
 use Rattle.rig.proofs.Copying.{mixed, save-more, save-all, put-length}
 use Rattle.rig.specs.Words.{bytesOf}
-use borrow.Author.Needs.{needs}
-use lib.ListN.{length, getD}
-use mathlib.Core.Path.{_≡_, refl, _∙_, ap}
-use native.Mathlib.Omega.{arith}
 use Rattle.rig.proofs.bytes.save.Statement.{statement}
 use Rattle.rig.proofs.bytes.save.Tie as tie
 

@@ -1,5 +1,5 @@
 use Rattle.rig.proofs.Facing.{start-told}
-use borrow.Author.Needs.{needs}
+use Rattle.value.specs.Prelude.{needs}
 use Rattle.rig.proofs.calls.remus_start.Statement.{statement}
 use Rattle.rig.proofs.calls.remus_start.Tie as tie
 

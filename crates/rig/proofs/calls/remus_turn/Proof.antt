@@ -1,8 +1,5 @@
-use Rattle.rig.proofs.Facing.{turn-told}
-use borrow.Author.Needs.{needs}
+use Rattle.value.specs.Prelude.{sym, _∙_, arith, needs}
 use lib.Seq.{length-take-le}
-use mathlib.Core.Path.{sym, _∙_}
-use native.Mathlib.Omega.{arith}
 use Rattle.rig.proofs.calls.remus_turn.Statement.{statement}
 use Rattle.rig.proofs.calls.remus_turn.Tie as tie
 
@@ -13,7 +10,7 @@ sink-in-requires : tie.Need-sink-in-requires
 sink-in-requires c κs = length-take-le _ _ (omega arith) ∙ c .before .before .before .least .ensures
 
 returns : tie.Need-returns
-returns c = turn-told _ _ _ _ (c .before .before .before .before .before .sink-in .ensures)
+returns c = c .before .before .before .before .before .sink-in .ensures
 
 pub remus-turn-spec : {M : Type 1} → statement M
 remus-turn-spec =

@@ -1,8 +1,6 @@
-use Prim.Native.Nat.{_+_, _*_}
+use Rattle.value.specs.Prelude.{_+_, _*_, refl, ap, needs}
 use Rattle.rig.specs.Words.{packed}
 use Rattle.value.proofs.Tests.{lt!, lt×, yes, no}
-use borrow.Author.Needs.{needs}
-use mathlib.Core.Path.{ap, refl}
 use Rattle.rig.proofs.pack.pack.Statement.{statement}
 use Rattle.rig.proofs.pack.pack.Tie as tie
 

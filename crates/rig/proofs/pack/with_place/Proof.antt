@@ -1,7 +1,6 @@
-use Rattle.rig.specs.Rooms.{placedAt}
+use Rattle.rig.specs.Contracts.{placedAt}
 use Rattle.value.proofs.Tests.{yes, no, eq!, eq×}
-use borrow.Author.Needs.{needs}
-use mathlib.Core.Path.{refl}
+use Rattle.value.specs.Prelude.{refl, needs}
 use Rattle.rig.proofs.pack.with_place.Statement.{statement}
 use Rattle.rig.proofs.pack.with_place.Tie as tie
 

@@ -1,5 +1,5 @@
-use Rattle.rig.specs.Rooms.{callOf}
-use borrow.Author.Needs.{needs}
+use Rattle.rig.specs.Contracts.{callOf}
+use Rattle.value.specs.Prelude.{needs}
 use Rattle.rig.proofs.readings.read_in.Statement.{statement}
 use Rattle.rig.proofs.readings.read_in.Tie as tie
 
@@ -13,4 +13,5 @@ returns c =
 pub read-in-spec : {M : Type 1} → statement M
 read-in-spec =
     tie.close
-    (tie.spec (λ c κs. search needs) (λ c κs. search needs) (λ c. search needs) (λ c. search needs) (λ c. search needs) returns)
+    (tie.spec (λ c κs. search needs) (λ c κs. search needs) (λ c. search needs) (λ c. search needs)
+    (λ c. search needs) returns)

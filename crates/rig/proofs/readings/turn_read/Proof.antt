@@ -1,9 +1,6 @@
 use Rattle.rig.proofs.ManyReadings.{too-many, all-read, room-fits}
-use borrow.Author.Needs.{needs}
+use Rattle.value.specs.Prelude.{refl, sym, arith, needs}
 use lib.Seq.{length-take-le}
-use mathlib.Core.Path.{refl}
-use mathlib.Core.Path.{sym}
-use native.Mathlib.Omega.{arith}
 use Rattle.rig.proofs.readings.turn_read.Statement.{statement}
 use Rattle.rig.proofs.readings.turn_read.Tie as tie
 

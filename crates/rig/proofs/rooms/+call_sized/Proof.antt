@@ -1,12 +1,8 @@
-use Prim.Native.Nat.{ℕ, _<_}
+use Rattle.value.specs.Prelude.{ℕ, _<_, refl, length, arith, needs}
 use Rattle.rig.proofs.Sizes.{too-many}
 use Rattle.rig.proofs.rooms.+call_sized.Tie.{close}
-use borrow.Author.Needs.{needs}
 use borrow.Fn.Kinds.{In}
 use borrow.Fn.PlainCycle.{Measures, is, falls, and}
-use lib.ListN.{length}
-use mathlib.Core.Path.{refl}
-use native.Mathlib.Omega.{arith}
 use Rattle.rig.proofs.rooms.+call_sized.Lts-call_sized as call-sized-lts
 use Rattle.rig.proofs.rooms.+call_sized.{statement}
 use Rattle.rig.proofs.rooms.call_sized.Kinds as call-sized-kinds

@@ -1,6 +1,6 @@
-use Rattle.rig.proofs.Facing.{turn-one}
-use Rattle.rig.specs.Rooms.{callOf, faced}
-use borrow.Author.Needs.{needs}
+use Rattle.rig.specs.Contracts.{callOf}
+use Rattle.rig.specs.Face.{faced}
+use Rattle.value.specs.Prelude.{needs}
 use Rattle.rig.proofs.rooms.call.Statement.{statement}
 use Rattle.rig.proofs.rooms.call.Tie as tie
 
@@ -16,7 +16,7 @@ unfolding callOf
 returns-2 c =
     let at-told = c .before .before .before .before .before .before .before .enum-told2 in
     let at-turn = c .before .before .before .before .remus-turn-words in
-    rw (at-told .given .1) (turn-one _ _ _ _ (at-turn .ensures))
+    rw (at-told .given .1) (at-turn .ensures)
 
 pub call-spec : {M : Type 1} → statement M
 call-spec =

@@ -1,7 +1,6 @@
 use Rattle.rig.proofs.Holding.{all-words}
 use Rattle.rig.proofs.Sizes.{in-room}
-use borrow.Author.Needs.{needs}
-use mathlib.Core.Path.{_∙_}
+use Rattle.value.specs.Prelude.{_∙_, needs}
 use Rattle.rig.proofs.rooms.call_in.Statement.{statement}
 use Rattle.rig.proofs.rooms.call_in.Tie as tie
 

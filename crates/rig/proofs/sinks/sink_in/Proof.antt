@@ -1,6 +1,5 @@
 use Rattle.rig.proofs.FirstSinks.{first-words}
-use borrow.Author.Needs.{needs}
-use native.Mathlib.Omega.{arith}
+use Rattle.value.specs.Prelude.{arith, needs}
 use Rattle.rig.proofs.sinks.sink_in.Statement.{statement}
 use Rattle.rig.proofs.sinks.sink_in.Tie as tie
 
@@ -11,7 +10,8 @@ returns c =
     let at-slice = at-load .before .before .before in
     let entry = at-slice .before .before .before .before .before in
     first-words _ _ _ _ (entry .args .sinks .now) _ _ _ _ (λ i. omega (arith, at-slice .slice-known3 .given i))
-    (entry .pre) (search needs) (at-load .load .ensures) (c .before .before .save .ensures) _ (at-read .turn-read .ensures)
+    (entry .pre) (search needs) (at-load .load .ensures) (c .before .before .save .ensures) _
+    (at-read .turn-read .ensures)
 
 pub sink-in-spec : {M : Type 1} → statement M
 sink-in-spec =

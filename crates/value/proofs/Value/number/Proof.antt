@@ -1,10 +1,8 @@
-use Prim.Native.Nat.{ℕ}
-use mathlib.Core.Path.{ap, _∙_}
+use Rattle.value.specs.Prelude.{ℕ, _∙_, ap, needs}
 use mir.Syntax.{w32}
 use mir.Val.{ofZ}
 use Rattle.value.proofs.Integers.{is-back}
 use Rattle.value.specs.Value.{value, numberMark}
-use borrow.Author.Needs.{needs}
 use Rattle.value.proofs.Value.number.Statement.{statement}
 use Rattle.value.proofs.Value.number.Tie as tie
 

@@ -1,8 +1,7 @@
-use mathlib.Core.Path.{_∙_, ap, sym}
+use Rattle.value.specs.Prelude.{sym, _∙_, ap, needs}
 use lib.IntN.{ℤ, negℤ}
 use Rattle.value.proofs.Integers.{is-back, by-zero, by-minus-one, divides, divided}
 use Rattle.value.specs.Primitive.{within}
-use borrow.Author.Needs.{needs}
 use Rattle.value.proofs.arithmetic.divide.Statement.{statement}
 use Rattle.value.proofs.arithmetic.divide.Tie as tie
 

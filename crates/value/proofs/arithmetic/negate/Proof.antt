@@ -1,6 +1,5 @@
-use mathlib.Core.Path.{_∙_, sym}
+use Rattle.value.specs.Prelude.{sym, _∙_, needs}
 use Rattle.value.proofs.Integers.{negates, lowest-blank, negated-number}
-use borrow.Author.Needs.{needs}
 use Rattle.value.proofs.arithmetic.negate.Statement.{statement}
 use Rattle.value.proofs.arithmetic.negate.Tie as tie
 

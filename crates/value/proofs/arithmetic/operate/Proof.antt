@@ -1,6 +1,6 @@
 use Rattle.value.proofs.Integers.{is-back, same-bits}
 use Rattle.value.specs.Primitive.{operation}
-use borrow.Author.Needs.{needs}
+use Rattle.value.specs.Prelude.{needs}
 use Rattle.value.proofs.arithmetic.operate.Statement.{statement}
 use Rattle.value.proofs.arithmetic.operate.Tie as tie
 

@@ -1,8 +1,7 @@
-use mathlib.Core.Path.{_∙_, ap}
+use Rattle.value.specs.Prelude.{_∙_, ap, needs}
 use lib.IntN.{_-ℤ_}
 use Rattle.value.proofs.Integers.{widens, fits-wide, passes, difference-fits}
 use Rattle.value.specs.Primitive.{within}
-use borrow.Author.Needs.{needs}
 use Rattle.value.proofs.arithmetic.subtract.Statement.{statement}
 use Rattle.value.proofs.arithmetic.subtract.Tie as tie
 

@@ -1,8 +1,8 @@
-use mathlib.Core.Path.{_∙_, ap}
+use Rattle.value.specs.Prelude.{_∙_, ap, needs}
 use mir.Syntax.{w32}
 use Rattle.value.proofs.Integers.{is-back, rounds}
 use Rattle.value.specs.Value.{number}
-use borrow.Author.Needs.{needs, sfits-of}
+use borrow.Author.Needs.{sfits-of}
 use Rattle.value.proofs.arithmetic.tick_difference.Statement.{statement}
 use Rattle.value.proofs.arithmetic.tick_difference.Tie as tie
 

@@ -1,8 +1,6 @@
-use mathlib.Core.Path.{refl}
-use native.Mathlib.Omega.{arith}
+use Rattle.value.specs.Prelude.{refl, arith, needs}
 use Rattle.value.proofs.Formulas.{formula-fits}
 use Rattle.value.specs.Formula.{StaysWord}
-use borrow.Author.Needs.{needs}
 use Rattle.value.proofs.formula.mix.Statement.{statement}
 use Rattle.value.proofs.formula.mix.Tie as tie
 use Rattle.value.proofs.formula.mix.Reads as reads

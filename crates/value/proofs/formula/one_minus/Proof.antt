@@ -1,8 +1,5 @@
-use mathlib.Core.Path.{refl}
-use mathlib.Core.Bool.{true}
-use native.Mathlib.Omega.{arith}
+use Rattle.value.specs.Prelude.{refl, true, arith, needs}
 use Rattle.value.proofs.Formulas.{formula-fits}
-use borrow.Author.Needs.{needs}
 use Rattle.value.proofs.formula.one_minus.Statement.{statement}
 use Rattle.value.proofs.formula.one_minus.Tie as tie
 

@@ -1,10 +1,7 @@
-use Prim.Native.Nat.{ℕ, _+_, _-_}
-use native.Mathlib.Omega.{arith}
-use mathlib.Core.Path.{_≡_, ap, _∙_}
+use Rattle.value.specs.Prelude.{ℕ, _+_, _-_, _≡_, _∙_, ap, arith, needs}
 use mir.Syntax.{w32}
 use mir.Val.{ofZ}
 use Rattle.value.proofs.Integers.{is-back, word-high, magnitude-below, magnitude-above}
-use borrow.Author.Needs.{needs}
 use Rattle.value.proofs.integer.magnitude.Statement.{statement}
 use Rattle.value.proofs.integer.magnitude.Tie as tie
 

@@ -1,5 +1,5 @@
 use Rattle.value.proofs.Integers.{lowers, signed-above}
-use borrow.Author.Needs.{needs}
+use Rattle.value.specs.Prelude.{needs}
 use Rattle.value.proofs.integer.signed.Statement.{statement}
 use Rattle.value.proofs.integer.signed.Tie as tie
 

@@ -1,4 +1,4 @@
-use native.Mathlib.Omega.{arith}
+use Rattle.value.specs.Prelude.{arith}
 use Rattle.value.proofs.Integers.{flips, flipped-back, from-zero, word-below, word-above}
 use Rattle.value.proofs.integer.word.Statement.{statement}
 use Rattle.value.proofs.integer.word.Tie as tie

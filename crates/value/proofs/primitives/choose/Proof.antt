@@ -1,9 +1,8 @@
-use mathlib.Core.Path.{sym}
+use Rattle.value.specs.Prelude.{sym, needs}
 use Rattle.value.proofs.Formulas.{choose-formula}
 use Rattle.value.specs.Test.{_=?_}
 use Rattle.value.specs.Value.{isTruth, isTrue}
 use Rattle.value.specs.Primitive.{table, rowOf, primitive}
-use borrow.Author.Needs.{needs}
 use Rattle.value.proofs.primitives.choose.Statement.{statement}
 use Rattle.value.proofs.primitives.choose.Tie as tie
 

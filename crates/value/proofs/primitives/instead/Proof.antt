@@ -1,8 +1,7 @@
-use mathlib.Core.Path.{sym}
+use Rattle.value.specs.Prelude.{sym, needs}
 use Rattle.value.proofs.Formulas.{instead-formula}
 use Rattle.value.specs.Test.{_=?_}
 use Rattle.value.specs.Value.{isBlank}
-use borrow.Author.Needs.{needs}
 use Rattle.value.proofs.primitives.instead.Statement.{statement}
 use Rattle.value.proofs.primitives.instead.Tie as tie
 

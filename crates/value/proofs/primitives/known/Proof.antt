@@ -1,7 +1,7 @@
 use Rattle.value.specs.Test.{_=?_}
 use Rattle.value.specs.Value.{isBlank}
 use Rattle.value.specs.Primitive.{known}
-use borrow.Author.Needs.{needs}
+use Rattle.value.specs.Prelude.{needs}
 use Rattle.value.proofs.primitives.known.Statement.{statement}
 use Rattle.value.proofs.primitives.known.Tie as tie
 

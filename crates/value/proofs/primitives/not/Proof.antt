@@ -1,11 +1,8 @@
-use mathlib.Core.Path.{sym}
-use mathlib.Core.Bool.{true}
-use native.Mathlib.Omega.{arith}
+use Rattle.value.specs.Prelude.{sym, true, arith, needs}
 use Rattle.value.proofs.Formulas.{not-formula, formula-fits}
 use Rattle.value.specs.Test.{_=?_}
 use Rattle.value.specs.Value.{blank, isTruth, isTrue}
 use Rattle.value.specs.Primitive.{table, rowOf, primitive}
-use borrow.Author.Needs.{needs}
 use Rattle.value.proofs.primitives.not.Statement.{statement}
 use Rattle.value.proofs.primitives.not.Tie as tie
 

@@ -1,4 +1,5 @@
-use borrow.Author.Needs.{needs, sfits-of}
+use Rattle.value.specs.Prelude.{needs}
+use borrow.Author.Needs.{sfits-of}
 use mir.Syntax.{w32}
 use Rattle.value.proofs.Integers.{is-back}
 use Rattle.value.proofs.Tests.{yes, no, eq!, eq×, both!, left×, right×}

@@ -1,7 +1,6 @@
-use native.Mathlib.Omega.{arith}
+use Rattle.value.specs.Prelude.{arith, needs}
 use Rattle.value.proofs.Rows.{missed, past}
 use Rattle.value.specs.Primitive.{table, rowOf, primitive}
-use borrow.Author.Needs.{needs}
 use Rattle.value.proofs.primitives.primitive.Statement.{statement}
 use Rattle.value.proofs.primitives.primitive.Tie as tie
 

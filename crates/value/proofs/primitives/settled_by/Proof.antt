@@ -1,9 +1,8 @@
-use mathlib.Core.Path.{_∙_, sym}
+use Rattle.value.specs.Prelude.{sym, _∙_, needs}
 use Rattle.value.proofs.Tests.{yes, no, flags, same-or}
 use Rattle.value.specs.Test.{_=?_}
 use Rattle.value.specs.Value.{isTruth}
 use Rattle.value.specs.Primitive.{settledBy}
-use borrow.Author.Needs.{needs}
 use Rattle.value.proofs.primitives.settled_by.Statement.{statement}
 use Rattle.value.proofs.primitives.settled_by.Tie as tie
 

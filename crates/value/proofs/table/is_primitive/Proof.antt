@@ -1,4 +1,4 @@
-use mathlib.Core.Path.{refl}
+use Rattle.value.specs.Prelude.{refl}
 use Rattle.value.specs.Test.{_<?_}
 use Rattle.value.specs.Primitive.{table, isPrimitive}
 use Rattle.value.proofs.table.is_primitive.Statement.{statement}

@@ -1,7 +1,7 @@
 use Rattle.value.proofs.Tests.{flags}
 use Rattle.value.specs.Test.{_=?_}
 use Rattle.value.specs.Primitive.{kindsFit}
-use borrow.Author.Needs.{needs}
+use Rattle.value.specs.Prelude.{needs}
 use Rattle.value.proofs.table.kinds_fit.Statement.{statement}
 use Rattle.value.proofs.table.kinds_fit.Tie as tie
 

@@ -1,5 +1,5 @@
 use Rattle.value.specs.Primitive.{countOf, operands}
-use borrow.Author.Needs.{needs}
+use Rattle.value.specs.Prelude.{needs}
 use Rattle.value.proofs.table.operands.Statement.{statement}
 use Rattle.value.proofs.table.operands.Tie as tie
 

@@ -1,6 +1,4 @@
-use Prim.Native.Nat.{ℕ}
-use native.Mathlib.Omega.{arith}
-use mathlib.Core.Path.{_≡_, refl}
+use Rattle.value.specs.Prelude.{ℕ, _≡_, refl, arith}
 use Rattle.value.proofs.Rows.{each, missed, past}
 use Rattle.value.specs.Primitive.{table, rowOf}
 use Rattle.value.specs.declared.Takes.the-variants.{TwoNumbers, TwoTruths}
