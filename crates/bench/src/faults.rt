@@ -1,10 +1,10 @@
-// The places of refusal 9, as a user sees them: an image with a word or two changed, and the turn that
-// is refused for it. 02 (vi).
+// 5.19 The places of refusal 9, as a user sees them: an image with a word or two changed, and the turn
+// that is refused for it.
 use crate::programs::NEST;
 use crate::programs::TOGGLE;
 use crate::turns::put_turn;
 use image::put;
-ghost use Prim.Native.Nat.{_<_};
+ghost use Rattle.value.specs.Prelude.{_<_};
 
 // A turn of the toggle on its image after two turns, one word of it changed. Main is at 2, minus at 33,
 // plus at 44, and the one word left at 55.

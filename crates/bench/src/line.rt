@@ -1,9 +1,11 @@
 // A line of a file of vectors, read byte by byte.
 //
-// Its fields, with a space between: 0 the number and 1 the place that 01 gives, in decimal; 2 the
+// Its fields, with a space between: 0 the number and 1 the place that is due, in decimal; 2 the
 // bytes of the program, in hexadecimal, or `=` for the program of the line before; from 3 on, where
 // there are any, words, as `n:` and the bytes of n words in hexadecimal, the words that are not
 // written being zero.
+use image::MOST_WORDS;
+use machine::Answer;
 
 // Memory before and after.
 pub const MEMORY: u8 = 3;
@@ -20,7 +22,7 @@ pub const SINKS_AFTER: u8 = 7;
 const FIELDS: usize = 8;
 
 // Bytes for each field.
-const FIELD: usize = 65536;
+const FIELD: usize = 4 * MOST_WORDS;
 
 // Bytes for all fields of a line.
 pub const ROOM: usize = FIELDS * FIELD;
@@ -104,8 +106,8 @@ impl Line {
     }
 
     // Whether these are the line's number and place.
-    pub fn says(self, number: u8, place: usize) -> bool {
-        (self.numbers[0] == number as u32) & (self.numbers[1] as usize == place)
+    pub fn says(self, answer: Answer) -> bool {
+        (self.numbers[0] == answer.number() as u32) & (self.numbers[1] as usize == answer.place())
     }
 
     pub fn program<'a>(self, room: &'a [u8]) -> &'a [u8] {

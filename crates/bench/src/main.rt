@@ -1,6 +1,6 @@
-// The bench cases of documents 01 and 02, run through the proved code and printed, and vectors. The
-// file stdout beside src/ holds what the documents say they come to, and the gate compares the two.
-mod cells;
+// The bench cases, run through the proved code and printed, and vectors. The file stdout beside src/
+// holds what they have to come to, and the gate compares the two.
+mod checks;
 mod faults;
 mod line;
 mod primitives;
@@ -13,11 +13,8 @@ mod words;
 
 fn main() {
     primitives::print_all();
-    programs::print_checks();
-    cells::print_checks();
-    programs::print_starts();
+    checks::print_all();
     turns::print_all();
-    cells::print_turns();
     faults::print_all();
     vectors::run();
 }

@@ -1,5 +1,4 @@
-// The cases of 01 about primitives: the starred ones first, then its rules on bounds and blanks; and those of
-// 02 (iv) and (xii).
+// 1.11 to 1.24 The bench cases about primitives: bounds, blanks, and the tables of `and` and `or`.
 use crate::text::put;
 use crate::text::put_value;
 use value::Value;
@@ -75,7 +74,7 @@ fn starred() {
     infix(Value::blank(), LESS, b" < ", Value::number(5));
 }
 
-// "A result outside 32 bits, or a divisor 0, gives blank."
+// 1.9, 1.14 Results that do not fit, and a divisor of 0: blank.
 fn bounds() {
     numbers(HIGHEST, ADD, b" + ", 0);
     numbers(HIGHEST, ADD, b" + ", 1);

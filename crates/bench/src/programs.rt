@@ -1,565 +1,96 @@
-// The bench programs of document 01, and what the check and start say of them.
-use crate::text::put;
-use crate::text::put_decimal;
+// 2.49 to 2.54 The bench programs as the manual lays them out, a line for each part. A shape's comment
+// says how many sources it has to how many sinks; all of them are numbers.
 
-// The time to its one sink.
+// 2.49 The clock: its one sink is the time.
+#[rattlefmt::skip]
 pub const CLOCK: [u8; 44] = [
-    1,
-    1,
-    1,
-    0,
-    0,
-    0,
-    0,
-    0,
-    0,
-    1,
-    0,
-    0,
-    0,
-    0,
-    0,
-    0,
-    0,
-    0,
-    0,
-    0,
-    0,
-    0,
-    0,
-    0,
-    0,
-    0,
-    2,
-    0,
-    4,
-    0,
-    0,
-    0,
-    0,
-    0,
-    0,
-    0,
-    8,
-    0,
-    0,
-    0,
-    0,
-    0,
-    0,
-    0,
+    0x01, 0x01, 0x01, 0x00, 0x00, 0x00, 0x00, 0x00, // format 1, S = 1, R = 1, G = 0
+    0x00, 0x01, 0x00, 0x00, 0x00, 0x00, 0x00, 0x00, 0x00, 0x00, 0x00, 0x00, 0x00, 0x00, 0x00, 0x00, // shape 0: 0 to 1
+    0x00, 0x00, 0x02, 0x00,                         // reactor 0, main: shape 0, no D, two R commands
+    0x04, 0x00, 0x00, 0x00, 0x00, 0x00, 0x00, 0x00, // location 0  Global 0, the time
+    0x08, 0x00, 0x00, 0x00, 0x00, 0x00, 0x00, 0x00, // location 1  Sink 0 takes location 0; 2 is the sink
 ];
 
-// A reactor that deploys itself at a branch point.
-pub const NEST: [u8; 76] = [
-    1,
-    1,
-    1,
-    0,
-    0,
-    0,
-    0,
-    0,
-    0,
-    1,
-    0,
-    0,
-    0,
-    0,
-    0,
-    0,
-    0,
-    0,
-    0,
-    0,
-    0,
-    0,
-    0,
-    0,
-    0,
-    1,
-    5,
-    0,
-    2,
-    0,
-    0,
-    0,
-    0,
-    0,
-    0,
-    0,
-    3,
-    2,
-    0,
-    0,
-    0,
-    0,
-    0,
-    0,
-    9,
-    0,
-    1,
-    0,
-    0,
-    0,
-    0,
-    0,
-    6,
-    0,
-    0,
-    2,
-    0,
-    0,
-    0,
-    0,
-    7,
-    0,
-    0,
-    2,
-    0,
-    0,
-    0,
-    0,
-    8,
-    0,
-    4,
-    0,
-    0,
-    0,
-    0,
-    0,
+// 2.52 The running maximum: of 4 and of all readings so far; a blank reading is left out.
+#[rattlefmt::skip]
+pub const PEAK: [u8; 93] = [
+    0x01, 0x01, 0x01, 0x01, 0x00, 0x00, 0x00, 0x00, // S = 1, R = 1, G = 1
+    0x00,                                           // global 1 is a number
+    0x00, 0x01, 0x00, 0x00, 0x00, 0x00, 0x00, 0x00, 0x00, 0x00, 0x00, 0x00, 0x00, 0x00, 0x00, 0x00, // shape 0: 0 to 1
+    0x00, 0x01, 0x07, 0x00,                         // main: shape 0, one D, seven R commands
+    0x0b, 0x00, 0x00, 0x00, 0x04, 0x00, 0x00, 0x00, // location 0  Cell of numbers, at first 4
+    0x04, 0x01, 0x00, 0x00, 0x00, 0x00, 0x00, 0x00, // location 1  Global 1, the reading
+    0x0c, 0x00, 0x00, 0x00, 0x00, 0x00, 0x00, 0x00, // location 2  Fetch cell 0: the maximum so far
+    0x0a, 0x05, 0x02, 0x01, 0x00, 0x00, 0x00, 0x00, // location 3  less: is 2 below 1?
+    0x0a, 0x0b, 0x03, 0x01, 0x02, 0x00, 0x00, 0x00, // location 4  choose by 3: location 1, or location 2
+    0x0a, 0x0c, 0x04, 0x02, 0x00, 0x00, 0x00, 0x00, // location 5  instead: 4, but 2 where 4 is blank
+    0x0d, 0x00, 0x05, 0x00, 0x00, 0x00, 0x00, 0x00, // location 6  Keep location 5 in cell 0
+    0x08, 0x00, 0x05, 0x00, 0x00, 0x00, 0x00, 0x00, // location 7  Sink 0 takes location 5; 8 is the sink
 ];
 
-// Reactors 0 and 1 add and subtract the two readings; main takes the second on odd time, where twice
-// the half of the time is not the time.
+// 2.53 The toggle: on an odd time the difference of its two readings, on an even time their sum.
+#[rattlefmt::skip]
 pub const TOGGLE: [u8; 222] = [
-    1,
-    2,
-    3,
-    2,
-    0,
-    0,
-    0,
-    0,
-    0,
-    0,
-    2,
-    1,
-    0,
-    0,
-    0,
-    0,
-    0,
-    0,
-    0,
-    0,
-    0,
-    0,
-    0,
-    0,
-    0,
-    0,
-    0,
-    1,
-    0,
-    0,
-    0,
-    0,
-    0,
-    0,
-    0,
-    0,
-    0,
-    0,
-    0,
-    0,
-    0,
-    0,
-    0,
-    0,
-    2,
-    0,
-    0,
-    0,
-    2,
-    0,
-    1,
-    1,
-    16,
-    0,
-    10,
-    0,
-    0,
-    1,
-    0,
-    0,
-    0,
-    0,
-    8,
-    0,
-    2,
-    0,
-    0,
-    0,
-    0,
-    0,
-    10,
-    1,
-    0,
-    1,
-    0,
-    0,
-    0,
-    0,
-    8,
-    0,
-    2,
-    0,
-    0,
-    0,
-    0,
-    0,
-    2,
-    0,
-    0,
-    0,
-    0,
-    0,
-    0,
-    0,
-    4,
-    0,
-    0,
-    0,
-    0,
-    0,
-    0,
-    0,
-    4,
-    1,
-    0,
-    0,
-    0,
-    0,
-    0,
-    0,
-    4,
-    2,
-    0,
-    0,
-    0,
-    0,
-    0,
-    0,
-    3,
-    0,
-    0,
-    0,
-    2,
-    0,
-    0,
-    0,
-    10,
-    3,
-    1,
-    4,
-    0,
-    0,
-    0,
-    0,
-    10,
-    2,
-    5,
-    4,
-    0,
-    0,
-    0,
-    0,
-    10,
-    6,
-    6,
-    1,
-    0,
-    0,
-    0,
-    0,
-    3,
-    2,
-    0,
-    0,
-    0,
-    0,
-    0,
-    0,
-    3,
-    2,
-    0,
-    0,
-    1,
-    0,
-    0,
-    0,
-    10,
-    11,
-    7,
-    8,
-    9,
-    0,
-    0,
-    0,
-    9,
-    0,
-    10,
-    0,
-    0,
-    0,
-    0,
-    0,
-    5,
-    0,
-    2,
-    11,
-    0,
-    0,
-    0,
-    0,
-    5,
-    1,
-    3,
-    11,
-    0,
-    0,
-    0,
-    0,
-    6,
-    0,
-    0,
-    11,
-    0,
-    0,
-    0,
-    0,
-    7,
-    0,
-    0,
-    11,
-    0,
-    0,
-    0,
-    0,
-    8,
-    0,
-    15,
-    0,
-    0,
-    0,
-    0,
-    0,
+    0x01, 0x02, 0x03, 0x02, 0x00, 0x00, 0x00, 0x00, // S = 2, R = 3, G = 2
+    0x00, 0x00,                                     // globals 1 and 2 are numbers
+    0x02, 0x01, 0x00, 0x00, 0x00, 0x00, 0x00, 0x00, 0x00, 0x00, 0x00, 0x00, 0x00, 0x00, 0x00, 0x00, // shape 0: 2 to 1
+    0x00, 0x01, 0x00, 0x00, 0x00, 0x00, 0x00, 0x00, 0x00, 0x00, 0x00, 0x00, 0x00, 0x00, 0x00, 0x00, // shape 1: 0 to 1
+    0x00, 0x00, 0x02, 0x00,                         // reactor 0, plus: shape 0, no D, two R commands
+    0x00, 0x00, 0x02, 0x00,                         // reactor 1, minus: the same
+    0x01, 0x01, 0x10, 0x00,                         // reactor 2, main: shape 1, one D, sixteen R commands
+    // plus: sources are locations 0 and 1
+    0x0a, 0x00, 0x00, 0x01, 0x00, 0x00, 0x00, 0x00, // location 2  add, of 0 and 1
+    0x08, 0x00, 0x02, 0x00, 0x00, 0x00, 0x00, 0x00, // location 3  Sink 0 takes location 2; 4 is the sink
+    // minus
+    0x0a, 0x01, 0x00, 0x01, 0x00, 0x00, 0x00, 0x00, // location 2  subtract, 0 less 1
+    0x08, 0x00, 0x02, 0x00, 0x00, 0x00, 0x00, 0x00, // location 3  Sink 0 takes location 2; 4 is the sink
+    // main
+    0x02, 0x00, 0x00, 0x00, 0x00, 0x00, 0x00, 0x00, // location 0  MakePoly: a branch point of shape 0
+    0x04, 0x00, 0x00, 0x00, 0x00, 0x00, 0x00, 0x00, // location 1  Global 0, the time
+    0x04, 0x01, 0x00, 0x00, 0x00, 0x00, 0x00, 0x00, // location 2  Global 1, the first reading
+    0x04, 0x02, 0x00, 0x00, 0x00, 0x00, 0x00, 0x00, // location 3  Global 2, the second reading
+    0x03, 0x00, 0x00, 0x00, 0x02, 0x00, 0x00, 0x00, // location 4  Constant: the number 2
+    0x0a, 0x03, 0x01, 0x04, 0x00, 0x00, 0x00, 0x00, // location 5  divide: half the time, rounded down
+    0x0a, 0x02, 0x05, 0x04, 0x00, 0x00, 0x00, 0x00, // location 6  times: twice that
+    0x0a, 0x06, 0x06, 0x01, 0x00, 0x00, 0x00, 0x00, // location 7  equal: is 6 the time? then it is even
+    0x03, 0x02, 0x00, 0x00, 0x00, 0x00, 0x00, 0x00, // location 8  Constant of kind 2: reactor 0, plus
+    0x03, 0x02, 0x00, 0x00, 0x01, 0x00, 0x00, 0x00, // location 9  Constant of kind 2: reactor 1, minus
+    0x0a, 0x0b, 0x07, 0x08, 0x09, 0x00, 0x00, 0x00, // location 10  choose by 7: plus, or minus
+    0x09, 0x00, 0x0a, 0x00, 0x00, 0x00, 0x00, 0x00, // location 11  AllocPoly: operator 10, branch point 0
+    0x05, 0x00, 0x02, 0x0b, 0x00, 0x00, 0x00, 0x00, // location 12  Supply: location 2 to source 0 of 11
+    0x05, 0x01, 0x03, 0x0b, 0x00, 0x00, 0x00, 0x00, // location 13  Supply: location 3 to source 1 of 11
+    0x06, 0x00, 0x00, 0x0b, 0x00, 0x00, 0x00, 0x00, // location 14  React: run 11
+    0x07, 0x00, 0x00, 0x0b, 0x00, 0x00, 0x00, 0x00, // location 15  Consume: sink 0 of 11
+    0x08, 0x00, 0x0f, 0x00, 0x00, 0x00, 0x00, 0x00, // location 16  Sink 0 takes location 15; 17 is the sink
 ];
 
-// The average of three readings (document 003).
+// 2.54 The nest: main deploys itself at a branch point.
+#[rattlefmt::skip]
+pub const NEST: [u8; 76] = [
+    0x01, 0x01, 0x01, 0x00, 0x00, 0x00, 0x00, 0x00, // S = 1, R = 1, G = 0
+    0x00, 0x01, 0x00, 0x00, 0x00, 0x00, 0x00, 0x00, 0x00, 0x00, 0x00, 0x00, 0x00, 0x00, 0x00, 0x00, // shape 0: 0 to 1
+    0x00, 0x01, 0x05, 0x00,                         // main: shape 0, one D, five R commands
+    0x02, 0x00, 0x00, 0x00, 0x00, 0x00, 0x00, 0x00, // location 0  MakePoly: a branch point of shape 0
+    0x03, 0x02, 0x00, 0x00, 0x00, 0x00, 0x00, 0x00, // location 1  Constant of kind 2: reactor 0
+    0x09, 0x00, 0x01, 0x00, 0x00, 0x00, 0x00, 0x00, // location 2  AllocPoly: operator 1, branch point 0
+    0x06, 0x00, 0x00, 0x02, 0x00, 0x00, 0x00, 0x00, // location 3  React: run 2
+    0x07, 0x00, 0x00, 0x02, 0x00, 0x00, 0x00, 0x00, // location 4  Consume: sink 0 of 2
+    0x08, 0x00, 0x04, 0x00, 0x00, 0x00, 0x00, 0x00, // location 5  Sink 0 takes location 4; 6 is the sink
+];
+
+// The average of three readings.
+#[rattlefmt::skip]
 pub const AVERAGE: [u8; 95] = [
-    1,
-    1,
-    1,
-    3,
-    0,
-    0,
-    0,
-    0,
-    0,
-    0,
-    0,
-    0,
-    1,
-    0,
-    0,
-    0,
-    0,
-    0,
-    0,
-    0,
-    0,
-    0,
-    0,
-    0,
-    0,
-    0,
-    0,
-    0,
-    0,
-    8,
-    0,
-    4,
-    1,
-    0,
-    0,
-    0,
-    0,
-    0,
-    0,
-    4,
-    2,
-    0,
-    0,
-    0,
-    0,
-    0,
-    0,
-    4,
-    3,
-    0,
-    0,
-    0,
-    0,
-    0,
-    0,
-    10,
-    0,
-    0,
-    1,
-    0,
-    0,
-    0,
-    0,
-    10,
-    0,
-    3,
-    2,
-    0,
-    0,
-    0,
-    0,
-    3,
-    0,
-    0,
-    0,
-    3,
-    0,
-    0,
-    0,
-    10,
-    3,
-    4,
-    5,
-    0,
-    0,
-    0,
-    0,
-    8,
-    0,
-    6,
-    0,
-    0,
-    0,
-    0,
-    0,
+    0x01, 0x01, 0x01, 0x03, 0x00, 0x00, 0x00, 0x00, // S = 1, R = 1, G = 3
+    0x00, 0x00, 0x00,                               // globals 1 to 3 are numbers
+    0x00, 0x01, 0x00, 0x00, 0x00, 0x00, 0x00, 0x00, 0x00, 0x00, 0x00, 0x00, 0x00, 0x00, 0x00, 0x00, // shape 0: 0 to 1
+    0x00, 0x00, 0x08, 0x00,                         // main: shape 0, no D, eight R commands
+    0x04, 0x01, 0x00, 0x00, 0x00, 0x00, 0x00, 0x00, // location 0  Global 1, the first reading
+    0x04, 0x02, 0x00, 0x00, 0x00, 0x00, 0x00, 0x00, // location 1  Global 2, the second reading
+    0x04, 0x03, 0x00, 0x00, 0x00, 0x00, 0x00, 0x00, // location 2  Global 3, the third reading
+    0x0a, 0x00, 0x00, 0x01, 0x00, 0x00, 0x00, 0x00, // location 3  add, of 0 and 1
+    0x0a, 0x00, 0x03, 0x02, 0x00, 0x00, 0x00, 0x00, // location 4  add, of 3 and 2
+    0x03, 0x00, 0x00, 0x00, 0x03, 0x00, 0x00, 0x00, // location 5  Constant: the number 3
+    0x0a, 0x03, 0x04, 0x05, 0x00, 0x00, 0x00, 0x00, // location 6  divide, 4 by 5
+    0x08, 0x00, 0x06, 0x00, 0x00, 0x00, 0x00, 0x00, // location 7  Sink 0 takes location 6; 8 is the sink
 ];
-
-// A line `name: check number, place`.
-pub(crate) fn put_check(name: &[u8], program: &[u8]) {
-    let answer = machine::check(program);
-    put(name);
-    put(b": check ");
-    put_decimal(answer.number() as u64);
-    put(b", ");
-    put_decimal(answer.place() as u64);
-    put(b"\n");
-}
-
-pub fn print_checks() {
-    let clock = CLOCK;
-    put_check(b"clock", &clock);
-    put_check(b"clock without its last byte", &clock[..43]);
-    let mut damaged = CLOCK;
-    damaged[38] = 1;
-    put_check(b"clock with its last command's a set to 1", &damaged);
-    put_check(b"nest", &NEST);
-    put_check(b"toggle", &TOGGLE);
-    let mut stocked = TOGGLE;
-    stocked[127] = 4;
-    put_check(b"toggle with a remainder where it divides", &stocked);
-    let mut ticking = TOGGLE;
-    ticking[71] = 13;
-    put_check(
-        b"toggle with a tick difference where it subtracts",
-        &ticking,
-    );
-    ticking[71] = 14;
-    put_check(b"toggle with no primitive where it subtracts", &ticking);
-    print_disorder();
-}
-
-fn put_byte(program: &mut [u8], at: usize, b: u8) {
-    if at < program.len() {
-        program[at] = b;
-    }
-}
-
-// Another command at byte `at`: code, x, a and b.
-pub(crate) fn put_command(program: &mut [u8], at: u8, command: [u8; 4]) {
-    put_byte(program, at as usize, command[0]);
-    put_byte(program, at as usize + 1, command[1]);
-    put_byte(program, at as usize + 2, command[2]);
-    put_byte(program, at as usize + 3, command[3]);
-}
-
-// The toggle with another command.
-fn with_command(at: u8, command: [u8; 4]) -> [u8; 222] {
-    let mut program = TOGGLE;
-    put_command(&mut program, at, command);
-    program
-}
-
-// One command out of order among those that deploy, supply, run and read at location 11.
-fn print_disorder() {
-    put_check(
-        b"toggle, source 0 supplied twice",
-        &with_command(190, [5, 0, 3, 11]),
-    );
-    put_check(
-        b"toggle, React before source 1 is supplied",
-        &with_command(190, [6, 0, 0, 11]),
-    );
-    put_check(
-        b"toggle, Consume before React",
-        &with_command(198, [7, 0, 0, 11]),
-    );
-    put_check(b"toggle, a second React", &with_command(206, [6, 0, 0, 11]));
-    put_check(
-        b"toggle, Supply after React",
-        &with_command(206, [5, 0, 2, 11]),
-    );
-    put_check(
-        b"toggle, a second AllocPoly",
-        &with_command(182, [9, 0, 10, 0]),
-    );
-    put_check(
-        b"toggle, AllocMono of its own reactor",
-        &with_command(86, [1, 2, 0, 0]),
-    );
-    let mut twice = with_command(206, [8, 0, 1, 0]);
-    twice[216] = 1;
-    put_check(b"toggle, its sink set twice", &twice);
-}
-
-// A line `name, n words: start number, place`.
-fn put_start(name: &[u8], program: &[u8], memory: &mut [u32]) {
-    let answer = machine::start(program, memory);
-    put(name);
-    put(b", ");
-    put_decimal(memory.len() as u64);
-    put(b" words: start ");
-    put_decimal(answer.number() as u64);
-    put(b", ");
-    put_decimal(answer.place() as u64);
-    put(b"\n");
-}
-
-// Memory is not zero before a start.
-pub fn print_starts() {
-    put_start(b"clock", &CLOCK, &mut [77u32; 8]);
-    put_start(b"clock", &CLOCK, &mut [77u32; 9]);
-    put_start(b"clock", &CLOCK, &mut [77u32; 1]);
-    put_start(b"toggle", &TOGGLE, &mut [77u32; 55]);
-}

@@ -1,5 +1,6 @@
 // Writing to standard output.
 use libc::STDOUT_FILENO;
+use machine::Answer;
 use value::Value;
 
 pub fn put(text: &[u8]) {
@@ -8,6 +9,13 @@ pub fn put(text: &[u8]) {
 
 pub fn put_decimal(n: u64) {
     io::print_decimal(STDOUT_FILENO, n);
+}
+
+// `number, place`.
+pub fn put_answer(answer: Answer) {
+    put_decimal(answer.number() as u64);
+    put(b", ");
+    put_decimal(answer.place() as u64);
 }
 
 fn put_integer(z: i32) {

@@ -8,13 +8,13 @@ use crate::line::SINKS_AFTER;
 use crate::words::fill;
 use crate::words::same;
 use image::Judged;
-use machine::Turned;
+use image::MOST_WORDS;
+use machine::Answer;
+use machine::Refusal;
+use program::Header;
 
-// One more than memory may have, so that too many can be tried.
-const MOST_WORDS: usize = 16385;
-
-// Words for a line's readings, and for its sink space: a pair more than 31 globals have.
-const FEW_WORDS: usize = 64;
+// Words for a line's readings, and for its sink space: a pair more than the most globals have.
+const FEW_WORDS: usize = 2 * (Header::MOST_GLOBALS as usize + 1);
 
 // What the vectors of a file are of.
 pub enum Kind {
@@ -22,12 +22,6 @@ pub enum Kind {
     Start,
     Image,
     Turn,
-}
-
-// The check's number and place.
-fn check_agrees(line: Line, program: &[u8]) -> bool {
-    let answer = machine::check(program);
-    line.says(answer.number(), answer.place())
 }
 
 // Whether these are all the words of a field of the line.
@@ -38,21 +32,15 @@ fn all_words(line: Line, field: u8, room: &[u8], words: &[u32]) -> bool {
 // Start's number and place, and every word of memory after it.
 fn start_agrees(line: Line, room: &[u8], memory: &mut [u32]) -> bool {
     let answer = machine::start(line.program(room), memory);
-    let words = all_words(line, MEMORY_AFTER, room, memory);
-    line.says(answer.number(), answer.place()) & words
+    line.says(answer) & all_words(line, MEMORY_AFTER, room, memory)
 }
 
 // Whether the image is sound: 0 and 0, or 9 and the place.
 fn image_agrees(line: Line, program: &[u8], memory: &[u32]) -> bool {
     match image::sound(program, memory) {
-        Judged::Sound => line.says(0, 0),
-        Judged::Unsound(place) => line.says(9, place),
+        Judged::Sound => line.says(Answer::Done(0)),
+        Judged::Unsound(place) => line.says(Answer::Refused(Refusal::UnsoundImage(place))),
     }
-}
-
-// Whether a turn's number and place are the line's.
-fn turn_says(line: Line, answer: Turned) -> bool {
-    line.says(answer.number(), answer.place())
 }
 
 // A turn's number and place, and every word of memory and of sink space after it.
@@ -68,7 +56,7 @@ fn turn_agrees(
     let answer = machine::turn(line.program(room), memory, readings, sinks);
     let words = all_words(line, MEMORY_AFTER, room, memory);
     let sunk = all_words(line, SINKS_AFTER, room, sinks);
-    turn_says(line, answer) & words & sunk
+    line.says(answer) & words & sunk
 }
 
 // The same in parts of two spaces, as long as the line's readings and sinks.
@@ -100,7 +88,7 @@ fn turn_runs(line: Line, room: &[u8], memory: &mut [u32]) -> bool {
 fn agrees_on(kind: Kind, line: Line, room: &[u8], memory: &mut [u32]) -> bool {
     fill(memory, line.words(MEMORY, room));
     match kind {
-        Kind::Check => check_agrees(line, line.program(room)),
+        Kind::Check => line.says(machine::check(line.program(room))),
         Kind::Start => start_agrees(line, room, memory),
         Kind::Image => image_agrees(line, line.program(room), memory),
         Kind::Turn => turn_runs(line, room, memory),
@@ -115,8 +103,8 @@ fn agrees_within(kind: Kind, line: Line, room: &[u8], space: &mut [u32]) -> bool
     agrees_on(kind, line, room, &mut space[..n])
 }
 
-// Whether the proved code gives what the line says.
+// Whether the proved code gives what the line says. A word more than memory may have can be tried.
 pub fn agrees(kind: Kind, line: Line, room: &[u8]) -> bool {
-    let mut space = [0u32; MOST_WORDS];
+    let mut space = [0u32; MOST_WORDS + 1];
     agrees_within(kind, line, room, &mut space)
 }

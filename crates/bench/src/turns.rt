@@ -1,16 +1,17 @@
-// The cases of 01 about turns, as a user sees them: readings in; the sink and the words used, or the
+// The bench cases about turns, as a user sees them: readings in; the sink and the words used, or the
 // refusal, out.
 use crate::programs::AVERAGE;
 use crate::programs::CLOCK;
 use crate::programs::NEST;
+use crate::programs::PEAK;
 use crate::programs::TOGGLE;
 use crate::text::put;
+use crate::text::put_answer;
 use crate::text::put_decimal;
 use crate::text::put_value;
 use image::turns;
 use image::word;
-use machine::Refusal;
-use machine::Turned;
+use machine::Answer;
 use machine::turn;
 use value::Value;
 
@@ -46,11 +47,9 @@ fn put_done(sinks: &[u32], u: usize) {
 }
 
 // `refused number, place; turns completed t`.
-fn put_refused(why: Refusal, memory: &[u32]) {
+fn put_refused(answer: Answer, memory: &[u32]) {
     put(b"refused ");
-    put_decimal(why.number() as u64);
-    put(b", ");
-    put_decimal(why.place() as u64);
+    put_answer(answer);
     put(b"; turns completed ");
     put_decimal(turns(memory) as u64);
     put(b"\n");
@@ -64,9 +63,10 @@ pub(crate) fn put_turn(name: &[u8], program: &[u8], memory: &mut [u32], readings
     put_decimal(turns(memory) as u64 + 1);
     put(b": ");
     put_readings(readings);
-    match turn(program, memory, readings, &mut sinks) {
-        Turned::Done(u) => put_done(&sinks, u),
-        Turned::Refused(why) => put_refused(why, memory),
+    let answer = turn(program, memory, readings, &mut sinks);
+    match answer {
+        Answer::Done(u) => put_done(&sinks, u),
+        Answer::Refused(_) => put_refused(answer, memory),
     }
 }
 
@@ -106,6 +106,26 @@ fn average(memory: &mut [u32], readings: &[u32]) {
     put_turn(b"average", &AVERAGE, memory, readings);
 }
 
+// A blank reading leaves the maximum as it is, and so does a refused turn.
+fn peak() {
+    let mut memory = [77u32; 21];
+    machine::start(&PEAK, &mut memory);
+    put_turn(b"running maximum", &PEAK, &mut memory, &[1, 3]);
+    put_turn(b"running maximum", &PEAK, &mut memory, &[1, 5]);
+    put_turn(b"running maximum", &PEAK, &mut memory, &[0, 0]);
+    put_turn(b"running maximum", &PEAK, &mut memory, &[2, 1]);
+    put_turn(b"running maximum", &PEAK, &mut memory, &[1, 2]);
+    put_turn(b"running maximum", &PEAK, &mut memory, &[1, 9]);
+    memory[5] = 2;
+    memory[6] = 1;
+    put_turn(
+        b"running maximum, a truth in its cell",
+        &PEAK,
+        &mut memory,
+        &[1, 9],
+    );
+}
+
 pub fn print_all() {
     clock(&mut [77u32; 9]);
     toggle(b"toggle", &mut [77u32; 55]);
@@ -115,4 +135,5 @@ pub fn print_all() {
     nest(b"nest in 834 words", &mut [77u32; 834]);
     average(&mut [77u32; 21], &[1, 10, 1, 20, 1, 30]);
     average(&mut [77u32; 21], &[1, 10, 0, 0, 1, 30]);
+    peak();
 }

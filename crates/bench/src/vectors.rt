@@ -1,5 +1,5 @@
-// Files of vectors, most of them from another implementation of documents 01 and 02 (DECISIONS says
-// which are not): for each number, how many agree with the proved code, and how many differ.
+// Files of vectors, most of them from another implementation of the machine (DECISIONS says which are
+// not): for each number, how many agree with the proved code, and how many differ.
 use crate::line::Line;
 use crate::line::ROOM;
 use crate::text::put;

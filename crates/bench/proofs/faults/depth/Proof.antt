@@ -1,8 +1,4 @@
-use Prim.Native.Nat.{_-_}
-use borrow.Author.Needs.{needs}
-use lib.ListN.{length}
-use mathlib.Core.Path.{_≡_}
-use native.Mathlib.Omega.{arith}
+use Rattle.value.specs.Prelude.{_-_, _≡_, length, arith, needs}
 use Rattle.bench.proofs.faults.depth.Statement.{statement}
 use Rattle.bench.proofs.faults.depth.Tie as tie
 

@@ -1,7 +1,5 @@
-use borrow.Author.Needs.{needs}
+use Rattle.value.specs.Prelude.{sym, arith, needs}
 use lib.Seq.{length-take-le}
-use mathlib.Core.Path.{sym}
-use native.Mathlib.Omega.{arith}
 use Rattle.bench.proofs.trial.agrees_within.Statement.{statement}
 use Rattle.bench.proofs.trial.agrees_within.Tie as tie
 

@@ -1,7 +1,4 @@
-use Prim.Native.Nat.{_-_, _/_}
-use borrow.Author.Needs.{needs}
-use lib.ListN.{length}
-use native.Mathlib.Omega.{arith}
+use Rattle.value.specs.Prelude.{_-_, _/_, length, arith, needs}
 use Rattle.bench.proofs.turns.put_pairs.Statement.{statement}
 use Rattle.bench.proofs.turns.put_pairs.Tie as tie
 

@@ -1,6 +1,4 @@
-use Prim.Native.Nat.{_-_}
-use borrow.Author.Needs.{needs}
-use native.Mathlib.Omega.{arith}
+use Rattle.value.specs.Prelude.{_-_, arith, needs}
 use Rattle.bench.proofs.vectors.print.Statement.{statement}
 use Rattle.bench.proofs.vectors.print.Tie as tie
 

@@ -1,8 +1,5 @@
-use Prim.Native.Nat.{_-_}
-use borrow.Author.Needs.{needs}
-use lib.ListN.{length, length-set}
-use mathlib.Core.Path.{_≡_, refl}
-use native.Mathlib.Omega.{arith}
+use Rattle.value.specs.Prelude.{_-_, _≡_, refl, length, arith, needs}
+use lib.ListN.{length-set}
 use Rattle.bench.proofs.words.fill.Statement.{statement}
 use Rattle.bench.proofs.words.fill.Tie as tie
 

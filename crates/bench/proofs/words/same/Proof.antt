@@ -1,7 +1,4 @@
-use Prim.Native.Nat.{_-_}
-use borrow.Author.Needs.{needs}
-use lib.ListN.{length}
-use native.Mathlib.Omega.{arith}
+use Rattle.value.specs.Prelude.{_-_, length, arith, needs}
 use Rattle.bench.proofs.words.same.Statement.{statement}
 use Rattle.bench.proofs.words.same.Tie as tie
 

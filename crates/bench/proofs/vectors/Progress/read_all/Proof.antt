@@ -1,5 +1,4 @@
-use borrow.Author.Needs.{needs}
-use native.Mathlib.Omega.{arith}
+use Rattle.value.specs.Prelude.{arith, needs}
 use Rattle.bench.proofs.vectors.Progress.read_all.Statement.{statement}
 use Rattle.bench.proofs.vectors.Progress.read_all.Tie as tie
 
