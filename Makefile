@@ -1,4 +1,5 @@
 # rt is the toolchain's one command; target/ is made by it. build/ is what C and Python programs take.
+# A step that takes minutes says on stderr what it does, so that a program's output stays by itself.
 .PHONY: test run jumps rig shared example install speed others fmt
 
 CFLAGS ?= -O2
@@ -13,15 +14,18 @@ test:
 	@rt fmt --check
 	@mkdir -p target
 	@if command -v $(firstword $(CC)) >/dev/null; then \
+	    echo "proving the library and running the examples, some minutes: see target/rig.log, target/example.log" >&2; \
 	    $(MAKE) --no-print-directory example >target/example.log 2>&1 || { cat target/example.log; exit 1; }; \
 	else \
 	    echo "no C compiler is found ($(CC)): the examples are left out"; \
 	fi
+	@echo "proving every crate from nothing, then trying every edit that must be refused: about half an hour" >&2
 	@rt ci
 
 # Proves and builds the bench program, and runs it.
 run:
 	@mkdir -p target
+	@echo "proving and building the bench, some minutes the first time: see target/run.log" >&2
 	@rt check bench >target/run.log 2>&1 || { cat target/run.log; exit 1; }
 	@cd crates/bench/data && ../../../target/bin/bench $$(cat ../args)
 
@@ -32,6 +36,7 @@ jumps:
 # Proves the calls for C and builds them: build/libremus.a, its header and its pkg-config file.
 rig:
 	@mkdir -p target build
+	@echo "proving and building the library for C, some minutes the first time: see target/rig.log" >&2
 	@rt staticlib rig >target/rig.log 2>&1 || { cat target/rig.log; exit 1; }
 	@cp target/staticlib/librig.a build/libremus.a
 	@cp include/remus.h build/remus.h
@@ -41,8 +46,15 @@ rig:
 shared: rig
 	@$(CC) -shared -o build/libremus.so -Wl,--whole-archive build/libremus.a -Wl,--no-whole-archive
 
-# Builds and runs the examples: rig.c and rig.py have to print examples/rig.out, and no vector may differ.
+# Builds and runs the examples: the program of README.md has to print what stands below it there, rig.c and rig.py
+# examples/rig.out, and no vector may differ.
 example: rig shared
+	@sed -n '/^```c$$/,/^```$$/{/^```/!p}' README.md >build/worn.c
+	@sed -n '/^```output$$/,/^```$$/{/^```/!p}' README.md >build/worn.expected
+	@$(C99) build/worn.c build/libremus.a -o build/worn
+	@build/worn >build/worn.out
+	@diff -u build/worn.expected build/worn.out
+	@echo "the program of README.md prints what stands there"
 	@$(C99) examples/rig.c build/libremus.a -o build/rig
 	@build/rig >build/rig.out
 	@diff -u examples/rig.out build/rig.out

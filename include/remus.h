@@ -22,8 +22,8 @@
  *   - The pointer of an empty slice is not used and may be null.
  *
  * Answers. An answer is a number, which says how the call ended, and a place, which says where: see remus_number and
- * remus_place. Any number but 0 is a refusal. A refused call leaves memory and sink space exactly as they were, so it
- * can be made again once its fault is corrected.
+ * remus_place. Any number but 0 is a refusal. A refused call changes no byte of memory or of sink space, so it can be
+ * made again once its fault is corrected.
  *
  * Values. A value is a pair of words, a mark and a content. A reading that is missing is blank, and so is a sink whose
  * value is not known. Blank is not zero and not false: look at the mark before the content.

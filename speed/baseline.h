@@ -1,5 +1,5 @@
-/* The machine by hand in C: document 01 and the requests that have landed, an implementation of its own.
- * Every slice is bytes with a length; a word is four bytes, low byte first. An answer is number << 32 | place. */
+/* The machine of docs/MANUAL.md by hand in C, an implementation of its own.
+ * A slice is a pointer and a length in bytes; a word has four, low byte first. An answer is number << 32 | place. */
 #ifndef BASELINE_H
 #define BASELINE_H
 #include <stddef.h>

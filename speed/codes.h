@@ -1,4 +1,4 @@
-/* The bytecode's command codes and primitives, by document 01 and the requests that have landed. */
+/* The bytecode's command codes and primitives, by rules 2.32 and 1.10 of docs/MANUAL.md. */
 #ifndef CODES_H
 #define CODES_H
 
