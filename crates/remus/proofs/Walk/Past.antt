@@ -1,5 +1,5 @@
 -- What a turn's states remember of its beginning and of its Keeps (`Past`), and that a step keeps this (`past-on`): a
--- cell of a wired deployment, or of one whose Cell is behind, has its content as at the turn's start; in the slot of a
+-- cell of a wired deployment, or of one whose Cell is behind, holds what it held before the turn; in the slot of a
 -- Keep behind waits what its operand was as it was carried out. `its-cell` finds the Cell of a cell.
 use Rattle.value.specs.Prelude.{ℕ, _<_, _≡_, refl, sym, _∙_, ap, subst, _⊎_, inl, inr, _≢_, List, arith}
 use Rattle.value.specs.Value.{markOf, value}
