@@ -6,7 +6,7 @@ use Rattle.answer.specs.declared.Refusal.{Refusal}
 use Rattle.answer.specs.declared.Refusal.the-variants.{ProgramLength, TableByte, Command, Operand, PortOrKind}
 use Rattle.answer.specs.declared.Refusal.the-variants.{SetTwice, Missing, MemoryLength, UnsoundImage}
 use Rattle.answer.specs.declared.Refusal.the-variants.{ReadingsLength, Reading, SinkSpace, Clock, NoRoom, TooDeep}
-use Rattle.answer.specs.declared.Refusal.the-variants.{TooEarly, TooLate, NotLower, Withdrawn}
+use Rattle.answer.specs.declared.Refusal.the-variants.{TooEarly, TooLate, NotLower, WorkLength, Withdrawn}
 
 -- the refusal of number n at place q
 unfoldable at : ℕ → ℕ → Refusal
@@ -29,7 +29,8 @@ at n q =
     (pick (n =? 19) (TooEarly q)
     (pick (n =? 20) (TooLate q)
     (pick (n =? 21) (NotLower q)
-    (Withdrawn q))))))))))))))))))
+    (pick (n =? 22) (WorkLength q)
+    (Withdrawn q)))))))))))))))))))
 
 known-by : (w : Refusal) → at (refusalNumber w) (refusalPlace w) ≡ w
 unfolding at pick _=?_
@@ -51,6 +52,7 @@ known-by (TooDeep q) = refl
 known-by (TooEarly q) = refl
 known-by (TooLate q) = refl
 known-by (NotLower q) = refl
+known-by (WorkLength q) = refl
 known-by (Withdrawn q) = refl
 
 pub refusals-apart : RefusalsApart
@@ -82,4 +84,5 @@ refusal-counts (TooDeep q) = omega arith
 refusal-counts (TooEarly q) = omega arith
 refusal-counts (TooLate q) = omega arith
 refusal-counts (NotLower q) = omega arith
+refusal-counts (WorkLength q) = omega arith
 refusal-counts (Withdrawn q) = omega arith

@@ -6,7 +6,7 @@ use Rattle.answer.specs.declared.Refusal.{Refusal}
 use Rattle.answer.specs.declared.Refusal.the-variants.{ProgramLength, TableByte, Command, Operand, PortOrKind}
 use Rattle.answer.specs.declared.Refusal.the-variants.{SetTwice, Missing, MemoryLength, UnsoundImage}
 use Rattle.answer.specs.declared.Refusal.the-variants.{ReadingsLength, Reading, SinkSpace, Clock, NoRoom, TooDeep}
-use Rattle.answer.specs.declared.Refusal.the-variants.{TooEarly, TooLate, NotLower, Withdrawn}
+use Rattle.answer.specs.declared.Refusal.the-variants.{TooEarly, TooLate, NotLower, WorkLength, Withdrawn}
 
 abbrev pub refusalNumber : Refusal → ℕ
 refusalNumber (ProgramLength q) = 1
@@ -27,6 +27,7 @@ refusalNumber (TooDeep q) = 15
 refusalNumber (TooEarly q) = 19
 refusalNumber (TooLate q) = 20
 refusalNumber (NotLower q) = 21
+refusalNumber (WorkLength q) = 22
 refusalNumber (Withdrawn q) = 25
 
 abbrev pub refusalPlace : Refusal → ℕ
@@ -48,6 +49,7 @@ refusalPlace (TooDeep q) = q
 refusalPlace (TooEarly q) = q
 refusalPlace (TooLate q) = q
 refusalPlace (NotLower q) = q
+refusalPlace (WorkLength q) = q
 refusalPlace (Withdrawn q) = q
 
 -- of an answer: 0 and the size that the call is asked for, or the refusal's

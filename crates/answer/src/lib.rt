@@ -10,7 +10,7 @@ pub enum Refusal {
     TableByte(usize),
     // 3 No command of this sequence, x or a content out of range, or an unused byte not zero: its first byte.
     Command(usize),
-    // 4 An operand names nothing that it may name: the command's first byte, and so to 6 and from 19 on.
+    // 4 An operand names nothing that it may name: the command's first byte, and so for 5, 6, 19 to 21 and 25.
     Operand(usize),
     // 5 A port does not exist, or kinds differ.
     PortOrKind(usize),
@@ -40,6 +40,8 @@ pub enum Refusal {
     TooLate(usize),
     // 21 An AllocMono of a reactor that does not come before its own.
     NotLower(usize),
+    // 22 The work memory of a preview is not as long as the memory: the work memory's words.
+    WorkLength(usize),
     // 25 A primitive that is withdrawn.
     Withdrawn(usize),
 }
@@ -79,6 +81,7 @@ impl Refusal {
             Refusal::TooEarly(_) => 19,
             Refusal::TooLate(_) => 20,
             Refusal::NotLower(_) => 21,
+            Refusal::WorkLength(_) => 22,
             Refusal::Withdrawn(_) => 25,
         }
     }
@@ -105,6 +108,7 @@ impl Refusal {
             Refusal::TooEarly(q) => q,
             Refusal::TooLate(q) => q,
             Refusal::NotLower(q) => q,
+            Refusal::WorkLength(q) => q,
             Refusal::Withdrawn(q) => q,
         }
     }

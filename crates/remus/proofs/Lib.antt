@@ -15,3 +15,4 @@ pub mod Steady
 pub mod Demand
 pub mod RefusedLeaves
 pub mod FirstFault
+pub mod Previews

@@ -1,4 +1,5 @@
--- No word of memory or sink space is changed by a refused turn, whatever it is handed: `refused-keeps`. Assumes nothing.
+-- No word of memory or sink space is changed by a refused turn, whatever it is handed: `refused-keeps`.
+-- Assumes nothing.
 use Rattle.value.specs.Prelude.{ℕ, _≡_, refl, subst, _≢_, List, length}
 use Rattle.value.proofs.Tests.{cases, goes, stops}
 use Rattle.load.specs.Check.{checkOf}

@@ -13,6 +13,7 @@ use Rattle.answer.specs.Answer.{placeOf, numberOf, refusalNumber, refusalPlace}
 use Rattle.image.specs.Memory.{word, used}
 use Rattle.image.specs.Start.{startOf}
 use Rattle.remus.specs.Turn.{Turn, turnOf}
+use Rattle.remus.specs.Preview.{Preview, previewOf}
 use Rattle.remus.specs.Run.{Ran, ran, stopped, mainRun}
 use Rattle.remus.specs.Undo.{undoOf}
 use Rattle.remus.specs.Walk.{Next, go, stop, over, steps, begun}
@@ -32,6 +33,9 @@ pub data Ask : Type 0 where
   resumes : (p memory readings : List ℕ) → Ask
   -- after that many turns, of a run that stops: 1 if undoOf brings every word back
   undoes : (count : ℕ) (p : List ℕ) (n : ℕ) (readings sinks : List ℕ) → Ask
+  -- of a preview after a start with n words and that many turns, its number, place, work memory, at first k words of 5,
+  -- and sink space, at first 9 9
+  previews : (count : ℕ) (p : List ℕ) (n k : ℕ) (readings : List ℕ) → Ask
   -- mark and content
   primitive-of : (x : ℕ) (a b : Value) → Ask
 
@@ -58,6 +62,9 @@ same [] (x ∷ xs) = 0
 same (x ∷ xs) [] = 0
 same (x ∷ xs) (y ∷ ys) = pick (x =? y) (same xs ys) 0
 
+abbrev foreseen : Preview → List ℕ
+foreseen v = numberOf (v .answer) ∷ placeOf (v .answer) ∷ (v .work ++ v .sinkSpace)
+
 abbrev undone : List ℕ → List ℕ → Ran → List ℕ
 undone p m (ran m′) = []
 undone p m (stopped w m′) = same (undoOf p (used m) m′) m ∷ []
@@ -77,6 +84,9 @@ answerOf (turns p n rds sk) = after rds p (startOf p (replicate n 7) .memory) sk
 answerOf (resumes p m rd) = let t = turnOf p m rd (9 ∷ 9 ∷ []) in numberOf (t .answer) ∷ placeOf (t .answer) ∷ []
 answerOf (walks p n rd) = ended (steps p rd 1000 (begun p (startOf p (replicate n 7) .memory)))
 answerOf (undoes k p n rd sk) = undoneFrom p rd (memoryOf k p (startOf p (replicate n 7) .memory) rd sk)
+answerOf (previews c p n k rd) =
+    let sk : List ℕ = 9 ∷ 9 ∷ [] in
+    foreseen (previewOf p (memoryOf c p (startOf p (replicate n 7) .memory) rd sk) (replicate k 5) rd sk)
 answerOf (primitive-of x a b) = let v = primitive x a b blank in v .mark ∷ v .content ∷ []
 
 abbrev row : Ask → List ℕ → Row
@@ -281,8 +291,26 @@ aboutImages =
     ∷ row (resumes nest (nested 65) []) (9 ∷ 0 ∷ [])  -- and 65 is not: a depth has no place
     ∷ []
 
+-- a refused preview: number, place, the words of work memory, sinks as they were
+abbrev not-shown : ℕ → ℕ → List ℕ → List ℕ
+not-shown n q work = n ∷ q ∷ (work ++ (9 ∷ 9 ∷ []))
+
+abbrev aboutPreviews : List Row
+aboutPreviews =
+    row (previews 0 clock 9 9 []) (0 ∷ 9 ∷ ((9 ∷ 1 ∷ 0 ∷ 1 ∷ zeros 5) ++ (1 ∷ 1 ∷ [])))
+    ∷ row (previews 1 toggle 55 55 (1 ∷ 7 ∷ 1 ∷ 5 ∷ [])) (0 ∷ 55 ∷ (take 55 twoTurns ++ (1 ∷ 12 ∷ [])))  -- 4.28
+    ∷ row (previews 0 (take 43 clock) 1 2 []) (not-shown 1 43 (replicate 2 5))
+    ∷ row (previews 0 clock 1 2 []) (not-shown 8 1 (replicate 2 5))  -- 8 comes before 22
+    ∷ row (previews 0 clock 8 9 []) (not-shown 22 9 (replicate 9 5))  -- 22 before 9: no start has made them ready
+    ∷ row (previews 0 clock 8 8 []) (not-shown 9 0 (replicate 8 5))
+    ∷ row (previews 0 clock 9 8 (1 ∷ [])) (not-shown 22 8 (replicate 8 5))  -- and before 10
+    ∷ row (previews 0 clock 9 9 (1 ∷ [])) (not-shown 10 1 (replicate 9 5))
+    ∷ row (previews 0 toggle 33 33 (1 ∷ 7 ∷ 1 ∷ 5 ∷ [])) (not-shown 14 1 (33 ∷ 0 ∷ 2 ∷ zeros 30))  -- a copy of memory
+    ∷ row (previews 0 nest 834 834 []) (not-shown 15 0 (15 ∷ zeros 833))
+    ∷ []
+
 abbrev pub starred : List Row
-starred = aboutCheck ++ (aboutPrimitives ++ (aboutTurns ++ aboutImages))
+starred = aboutCheck ++ (aboutPrimitives ++ (aboutTurns ++ (aboutPreviews ++ aboutImages)))
 
 abbrev pub answers : List Row → List (List ℕ)
 answers [] = []

@@ -6,6 +6,7 @@ pub mod Clear
 pub mod Undo
 pub mod Turn
 pub mod Fault
+pub mod Preview
 pub mod Walk
 pub mod Point
 pub mod Claim
