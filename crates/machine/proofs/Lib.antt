@@ -16,3 +16,4 @@ pub mod Sequences
 pub mod Stretch
 pub mod FactLaws
 pub mod Turning
+pub mod Previewing

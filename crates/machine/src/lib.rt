@@ -1,12 +1,12 @@
-// 4.1 The machine's calls. Check and start are those of load and image; the turn is here.
+// 4.1 The machine's calls. Check and start are those of load and image; turn and preview are here.
 // Each answers with an Answer, which has a number and a place.
 //
 // A turn sums up the facts of each reactor once, for the test of the image and for the run. A command is
 // decoded once (exec) and carried out by a function of its own on the indices of its slots (command,
 // allocate, cells), which a table gives (places); a deployment's commands follow one another (run). A
 // completed run leaves its sinks, cells with what was kept (keeps) and cleared words (finish), a refused
-// one is undone in place (undo); these go over the deployments (passes). Memory is never copied, and the
-// work of a turn is linear in the program's bytes and memory's words.
+// one is undone in place (undo); these go over the deployments (passes). A turn copies no memory, a preview
+// copies it once; the work of a turn is linear in the program's bytes and memory's words.
 mod allocate;
 mod asked;
 mod back;
@@ -24,6 +24,7 @@ mod undo;
 
 pub use answer::Answer;
 pub use answer::Refusal;
+pub use calls::preview;
 pub use calls::turn;
 pub use image::start;
 pub use load::check;

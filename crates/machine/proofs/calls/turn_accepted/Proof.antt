@@ -1,8 +1,9 @@
 use Rattle.image.proofs.Starts.{words-legal}
+use Rattle.machine.proofs.Turning.{by-ready, clock-left, ready-fine, sinks-fit}
 use Rattle.machine.specs.Contracts.{turned}
-use Rattle.remus.specs.Turn.{byCheck, bySound, turnRefused}
+use Rattle.remus.specs.Turn.{byAsked, byCheck, turnRefused}
 use Rattle.value.proofs.Tests.{goes, passed, refused as no-pass, stops}
-use Rattle.value.specs.Prelude.{refl, sym, needs}
+use Rattle.value.specs.Prelude.{refl, sym, _∙_, needs}
 use Rattle.machine.proofs.calls.turn_accepted.Statement.{statement}
 use Rattle.machine.proofs.calls.turn_accepted.Tie as tie
 
@@ -10,43 +11,43 @@ returns : tie.Need-returns
 unfolding byCheck turnRefused turned
 returns c = stops _ (no-pass (c .before .words-legal .ensures) (c .if1 .taken)) refl
 
-sound-by-requires : tie.Need-sound-by-requires
-sound-by-requires c κs = c .before .before .before .before .before .before .before .pre .loaded .facts
+ready-requires : tie.Need-ready-requires
+ready-requires c κs = c .before .before .before .before .before .before .before .before .pre .loaded .facts
 
-turn-on-sound-requires : tie.Need-turn-on-sound-requires
-turn-on-sound-requires c κs =
-    let at-sound-by = c .before .before .before .before .sound-by in
-    let at-if1 = c .before .before .before .before .before .before .if1 in
-    let at-words-legal = c .before .before .before .before .before .before .before .words-legal in
-    let pre = c .before .before .before .before .before .before .before .before .before .before .before .before .pre in
-    let e = sym (rw (c .before .before .enum-told .given .1) at (at-sound-by .ensures)) in
-    let few = words-legal _ .0 (passed (at-words-legal .ensures) (at-if1 .left)) .1 in
-    (pre .loaded, pre .safe _ _ few e)
+run-main-requires : tie.Need-run-main-requires
+run-main-requires c κs =
+    let at-told = c .before .before in
+    let at-ready = at-told .before .before in
+    let at-if = at-ready .before .before .before in
+    let pre = at-if .before .before .before .before .before .before .pre in
+    let e = sym (rw (at-told .enum-told .given .1) at (at-ready .ready .ensures)) in
+    let few = words-legal _ .0 (passed (at-if .before .words-legal .ensures) (at-if .if1 .left)) .1 in
+    let f = ready-fine _ _ _ _ _ e in
+    let s = pre .safe _ _ few (f .0) in
+    (pre .loaded, (s, (s .steady _ (f .1), (clock-left _ _ _ _ (f .1), sinks-fit _ _ _ _ (f .1)))))
 
 returns-2 : tie.Need-returns-2
-unfolding byCheck bySound
+unfolding byCheck byAsked
 returns-2 c =
-    let at-turn-on-sound = c .before .before .before .before .turn-on-sound in
-    let at-enum-told = c .before .before .before .before .before .before .before .enum-told in
-    let at-sound-by = c .before .before .before .before .before .before .before .before .before .sound-by in
-    let at-if1 = c .before .before .before .before .before .before .before .before .before .before .before .if1 in
-    let at-words-legal = c .before .before .before .before .before .before .before .before .before .before .before
-    .before .words-legal in
-    let e = sym (rw (at-enum-told .given .1) at (at-sound-by .ensures)) in
-    goes _ _ (passed (at-words-legal .ensures) (at-if1 .left)) (rw e (at-turn-on-sound .ensures))
+    let at-run = c .before .before .before .before in
+    let at-told = at-run .before .before .before in
+    let at-ready = at-told .before .before in
+    let at-if = at-ready .before .before .before in
+    let e = sym (rw (at-told .enum-told .given .1) at (at-ready .ready .ensures)) in
+    goes _ _ (passed (at-if .before .words-legal .ensures) (at-if .if1 .left))
+    (at-run .run-main .ensures ∙ sym (by-ready _ _ _ _ _ _ e))
 
 returns-3 : tie.Need-returns-3
-unfolding byCheck bySound turnRefused turned
+unfolding byCheck byAsked turnRefused turned
 returns-3 c =
-    let at-sound-by = c .before .before .before .sound-by in
-    let at-if1 = c .before .before .before .before .before .if1 in
-    let at-words-legal = c .before .before .before .before .before .before .words-legal in
-    let e = sym (rw (c .before .q .given .1) at (at-sound-by .ensures)) in
-    goes _ _ (passed (at-words-legal .ensures) (at-if1 .left)) (rw e)
+    let at-ready = c .before .before .before in
+    let at-if = at-ready .before .before .before in
+    let e = sym (rw (c .before .w .given .1) at (at-ready .ready .ensures)) in
+    goes _ _ (passed (at-if .before .words-legal .ensures) (at-if .if1 .left)) (sym (by-ready _ _ _ _ _ _ e))
 
 pub turn-accepted-spec : {M : Type 1} → statement M
 turn-accepted-spec =
     tie.close
     (tie.spec
-    (λ c κs. search needs) returns sound-by-requires (λ c. search needs) turn-on-sound-requires (λ c. search needs)
-    (λ c. search needs) (λ c. search needs) returns-2 (λ c. search needs) returns-3)
+    (λ c κs. search needs) returns ready-requires (λ c. search needs) run-main-requires (λ c. search needs)
+    (λ c. search needs) (λ c. search needs) returns-2 (λ c. search needs) (λ c. search needs) returns-3)
