@@ -28,10 +28,12 @@ use Rattle.remus.proofs.Sinks.{pairs-length}
 use Rattle.machine.proofs.Turning.{sinks-fit}
 use Rattle.rig.specs.Words.{wordsOf, holding}
 use Rattle.rig.specs.Laws.{Bytes}
-use Rattle.rig.specs.Face.{oneNumber, turnBytes, Faced, faced, turnFaced}
-use Rattle.rig.specs.Contracts.{held}
+use Rattle.rig.specs.Face.{oneNumber, Faced, faced, turnFaced}
+use Rattle.rig.specs.Contracts.{roomOf, Runs, held, callHeld, sinksHeld}
+use Rattle.rig.specs.declared.Call.{Call}
 use Rattle.rig.proofs.Copying.{words-count}
 use Rattle.rig.proofs.Holding.{hold-rest}
+use Rattle.rig.proofs.ManyReadings.{runs-turn}
 
 -- the turn with more sink space behind its own
 abbrev longer : List ℕ → Turn → Turn
@@ -107,29 +109,33 @@ module _ (p m rd sk : List ℕ) (k : ℕ) (e : k ≡ min (length sk) 14) where
   unfolding turnOf
   turn-first = ap (λ (s : List ℕ). turnOf p m rd s) (sym (take-append-drop k sk)) ∙ by-check (checkOf p) refl
 
--- w the k words in the room before the turn, w′ then, b the bytes of the sink space that were given them
-module _ (p m m′ rd sk w w′ b : List ℕ) (k : ℕ) (h : Bytes sk) (l : k ≡ min (length sk / 4) 14) (n : length w′ ≡ k)
-  where
-    abbrev rest : List ℕ
-    rest = drop k (wordsOf sk)
+-- w the k words in the room before the call, w′ then, b the bytes of the sink space that were given them
+module _ (what : Call) (p src m m′ rd sk w w′ b : List ℕ) (k : ℕ) (r : Runs what) (h : Bytes sk)
+    (l : k ≡ min (length sk / 4) 14) (n : length w′ ≡ k) where
+  abbrev rest : List ℕ
+  rest = drop k (wordsOf sk)
 
-    behind : w ≡ take k (wordsOf sk)
-        → turnOf p (wordsOf m) (wordsOf rd) (wordsOf sk) ≡ longer rest (turnOf p (wordsOf m) (wordsOf rd) w)
-    behind e =
-        turn-first p (wordsOf m) (wordsOf rd) (wordsOf sk) k (rw (words-count sk) l)
-        ∙ ap (λ (v : List ℕ). longer rest (turnOf p (wordsOf m) (wordsOf rd) v)) (sym e)
+  abbrev w₀ : List ℕ
+  w₀ = roomOf what src m
 
-    given : b ≡ holding sk w′ → holding sk (w′ ++ rest) ≡ b
-    given f =
-        ap (λ (j : ℕ). holding sk (w′ ++ drop j (wordsOf sk))) (sym n)
-        ∙ hold-rest sk w′ h (omega (arith, n, words-count sk, l)) ∙ sym f
+  behind : w ≡ take k (wordsOf sk)
+      → turnOf p w₀ (wordsOf rd) (wordsOf sk) ≡ longer rest (turnOf p w₀ (wordsOf rd) w)
+  behind e =
+      turn-first p w₀ (wordsOf rd) (wordsOf sk) k (rw (words-count sk) l)
+      ∙ ap (λ (v : List ℕ). longer rest (turnOf p w₀ (wordsOf rd) v)) (sym e)
 
-    pub first-words : w ≡ take k (wordsOf sk) → b ≡ holding sk w′
-        → (a : ℕ) → faced a m′ w′ ≡ held m (turnFaced (turnOf p (wordsOf m) (wordsOf rd) w))
-        → faced a m′ b ≡ turnFaced (turnBytes p m rd sk)
-    unfolding faced held turnFaced turnBytes oneNumber
-    first-words e f a t =
-        let answer = ap (λ (x : Faced). x .answer) t in
-        let memory = ap (λ (x : Faced). x .memory) t in
-        let space = ap (λ (x : Faced). x .sinkSpace) t in
-        rw (behind e) (rw (answer, memory, ← given f, space) refl)
+  given : b ≡ holding sk w′ → holding sk (w′ ++ rest) ≡ b
+  given f =
+      ap (λ (j : ℕ). holding sk (w′ ++ drop j (wordsOf sk))) (sym n)
+      ∙ hold-rest sk w′ h (omega (arith, n, words-count sk, l)) ∙ sym f
+
+  pub first-words : w ≡ take k (wordsOf sk) → b ≡ holding sk w′
+      → (a : ℕ) → faced a m′ w′ ≡ callHeld what p src m (wordsOf rd) w
+      → faced a m′ b ≡ sinksHeld sk (callHeld what p src m (wordsOf rd) (wordsOf sk))
+  unfolding faced held turnFaced sinksHeld oneNumber
+  first-words e f a t =
+      let u = t ∙ ap (held what m) (runs-turn what p w₀ (wordsOf rd) w r) in
+      let answer = ap (λ (x : Faced). x .answer) u in
+      let memory = ap (λ (x : Faced). x .memory) u in
+      let space = ap (λ (x : Faced). x .sinkSpace) u in
+      rw (runs-turn what p w₀ (wordsOf rd) (wordsOf sk) r, behind e) (rw (answer, memory, ← given f, space) refl)

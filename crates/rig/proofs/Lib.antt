@@ -6,3 +6,4 @@ pub mod Sizes
 pub mod ManyReadings
 pub mod FirstSinks
 pub mod Facing
+pub mod Trying

@@ -2,7 +2,8 @@
 -- Assumes nothing.
 use Rattle.value.specs.Prelude.{ℕ, _*_, _/_, _≤_, _<_, _≡_, refl, sym, _∙_, ap, _≢_, List, length, take, arith}
 use lib.Seq.{length-take-le}
-use Rattle.value.proofs.Tests.{cases, eq×, eq!, no, yes, stops, goes}
+use Rattle.value.specs.Test.{_=?_}
+use Rattle.value.proofs.Tests.{cases, eq×, eq!, eq?, no, yes, stops, goes}
 use Rattle.program.specs.Bytes.{globals}
 use Rattle.answer.specs.Answer.{numberOf, refusalNumber, refusalPlace}
 use Rattle.load.specs.Check.{checkOf}
@@ -16,10 +17,13 @@ use Rattle.image.specs.Passes.{soundOf}
 use Rattle.image.specs.declared.Judged.{Judged}
 use Rattle.image.specs.declared.Judged.the-variants.{Sound, Unsound}
 use Rattle.remus.specs.Turn.{Turn, turnOf, byCheck, bySound, byAsked, askedOf, turnRefused}
+use Rattle.remus.specs.Preview.{fromRun}
 use Rattle.answer.specs.declared.Ruling.the-variants.{Against}
 use Rattle.rig.specs.Words.{wordsOf, packed}
 use Rattle.rig.specs.Face.{oneNumber, Faced, faced, turnFaced}
-use Rattle.rig.specs.Contracts.{held, placedAt}
+use Rattle.rig.specs.Contracts.{roomOf, Runs, callOf, saves, held, callHeld, placedAt}
+use Rattle.rig.specs.declared.Call.{Call}
+use Rattle.rig.specs.declared.Call.the-variants as C
 use Rattle.rig.proofs.Copying.{words-count}
 use Rattle.rig.proofs.Holding.{all-words}
 use Rattle.rig.proofs.Numbers.{check-else}
@@ -89,19 +93,51 @@ pub room-fits : (n : ℕ) (room rd : List ℕ) → n ≡ length rd / 4 → n ≤
 room-fits n room rd e h = let l = length-take-le n room h in omega (arith, l)
 
 -- as many of the readings as there are
-pub all-read : (p m b rd sk sk′ : List ℕ) (k : ℕ) → k ≡ length rd / 4
-    → (a : ℕ) → faced a b sk′ ≡ held m (turnFaced (turnOf p (wordsOf m) (take k (wordsOf rd)) sk))
-    → faced a b sk′ ≡ held m (turnFaced (turnOf p (wordsOf m) (wordsOf rd) sk))
-all-read p m b rd sk sk′ k e a h =
-    h ∙ ap (λ (x : List ℕ). held m (turnFaced (turnOf p (wordsOf m) x sk))) (all-words rd k e)
+pub all-read : (what : Call) (p src m b rd sk sk′ : List ℕ) (k : ℕ) → k ≡ length rd / 4
+    → (a : ℕ) → faced a b sk′ ≡ callHeld what p src m (take k (wordsOf rd)) sk
+    → faced a b sk′ ≡ callHeld what p src m (wordsOf rd) sk
+all-read what p src m b rd sk sk′ k e a h =
+    h ∙ ap (λ (x : List ℕ). callHeld what p src m x sk) (all-words rd k e)
 
--- rd has more words than any program takes; what the turn answers for 63 of them, a, tells what it answers for rd
-pub too-many : (p m b rd sk sk′ : List ℕ) (n : ℕ) → 63 < n → n ≡ length rd / 4
-    → (a a′ : ℕ) → faced a b sk′ ≡ held m (turnFaced (turnOf p (wordsOf m) (take 63 (wordsOf rd)) sk))
-    → a′ ≡ placedAt 10 n a → faced a′ b sk′ ≡ held m (turnFaced (turnOf p (wordsOf m) (wordsOf rd) sk))
-unfolding held faced placed
-too-many p m b rd sk sk′ n l e a a′ h f =
+-- ---- the number, and so whether a preview's turn ran, is the same with another place
+
+same-number : (n a : ℕ) → placedAt 10 n a / 4294967296 ≡ a / 4294967296
+unfolding placedAt
+same-number n a =
+    cases (a / 4294967296 =? 10)
+    (λ e. ap (λ (x : ℕ). x / 4294967296) (sym (yes a e refl)) ∙ unpacked 10 n .0 ∙ sym (eq? e))
+    (λ e. ap (λ (x : ℕ). x / 4294967296) (sym (no (packed 10 n) e refl)))
+
+same-saves : (what : Call) (n a : ℕ) → saves what (placedAt 10 n a) ≡ saves what a
+unfolding saves
+same-saves C.Start n a = refl
+same-saves C.Turn n a = refl
+same-saves C.Preview n a = ap fromRun (same-number n a)
+
+placed-held : (what : Call) (m : List ℕ) (n : ℕ) (f : Faced) → held what m (placed n f) ≡ placed n (held what m f)
+unfolding held placed faced
+placed-held what m n f = rw (same-saves what n (f .answer)) refl
+
+-- a call that has readings makes a turn
+pub runs-turn : (what : Call) (p w rd sk : List ℕ) → Runs what → callOf what p w rd sk ≡ turnFaced (turnOf p w rd sk)
+unfolding callOf
+runs-turn C.Start p w rd sk r = absurd r
+runs-turn C.Turn p w rd sk r = refl
+runs-turn C.Preview p w rd sk r = refl
+
+-- rd has more words than any program takes; what the call answers for 63 of them, a, tells what it answers for rd
+pub too-many : (what : Call) (p src m b rd sk sk′ : List ℕ) (n : ℕ) → Runs what → 63 < n → n ≡ length rd / 4
+    → (a a′ : ℕ) → faced a b sk′ ≡ callHeld what p src m (take 63 (wordsOf rd)) sk
+    → a′ ≡ placedAt 10 n a → faced a′ b sk′ ≡ callHeld what p src m (wordsOf rd) sk
+unfolding faced placed
+too-many what p src m b rd sk sk′ n r l e a a′ h f =
+    let w = roomOf what src m in
     let k : n ≡ length (wordsOf rd) = e ∙ sym (words-count rd) in
     let c = length-take-le 63 (wordsOf rd) (omega (arith, k)) in
-    let t = turn-reads p (wordsOf m) (wordsOf rd) (take 63 (wordsOf rd)) sk (omega (arith, k)) (omega (arith, c)) in
-    rw (f, k) (ap (placed (length (wordsOf rd))) h ∙ ap (held m) (sym t))
+    let few = take 63 (wordsOf rd) in
+    let t = turn-reads p w (wordsOf rd) few sk (omega (arith, k)) (omega (arith, c)) in
+    let s : callOf what p w (wordsOf rd) sk ≡ placed (length (wordsOf rd)) (callOf what p w few sk)
+    = runs-turn what p w (wordsOf rd) sk r ∙ t
+    ∙ ap (placed (length (wordsOf rd))) (sym (runs-turn what p w few sk r)) in
+    rw (f, k) (ap (placed (length (wordsOf rd))) h
+    ∙ sym (placed-held what m (length (wordsOf rd)) (callOf what p w few sk)) ∙ ap (held what m) (sym s))

@@ -9,8 +9,10 @@ use Rattle.value.proofs.Tests.{cases, yes, no, lt?, lt×?}
 use Rattle.rig.specs.Words.{word, wordsOf, bytesOf, holding, packed, mostPlace}
 use Rattle.image.proofs.Memory.Starting.{start-keeps}
 use Rattle.remus.proofs.RefusedLeaves.{refused-keeps}
-use Rattle.rig.specs.Face.{startBytes, turnBytes}
+use Rattle.remus.proofs.Previews.{preview-refused-leaves}
+use Rattle.rig.specs.Face.{startBytes, turnBytes, previewBytes}
 use Rattle.rig.specs.Laws.{HeldWords, HeldRest, HeldSame, Unpacked, StartKeepsBytes, RefusedKeepsBytes}
+use Rattle.rig.specs.Laws.{PreviewKeepsBytes}
 use Rattle.rig.proofs.Copying.{words-length, bytes-length}
 use Rattle.rig.proofs.Holding.{hold-more, hold-same}
 
@@ -72,3 +74,12 @@ unfolding turnBytes
 refused-keeps-bytes p m rd sk h k n =
     let kept = refused-keeps p (wordsOf m) (wordsOf rd) (wordsOf sk) n in
     (ap (holding m) (kept .0) ∙ hold-same m h, ap (holding sk) (kept .1) ∙ hold-same sk k)
+
+pub preview-keeps-bytes : PreviewKeepsBytes
+unfolding previewBytes
+preview-keeps-bytes p m work rd sk h k n =
+    let left = preview-refused-leaves p (wordsOf m) (wordsOf work) (wordsOf rd) (wordsOf sk) n in (
+      ap (holding sk) (left .0) ∙ hold-same sk k,
+      λ e. ap (holding work) (left .1 e),
+      λ a b. ap (holding work) (left .2 a b) ∙ hold-same work h,
+    )

@@ -4,10 +4,10 @@ use Rattle.load.specs.Check.{checkOf}
 use Rattle.load.specs.Programs.{clock}
 use Rattle.remus.specs.Open.{opened as below-opened}
 use Rattle.rig.specs.Words.{wordsOf, bytesOf, holding, packed}
-use Rattle.rig.specs.Face.{oneNumber, startBytes, turnBytes}
+use Rattle.rig.specs.Face.{oneNumber, startBytes, turnBytes, previewBytes}
 
 unfoldable pub opened : ℕ
-unfolding below-opened wordsOf bytesOf holding packed oneNumber startBytes turnBytes
+unfolding below-opened wordsOf bytesOf holding packed oneNumber startBytes turnBytes previewBytes
 opened = 0
 
 -- 9 words and two bytes
@@ -46,6 +46,17 @@ turn-answers = refl
 pub turn-sinks : turnBytes clock started [] space .sinkSpace ≡ 1 ∷ 0 ∷ 0 ∷ 0 ∷ 1 ∷ 0 ∷ 0 ∷ 0 ∷ 238 ∷ []
 unfolding opened
 turn-sinks = refl
+
+-- 4.25 a work memory of as many words, and one byte that is kept
+pub preview-work : previewBytes clock started (replicate 37 238) [] space .work
+    ≡ (9 ∷ 0 ∷ 0 ∷ 0 ∷ 1 ∷ replicate 7 0) ++ ((1 ∷ replicate 23 0) ++ (238 ∷ []))
+unfolding opened
+preview-work = refl
+
+-- 5.32 one that is a byte short of them
+pub preview-short : oneNumber (previewBytes clock started (replicate 35 238) [] space .answer) ≡ 22 * 4294967296 + 8
+unfolding opened
+preview-short = refl
 
 -- a place of more than 32 bits
 pub place-cut : packed 8 4294967296 ≡ 8 * 4294967296 + 4294967295

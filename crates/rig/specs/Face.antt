@@ -6,6 +6,8 @@ use Rattle.image.specs.Start as Start
 use Rattle.image.specs.Start.{startOf}
 use Rattle.remus.specs.Turn as Turn
 use Rattle.remus.specs.Turn.{turnOf}
+use Rattle.remus.specs.Preview as Preview
+use Rattle.remus.specs.Preview.{previewOf}
 use Rattle.rig.specs.Words.{wordsOf, holding, packed}
 
 -- ---- what a call comes to
@@ -14,7 +16,7 @@ use Rattle.rig.specs.Words.{wordsOf, holding, packed}
 unfoldable pub oneNumber : Answer → ℕ
 oneNumber a = packed (numberOf a) (placeOf a)
 
--- a call's answer as one number, and the memory and the sink space then
+-- a call's answer as one number, and the memory, of a preview the work memory, and the sink space then
 pub record Faced : Type 0 where
   pub answer : ℕ
   pub memory : List ℕ
@@ -26,6 +28,9 @@ faced a m sk = record { answer = a; memory = m; sinkSpace = sk }
 unfoldable pub turnFaced : Turn.Turn → Faced
 turnFaced t = faced (oneNumber (t .answer)) (t .memory) (t .sinkSpace)
 
+unfoldable pub previewFaced : Preview.Preview → Faced
+previewFaced v = faced (oneNumber (v .answer)) (v .work) (v .sinkSpace)
+
 -- ---- the calls on bytes: those on their words, and the bytes that hold the words then
 
 unfoldable pub startBytes : List ℕ → List ℕ → Start.Start
@@ -35,3 +40,8 @@ unfoldable pub turnBytes : List ℕ → List ℕ → List ℕ → List ℕ → T
 turnBytes p m rd sk =
     let t = turnOf p (wordsOf m) (wordsOf rd) (wordsOf sk) in
     record { answer = t .answer; memory = holding m (t .memory); sinkSpace = holding sk (t .sinkSpace) }
+
+unfoldable pub previewBytes : List ℕ → List ℕ → List ℕ → List ℕ → List ℕ → Preview.Preview
+previewBytes p m work rd sk =
+    let v = previewOf p (wordsOf m) (wordsOf work) (wordsOf rd) (wordsOf sk) in
+    record { answer = v .answer; work = holding work (v .work); sinkSpace = holding sk (v .sinkSpace) }

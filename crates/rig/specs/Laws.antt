@@ -1,8 +1,8 @@
 -- What holds of words in bytes and of packed answers, in other words than the definitions have.
-use Rattle.value.specs.Prelude.{ℕ, _+_, _*_, _/_, _%_, _≤_, _<_, min, _≡_, _≢_, List, _++_, length, getD, drop}
+use Rattle.value.specs.Prelude.{ℕ, _+_, _*_, _/_, _%_, _≤_, _<_, min, _≡_, _⊎_, _≢_, List, _++_, length, getD, drop}
 use Rattle.answer.specs.Answer.{numberOf}
 use Rattle.rig.specs.Words.{wordsOf, holding, packed, mostPlace}
-use Rattle.rig.specs.Face.{startBytes, turnBytes}
+use Rattle.rig.specs.Face.{startBytes, turnBytes, previewBytes}
 
 -- bytes, and words of 32 bits
 abbrev pub Bytes : List ℕ → Type 0
@@ -40,3 +40,9 @@ StartKeepsBytes = (p m : List ℕ) → Bytes m → numberOf (startBytes p m .ans
 abbrev pub RefusedKeepsBytes : Type 0
 RefusedKeepsBytes = (p m rd sk : List ℕ) → Bytes m → Bytes sk → numberOf (turnBytes p m rd sk .answer) ≢ 0
     → (turnBytes p m rd sk .memory ≡ m) × (turnBytes p m rd sk .sinkSpace ≡ sk)
+
+-- So does a refused preview, with the one exception: after 14 and 15 the work memory holds the words of memory.
+abbrev pub PreviewKeepsBytes : Type 0
+PreviewKeepsBytes = (p m work rd sk : List ℕ) → Bytes work → Bytes sk → let v = previewBytes p m work rd sk in
+    let n = numberOf (v .answer) in n ≢ 0 → (v .sinkSpace ≡ sk)
+    × ((n ≡ 14) ⊎ (n ≡ 15) → v .work ≡ holding work (wordsOf m)) × (n ≢ 14 → n ≢ 15 → v .work ≡ work)

@@ -6,9 +6,14 @@ use crate::rooms::call_sized;
 use crate::sinks::SINK_WORDS;
 use crate::sinks::least;
 use crate::sinks::sink_in;
+use image::words_legal;
+use machine::Answer;
+use machine::Refusal;
 use machine::check;
 ghost use Rattle.value.specs.Prelude.{_≡_};
-ghost use Rattle.rig.specs.Face.{oneNumber, faced, turnFaced, startBytes, turnBytes};
+ghost use Rattle.rig.specs.Face.{oneNumber, faced, turnFaced, previewFaced, startBytes};
+ghost use Rattle.rig.specs.Face.{turnBytes, previewBytes};
+ghost use Rattle.rig.specs.Contracts.{unfitOf};
 ghost use Rattle.load.specs.Check.{checkOf};
 
 // Check.
@@ -28,7 +33,7 @@ pub extern "C" fn remus_start(program: &[u8], memory: &mut [u8]) -> u64
 {
     let readings = [0u32; 1];
     let mut sinks = [0u32; 1];
-    call_sized(Call::Start, program, memory, &readings, &mut sinks)
+    call_sized(Call::Start, program, program, memory, &readings, &mut sinks)
 }
 
 // A turn.
@@ -46,5 +51,61 @@ pub extern "C" fn remus_turn(
 {
     let n = least(sinks.len() / 4, SINK_WORDS);
     let mut room = [0u32; SINK_WORDS];
-    sink_in(&mut room[..n], program, memory, readings, sinks)
+    sink_in(
+        &mut room[..n],
+        Call::Turn,
+        program,
+        program,
+        memory,
+        readings,
+        sinks,
+    )
+}
+
+// The answer of a preview whose lengths, n words of memory and k of work memory, are against it.
+fn unfit(program: &[u8], n: usize, k: usize) -> Answer
+    ensures { λ a. ⌜ a ≡ unfitOf n k (checkOf (now (program .entry))) ⌝ }
+{
+    match check(program) {
+        Answer::Done(_) => {
+            if words_legal(n) {
+                return Answer::Refused(Refusal::WorkLength(k));
+            }
+            Answer::Refused(Refusal::MemoryLength(n))
+        }
+        Answer::Refused(w) => Answer::Refused(w),
+    }
+}
+
+// A preview. Its turn runs in a room with a copy of memory.
+#[no_mangle]
+pub extern "C" fn remus_preview(
+    program: &[u8],
+    memory: &[u8],
+    work: &mut [u8],
+    readings: &[u8],
+    sinks: &mut [u8],
+) -> u64
+    ensures { λ r.
+        let p = now (program .entry) in let m = now (memory .entry) in let wk = now (work .entry) in
+        let rd = now (readings .entry) in let sk = now (sinks .entry) in
+        ⌜ faced r (now (work .exit)) (now (sinks .exit)) ≡ previewFaced (previewBytes p m wk rd sk) ⌝ }
+{
+    let n = memory.len() / 4;
+    let k = work.len() / 4;
+    if !((k == n) & words_legal(n)) {
+        let a = unfit(program, n, k);
+        return pack(a.number(), a.place());
+    }
+    let j = least(sinks.len() / 4, SINK_WORDS);
+    let mut room = [0u32; SINK_WORDS];
+    sink_in(
+        &mut room[..j],
+        Call::Preview,
+        program,
+        memory,
+        work,
+        readings,
+        sinks,
+    )
 }

@@ -11,8 +11,10 @@ mod sinks;
 mod words;
 
 pub use calls::remus_check;
+pub use calls::remus_preview;
 pub use calls::remus_start;
 pub use calls::remus_turn;
+pub use words::remus_preview_words;
 pub use words::remus_start_words;
 pub use words::remus_turn_words;
 
@@ -20,4 +22,5 @@ pub use words::remus_turn_words;
 pub enum Call {
     Start,
     Turn,
+    Preview,
 }

@@ -1,11 +1,13 @@
 // The calls on a caller's own words: nothing is copied.
 use crate::pack::pack;
+use machine::preview;
 use machine::start;
 use machine::turn;
 ghost use Rattle.value.specs.Prelude.{_≡_};
 ghost use Rattle.image.specs.Start.{startOf};
 ghost use Rattle.remus.specs.Turn.{turnOf};
-ghost use Rattle.rig.specs.Face.{oneNumber, faced, turnFaced};
+ghost use Rattle.remus.specs.Preview.{previewOf};
+ghost use Rattle.rig.specs.Face.{oneNumber, faced, turnFaced, previewFaced};
 
 // Start.
 #[no_mangle]
@@ -34,4 +36,22 @@ pub extern "C" fn remus_turn_words(
     let n = program.len();
     let t = turn(&program[..n], memory, readings, sinks);
     pack(t.number(), t.place())
+}
+
+// A preview.
+#[no_mangle]
+pub extern "C" fn remus_preview_words(
+    program: &[u8],
+    memory: &[u32],
+    work: &mut [u32],
+    readings: &[u32],
+    sinks: &mut [u32],
+) -> u64
+    ensures { λ r.
+        let p = now (program .entry) in let m = now (memory .entry) in let wk = now (work .entry) in
+        let rd = now (readings .entry) in let sk = now (sinks .entry) in
+        ⌜ faced r (now (work .exit)) (now (sinks .exit)) ≡ previewFaced (previewOf p m wk rd sk) ⌝ }
+{
+    let v = preview(program, memory, work, readings, sinks);
+    pack(v.number(), v.place())
 }

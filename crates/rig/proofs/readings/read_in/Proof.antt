@@ -1,10 +1,8 @@
-use Rattle.rig.specs.Contracts.{callOf}
 use Rattle.value.specs.Prelude.{needs}
 use Rattle.rig.proofs.readings.read_in.Statement.{statement}
 use Rattle.rig.proofs.readings.read_in.Tie as tie
 
 returns : tie.Need-returns
-unfolding callOf
 returns c =
     let at-call = c .before .before .before .before in
     let at-load = at-call .before .before .before .before .before .before in

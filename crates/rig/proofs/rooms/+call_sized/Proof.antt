@@ -1,5 +1,5 @@
 use Rattle.value.specs.Prelude.{ℕ, _<_, refl, length, arith, needs}
-use Rattle.rig.proofs.Sizes.{too-many}
+use Rattle.rig.proofs.Sizes.{level-none, too-many}
 use Rattle.rig.proofs.rooms.+call_sized.Tie.{close}
 use borrow.Fn.Kinds.{In}
 use borrow.Fn.PlainCycle.{Measures, is, falls, and}
@@ -16,16 +16,16 @@ use Rattle.rig.proofs.rooms.in_8192.Reads as in-8192-reads
 use Rattle.rig.proofs.pack.with_place.Reads as with-place-reads
 
 -- memory's length
-abbrev μ-call-sized : Measures 4 call-sized-kinds.ps ℕ
-μ-call-sized κs a = length (a .1 .1 .0 .now)
+abbrev μ-call-sized : Measures 5 call-sized-kinds.ps ℕ
+μ-call-sized κs a = length (a .1 .1 .1 .0 .now)
 
-abbrev call-sized-at : ℕ → In 4 call-sized-kinds.ps
+abbrev call-sized-at : ℕ → In 5 call-sized-kinds.ps
 call-sized-at t =
-    and 4 call-sized-kinds.ps (is 4 call-sized-kinds.ps μ-call-sized t) call-sized.Pre
+    and 5 call-sized-kinds.ps (is 5 call-sized-kinds.ps μ-call-sized t) call-sized.Pre
 
-abbrev call-sized-below : ℕ → In 4 call-sized-kinds.ps
+abbrev call-sized-below : ℕ → In 5 call-sized-kinds.ps
 call-sized-below t =
-    and 4 call-sized-kinds.ps (falls 4 call-sized-kinds.ps _<_ μ-call-sized t) call-sized.Pre
+    and 5 call-sized-kinds.ps (falls 5 call-sized-kinds.ps _<_ μ-call-sized t) call-sized.Pre
 
 abbrev call-sized-cs : ℕ → call-sized-lts.Claims
 call-sized-cs t = (
@@ -49,26 +49,29 @@ call-sized-cs t = (
 
 -- memory of no words is shorter
 self-requires : (t : ℕ) → call-sized-lts.Need-call-sized-requires (call-sized-cs t) (call-sized-at t) call-sized.Post
-self-requires t c κs = (omega arith, search needs)
+self-requires t c κs =
+    let entry = c .before .before .before .before .before .before .before .before .before in
+    (omega arith, level-none (entry .args .what))
 
 returns : (t : ℕ) → call-sized-lts.Need-returns (call-sized-cs t) (call-sized-at t) call-sized.Post
 returns t c =
     let at-self = c .before .before .before .before .before in
-    let at-if = at-self .before .before .before in
+    let at-if = at-self .before .before .before .before in
     let at-slice = at-if .before .before .before in
-    let m = at-slice .before .before .args .memory .now in
-    too-many _ _ m _ _ _ _ _ (λ i. omega (arith, at-slice .slice-known .given i)) (at-if .if1 .taken) refl _ _
-    (at-self .call-sized .ensures) (c .with-place .ensures)
+    let entry = at-slice .before .before .before in
+    let m = entry .args .memory .now in
+    too-many _ _ _ m _ _ _ _ _ (entry .pre .1) (λ i. omega (arith, at-slice .slice-known .given i)) (at-if .if1 .taken)
+    refl _ _ (at-self .call-sized .ensures) (c .with-place .ensures)
 
 pub +call-sized-spec : {M : Type 1} → statement M
 +call-sized-spec = close μ-call-sized λ t. call-sized-lts.spec (call-sized-cs t)
     (call-sized-at t)
     call-sized.Post
-    (λ c. search needs) (λ c. search needs) (self-requires t) (λ c κs. search needs)
+    (λ c. search needs) (λ c. search needs) (λ c. search needs) (self-requires t) (λ c κs. search needs)
     (λ c. search needs) (λ c. search needs) (returns t)
-    (λ c κs. omega arith) (λ c. search needs) (λ c. search needs) (λ c. search needs)
-    (λ c κs. omega arith) (λ c. search needs) (λ c. search needs) (λ c. search needs)
-    (λ c κs. omega arith) (λ c. search needs) (λ c. search needs) (λ c. search needs)
-    (λ c κs. omega arith) (λ c. search needs) (λ c. search needs) (λ c. search needs)
-    (λ c κs. omega arith) (λ c. search needs) (λ c. search needs) (λ c. search needs)
-    (λ c κs. omega arith) (λ c. search needs) (λ c. search needs) (λ c. search needs)
+    (λ c κs. (omega arith, search needs)) (λ c. search needs) (λ c. search needs) (λ c. search needs)
+    (λ c κs. (omega arith, search needs)) (λ c. search needs) (λ c. search needs) (λ c. search needs)
+    (λ c κs. (omega arith, search needs)) (λ c. search needs) (λ c. search needs) (λ c. search needs)
+    (λ c κs. (omega arith, search needs)) (λ c. search needs) (λ c. search needs) (λ c. search needs)
+    (λ c κs. (omega arith, search needs)) (λ c. search needs) (λ c. search needs) (λ c. search needs)
+    (λ c κs. (omega arith, search needs)) (λ c. search needs) (λ c. search needs) (λ c. search needs)

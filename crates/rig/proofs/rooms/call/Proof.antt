@@ -18,16 +18,17 @@ returns-2 c =
     let at-turn = c .before .before .before .before .remus-turn-words in
     rw (at-told .given .1) (at-turn .ensures)
 
+returns-3 : tie.Need-returns-3
+unfolding callOf
+returns-3 c =
+    let at-told = c .before .before .before .before .before .before .before .enum-told3 in
+    let at-turn = c .before .before .before .before .remus-turn-words2 in
+    rw (at-told .given .1) (at-turn .ensures)
+
 pub call-spec : {M : Type 1} → statement M
 call-spec =
     tie.close
     (tie.spec
-    (λ c. search needs)
-    (λ c κs. search needs)
-    (λ c. search needs)
-    (λ c κs. search needs)
-    (λ c. search needs)
-    returns
-    (λ c. search needs)
-    (λ c. search needs)
-    returns-2)
+    (λ c. search needs) (λ c κs. search needs) (λ c. search needs) (λ c κs. search needs) (λ c. search needs)
+    (λ c κs. search needs) (λ c. search needs) returns (λ c. search needs) (λ c. search needs) returns-2
+    (λ c. search needs) (λ c. search needs) returns-3)

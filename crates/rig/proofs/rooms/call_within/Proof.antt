@@ -7,7 +7,9 @@ slice-aggregate-call-in : tie.Need-slice-aggregate-call-in
 slice-aggregate-call-in c = sym (length-take-le _ _ (omega arith))
 
 call-in-requires : tie.Need-call-in-requires
-call-in-requires c κs = length-take-le _ _ (omega arith)
+call-in-requires c κs =
+    let entry = c .before .before .before .before .before .before .before .before .before in
+    (length-take-le _ _ (omega arith), entry .pre .1)
 
 pub call-within-spec : {M : Type 1} → statement M
 call-within-spec =
