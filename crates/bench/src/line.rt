@@ -19,7 +19,15 @@ pub const SINKS: u8 = 6;
 
 pub const SINKS_AFTER: u8 = 7;
 
-const FIELDS: usize = 8;
+// A preview's line has work memory where others have memory after; it ends with work memory and sink
+// space after.
+pub const WORK: u8 = 4;
+
+pub const WORK_AFTER: u8 = 7;
+
+pub const SINKS_LAST: u8 = 8;
+
+const FIELDS: usize = 9;
 
 // Bytes for each field.
 const FIELD: usize = 4 * MOST_WORDS;
@@ -68,7 +76,7 @@ impl Line {
 
     fn next_field(self) -> Line {
         let mut line = self;
-        line.field = self.field % SINKS_AFTER + 1;
+        line.field = self.field % SINKS_LAST + 1;
         line.hex = line.field == 2;
         line
     }

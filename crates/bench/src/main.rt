@@ -3,6 +3,7 @@
 mod checks;
 mod faults;
 mod line;
+mod previews;
 mod primitives;
 mod programs;
 mod text;
@@ -16,5 +17,6 @@ fn main() {
     checks::print_all();
     turns::print_all();
     faults::print_all();
+    previews::print_all();
     vectors::run();
 }

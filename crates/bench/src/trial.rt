@@ -5,6 +5,9 @@ use crate::line::MEMORY_AFTER;
 use crate::line::READINGS;
 use crate::line::SINKS;
 use crate::line::SINKS_AFTER;
+use crate::line::SINKS_LAST;
+use crate::line::WORK;
+use crate::line::WORK_AFTER;
 use crate::words::fill;
 use crate::words::same;
 use image::Judged;
@@ -22,6 +25,7 @@ pub enum Kind {
     Start,
     Image,
     Turn,
+    Preview,
 }
 
 // Whether these are all the words of a field of the line.
@@ -48,63 +52,103 @@ fn turn_agrees(
     line: Line,
     room: &[u8],
     memory: &mut [u32],
-    readings: &mut [u32],
+    readings: &[u32],
     sinks: &mut [u32],
 ) -> bool {
-    fill(readings, line.words(READINGS, room));
-    fill(sinks, line.words(SINKS, room));
     let answer = machine::turn(line.program(room), memory, readings, sinks);
     let words = all_words(line, MEMORY_AFTER, room, memory);
     let sunk = all_words(line, SINKS_AFTER, room, sinks);
     line.says(answer) & words & sunk
 }
 
-// The same in parts of two spaces, as long as the line's readings and sinks.
-fn turn_within(
+// A preview's, and every word of work memory and of sink space after it.
+fn preview_agrees(
+    line: Line,
+    room: &[u8],
+    memory: &[u32],
+    work: &mut [u32],
+    readings: &[u32],
+    sinks: &mut [u32],
+) -> bool {
+    fill(work, line.words(WORK, room));
+    let answer = machine::preview(line.program(room), memory, work, readings, sinks);
+    let words = all_words(line, WORK_AFTER, room, work);
+    let sunk = all_words(line, SINKS_LAST, room, sinks);
+    line.says(answer) & words & sunk
+}
+
+// A vector of any kind, on slices that are as long as the line's.
+fn agrees_on(
+    kind: Kind,
     line: Line,
     room: &[u8],
     memory: &mut [u32],
+    work: &mut [u32],
     readings: &mut [u32],
     sinks: &mut [u32],
 ) -> bool {
+    fill(memory, line.words(MEMORY, room));
+    fill(readings, line.words(READINGS, room));
+    fill(sinks, line.words(SINKS, room));
+    match kind {
+        Kind::Check => line.says(machine::check(line.program(room))),
+        Kind::Start => start_agrees(line, room, memory),
+        Kind::Image => image_agrees(line, line.program(room), memory),
+        Kind::Turn => turn_agrees(line, room, memory, readings, sinks),
+        Kind::Preview => preview_agrees(line, room, memory, work, readings, sinks),
+    }
+}
+
+// The same in parts of four spaces.
+fn agrees_within(
+    kind: Kind,
+    line: Line,
+    room: &[u8],
+    memory: &mut [u32],
+    work: &mut [u32],
+    readings: &mut [u32],
+    sinks: &mut [u32],
+) -> bool {
+    let n = line.count(MEMORY);
+    let k = line.count(WORK);
     let r = line.count(READINGS);
     let s = line.count(SINKS);
+    if memory.len() < n {
+        return false;
+    }
+    if work.len() < k {
+        return false;
+    }
     if readings.len() < r {
         return false;
     }
     if sinks.len() < s {
         return false;
     }
-    turn_agrees(line, room, memory, &mut readings[..r], &mut sinks[..s])
-}
-
-fn turn_runs(line: Line, room: &[u8], memory: &mut [u32]) -> bool {
-    let mut readings = [0u32; FEW_WORDS];
-    let mut sinks = [0u32; FEW_WORDS];
-    turn_within(line, room, memory, &mut readings, &mut sinks)
-}
-
-// A vector of any kind, on memory that is as long as the line's.
-fn agrees_on(kind: Kind, line: Line, room: &[u8], memory: &mut [u32]) -> bool {
-    fill(memory, line.words(MEMORY, room));
-    match kind {
-        Kind::Check => line.says(machine::check(line.program(room))),
-        Kind::Start => start_agrees(line, room, memory),
-        Kind::Image => image_agrees(line, line.program(room), memory),
-        Kind::Turn => turn_runs(line, room, memory),
-    }
-}
-
-fn agrees_within(kind: Kind, line: Line, room: &[u8], space: &mut [u32]) -> bool {
-    let n = line.count(MEMORY);
-    if space.len() < n {
-        return false;
-    }
-    agrees_on(kind, line, room, &mut space[..n])
+    agrees_on(
+        kind,
+        line,
+        room,
+        &mut memory[..n],
+        &mut work[..k],
+        &mut readings[..r],
+        &mut sinks[..s],
+    )
 }
 
 // Whether the proved code gives what the line says. A word more than memory may have can be tried.
 pub fn agrees(kind: Kind, line: Line, room: &[u8]) -> bool {
-    let mut space = [0u32; MOST_WORDS + 1];
-    agrees_within(kind, line, room, &mut space)
+    let mut memory = [0u32; MOST_WORDS + 1];
+    let mut work = [0u32; MOST_WORDS + 1];
+    let mut readings = [0u32; FEW_WORDS];
+    let mut sinks = [0u32; FEW_WORDS];
+    agrees_within(
+        kind,
+        line,
+        room,
+        &mut memory,
+        &mut work,
+        &mut readings,
+        &mut sinks,
+    )
 }

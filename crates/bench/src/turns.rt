@@ -55,19 +55,29 @@ fn put_refused(answer: Answer, memory: &[u32]) {
     put(b"\n");
 }
 
-// One turn, with space for one sink that is not zero before it, and the line of it.
-pub(crate) fn put_turn(name: &[u8], program: &[u8], memory: &mut [u32], readings: &[u32]) {
-    let mut sinks = [77u32; 2];
+// `name, turn t: readings a b -> `, with other words for `, turn ` where the call is another.
+pub(crate) fn put_asked(name: &[u8], call: &[u8], memory: &[u32], readings: &[u32]) {
     put(name);
-    put(b", turn ");
+    put(call);
     put_decimal(turns(memory) as u64 + 1);
     put(b": ");
     put_readings(readings);
-    let answer = turn(program, memory, readings, &mut sinks);
+}
+
+// What came of it.
+pub(crate) fn put_outcome(answer: Answer, memory: &[u32], sinks: &[u32]) {
     match answer {
-        Answer::Done(u) => put_done(&sinks, u),
+        Answer::Done(u) => put_done(sinks, u),
         Answer::Refused(_) => put_refused(answer, memory),
     }
+}
+
+// One turn, with space for one sink that is not zero before it, and the line of it.
+pub(crate) fn put_turn(name: &[u8], program: &[u8], memory: &mut [u32], readings: &[u32]) {
+    let mut sinks = [77u32; 2];
+    put_asked(name, b", turn ", memory, readings);
+    let answer = turn(program, memory, readings, &mut sinks);
+    put_outcome(answer, memory, &sinks);
 }
 
 fn clock(memory: &mut [u32]) {

@@ -148,4 +148,5 @@ pub fn run() {
     run_file(Kind::Start, b"start ", 2);
     run_file(Kind::Image, b"image ", 3);
     run_file(Kind::Turn, b"turn ", 4);
+    run_file(Kind::Preview, b"preview ", 5);
 }
