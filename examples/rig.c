@@ -1,4 +1,4 @@
-/* rig.c: a program on the Remus machine: a check, a start and turns, on bytes and on words, and two refusals.
+/* rig.c: a program on the Remus machine: a check, a start, turns on bytes and on words, previews and refusals.
  *
  *     cc -Ibuild examples/rig.c build/libremus.a
  *
@@ -73,6 +73,7 @@ static const struct {
     [REMUS_TOO_EARLY] = {"a React or a Consume comes too early", "byte"},
     [REMUS_TOO_LATE] = {"a command comes too late, or for the second time", "byte"},
     [REMUS_NOT_LOWER] = {"an AllocMono names a reactor that is not lower", "byte"},
+    [REMUS_WORK_LENGTH] = {"work memory is not as long as memory", "words"},
     [REMUS_WITHDRAWN] = {"a command is the remainder, which is withdrawn", "byte"},
 };
 
@@ -115,16 +116,17 @@ static void start(uint8_t *memory, size_t memory_len) {
     }
 }
 
-/* One turn, which is the one after those completed: a refused turn does not count. */
-static void turn(uint8_t *memory, size_t memory_len, const uint8_t *readings, size_t readings_len) {
+/* The turn after those completed: one that was refused does not count, nor does a preview. */
+static void print_next(const uint8_t *memory, const uint8_t *readings, size_t readings_len) {
     printf("turn %" PRIu32 ", %s", remus_word(memory, 1) + 1, readings_len == 0 ? "no readings" : "readings");
     for (size_t i = 0; i < readings_len / REMUS_PAIR_BYTES; i++) {
         print_value(readings, i);
     }
     printf(": ");
-    uint8_t sinks[REMUS_PAIR_BYTES];
-    uint64_t answer =
-        remus_turn(toggle, sizeof toggle, memory, memory_len, readings, readings_len, sinks, sizeof sinks);
+}
+
+/* What comes of a turn, or would come of it. */
+static void print_outcome(uint64_t answer, const uint8_t *sinks) {
     if (!refused(answer)) {
         printf("sink");
         print_value(sinks, 0);
@@ -132,9 +134,27 @@ static void turn(uint8_t *memory, size_t memory_len, const uint8_t *readings, si
     }
 }
 
-/* Three turns, one with a reading missing, and one that is refused and made again. */
+static void turn(uint8_t *memory, size_t memory_len, const uint8_t *readings, size_t readings_len) {
+    print_next(memory, readings, readings_len);
+    uint8_t sinks[REMUS_PAIR_BYTES];
+    uint64_t answer =
+        remus_turn(toggle, sizeof toggle, memory, memory_len, readings, readings_len, sinks, sizeof sinks);
+    print_outcome(answer, sinks);
+}
+
+static void preview(const uint8_t *memory, size_t memory_len, uint8_t *work, size_t work_len, const uint8_t *readings,
+                    size_t readings_len) {
+    printf("preview of ");
+    print_next(memory, readings, readings_len);
+    uint8_t sinks[REMUS_PAIR_BYTES];
+    uint64_t answer = remus_preview(toggle, sizeof toggle, memory, memory_len, work, work_len, readings, readings_len,
+                                    sinks, sizeof sinks);
+    print_outcome(answer, sinks);
+}
+
+/* Three turns, one with a reading missing, and one that is refused; with other readings it is tried, then made. */
 static void run(void) {
-    uint8_t memory[WORDS * REMUS_WORD_BYTES + SPARE];
+    uint8_t memory[WORDS * REMUS_WORD_BYTES + SPARE], work[WORDS * REMUS_WORD_BYTES];
     start(memory, sizeof memory);
     uint8_t readings[2 * REMUS_PAIR_BYTES];
     remus_put(readings, 0, REMUS_NUMBER, 7);
@@ -146,7 +166,9 @@ static void run(void) {
     turn(memory, sizeof memory, readings, sizeof readings);
     turn(memory, sizeof memory, NULL, 0);
     remus_put(readings, 1, REMUS_NUMBER, -5);
+    preview(memory, sizeof memory, work, sizeof work, readings, sizeof readings);
     turn(memory, sizeof memory, readings, sizeof readings);
+    printf("memory: %s\n", memcmp(work, memory, sizeof work) == 0 ? "as the preview has shown" : "otherwise");
     int kept = 1;
     for (size_t i = sizeof memory - SPARE; i < sizeof memory; i++) {
         kept = kept && memory[i] == UNUSED;
@@ -154,9 +176,10 @@ static void run(void) {
     printf("bytes past the last word: %s\n", kept ? "kept" : "lost");
 }
 
-/* One word less: the second turn has no room for the second deployment, however often it is tried. */
+/* One word less: the second turn has no room for the second deployment, however often it is tried. A work memory with
+ * the room for it is not taken. */
 static void run_short(void) {
-    uint8_t memory[(WORDS - 1) * REMUS_WORD_BYTES];
+    uint8_t memory[(WORDS - 1) * REMUS_WORD_BYTES], work[WORDS * REMUS_WORD_BYTES];
     start(memory, sizeof memory);
     uint8_t readings[2 * REMUS_PAIR_BYTES];
     remus_put(readings, 0, REMUS_NUMBER, 7);
@@ -164,7 +187,8 @@ static void run_short(void) {
     turn(memory, sizeof memory, readings, sizeof readings);
     uint8_t before[sizeof memory];
     memcpy(before, memory, sizeof memory);
-    turn(memory, sizeof memory, readings, sizeof readings);
+    preview(memory, sizeof memory, work, sizeof work, readings, sizeof readings);
+    preview(memory, sizeof memory, work, sizeof memory, readings, sizeof readings);
     turn(memory, sizeof memory, readings, sizeof readings);
     printf("memory: %s\n", memcmp(before, memory, sizeof memory) == 0 ? "as before the refusals" : "changed");
 }

@@ -32,6 +32,7 @@ WHY = {
     19: ("a React or a Consume comes too early", "byte"),
     20: ("a command comes too late, or for the second time", "byte"),
     21: ("an AllocMono names a reactor that is not lower", "byte"),
+    22: ("work memory is not as long as memory", "words"),
     25: ("a command is the remainder, which is withdrawn", "byte"),
 }
 
@@ -70,7 +71,8 @@ def load(path):
     """The library, with the types of its calls: a slice is a pointer and a length."""
     lib = ctypes.CDLL(str(path))
     one = [ctypes.c_void_p, ctypes.c_size_t]
-    for name, slices in (("check", 1), ("start", 2), ("turn", 4), ("start_words", 2), ("turn_words", 4)):
+    calls = {"check": 1, "start": 2, "turn": 4, "preview": 5, "start_words": 2, "turn_words": 4, "preview_words": 5}
+    for name, slices in calls.items():
         call = getattr(lib, "remus_" + name)
         call.argtypes, call.restype = slices * one, ctypes.c_uint64
     return lib
@@ -89,13 +91,17 @@ class Rules:
 
     def turn(self, readings, sinks=1):
         """Runs one turn; gives the values of so many sinks and the words in use."""
+        return self._outcome(self.lib.remus_turn, [self.memory], readings, sinks)
+
+    def preview(self, work, readings, sinks=1):
+        """Tries a turn in a work memory; gives what the turn would give."""
+        return self._outcome(self.lib.remus_preview, [self.memory, work], readings, sinks)
+
+    def _outcome(self, call, memories, readings, sinks):
         given = b"".join(map(pack, readings))
         space = ctypes.create_string_buffer(PAIR * MOST_SINKS)
-        used = place_of(
-            self.lib.remus_turn(
-                self.program, len(self.program), self.memory, len(self.memory), given, len(given), space, len(space)
-            )
-        )
+        slices = [self.program, *memories, given, space]
+        used = place_of(call(*[part for one in slices for part in (one, len(one))]))
         return [unpack(space.raw[PAIR * i : PAIR * (i + 1)]) for i in range(sinks)], used
 
     def completed(self):
@@ -140,36 +146,45 @@ def print_start(rules):
     print(f"start in {len(rules.memory) // WORD} words: {rules.start()} in use")
 
 
-def print_turn(rules, *readings):
-    """Runs a turn, and says what came of it."""
+def print_turn(rules, *readings, work=None):
+    """Runs a turn, or its preview if there is a work memory, and says what came of it."""
     given = " ".join(["readings", *map(text, readings)]) if readings else "no readings"
     head = f"turn {rules.completed() + 1}, {given}:"
+    if work is not None:
+        head = f"preview of {head}"
     try:
-        sinks, used = rules.turn(readings)
+        sinks, used = rules.turn(readings) if work is None else rules.preview(work, readings)
         print(f"{head} sink {text(sinks[0])}, {used} words in use")
     except Refused as why:
         print(f"{head} {why}")
 
 
 def run(lib):
-    """Three turns, one with a reading missing, and one that is refused and made again."""
+    """Three turns, one with a reading missing, and one that is refused; with other readings it is tried, then made."""
     rules = Rules(lib, TOGGLE, 55, spare=3)
     print_start(rules)
     for _ in range(3):
         print_turn(rules, 7, 5)
     print_turn(rules, 7, None)
     print_turn(rules)
+    work = ctypes.create_string_buffer(WORD * 55)
+    print_turn(rules, 7, -5, work=work)
     print_turn(rules, 7, -5)
+    print("memory:", "as the preview has shown" if rules.memory.raw[:-3] == work.raw else "otherwise")
     print("bytes past the last word:", "kept" if rules.memory.raw[-3:] == b"\xee\xee\xee" else "lost")
 
 
 def run_short(lib):
-    """One word less: the second turn has no room for the second deployment, however often it is tried."""
+    """One word less: the second turn has no room for the second deployment, however often it is tried.
+
+    A work memory with the room for it is not taken.
+    """
     rules = Rules(lib, TOGGLE, 54)
     print_start(rules)
     print_turn(rules, 7, 5)
     before = rules.memory.raw
-    print_turn(rules, 7, 5)
+    print_turn(rules, 7, 5, work=ctypes.create_string_buffer(WORD * 55))
+    print_turn(rules, 7, 5, work=ctypes.create_string_buffer(WORD * 54))
     print_turn(rules, 7, 5)
     print("memory:", "as before the refusals" if rules.memory.raw == before else "changed")
 

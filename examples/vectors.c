@@ -5,21 +5,24 @@
  * A line is a call and what comes of it, or a comment after `#`. Its fields have one space between them, and stand in
  * one of two forms:
  *
- *     NUMBER PLACE PROGRAM                                       check
- *     NUMBER PLACE PROGRAM MEMORY                                image: 0 0 if memory is sound, else 9 and the place
- *     NUMBER PLACE PROGRAM MEMORY AFTER                          start
- *     NUMBER PLACE PROGRAM MEMORY AFTER READINGS SINKS AFTER     turn
+ *     NUMBER PLACE PROGRAM                                            check
+ *     NUMBER PLACE PROGRAM MEMORY                                     image: 0 0 if sound, else 9 and the place
+ *     NUMBER PLACE PROGRAM MEMORY AFTER                               start
+ *     NUMBER PLACE PROGRAM MEMORY AFTER READINGS SINKS AFTER          turn
+ *     NUMBER PLACE PROGRAM MEMORY WORK READINGS SINKS AFTER AFTER     preview: work memory after, sinks after
  *
  *     check PROGRAM -> NUMBER PLACE
  *     start PROGRAM MEMORY -> NUMBER PLACE AFTER
  *     turn PROGRAM MEMORY READINGS SINKS -> NUMBER PLACE AFTER AFTER
+ *     preview PROGRAM MEMORY WORK READINGS SINKS -> NUMBER PLACE AFTER AFTER
  *
  * A program is its bytes in hexadecimal, `-` if it has none, `=` if it is the program of the line before. Words are
  * `N:` and the bytes of N words in hexadecimal, low byte first; what is not written is zero.
  *
  * Each line is tried on bytes, with every slice at each of four addresses in a row and with 0 to 3 bytes past its last
- * word, and then on words. Number and place have to be the line's, and so has every word; the bytes past the last word
- * and those around each slice have to be as before. It stops at the first line that differs. */
+ * word, and then on words; a turn is tried as a preview too. Number and place have to be the line's, and so has every
+ * word; the bytes past the last word and those around each slice have to be as before. It stops at the first line that
+ * differs. */
 #include <remus.h>
 #include <stdio.h>
 #include <stdlib.h>
@@ -27,14 +30,14 @@
 
 enum {
     MOST_WORDS = 20000,  /* of a slice: some more than the machine takes */
-    MOST_FIELDS = 10,    /* of a line */
+    MOST_FIELDS = 11,    /* of a line */
     MOST_LINE = 1 << 20, /* bytes of a line */
     GUARD = 16,          /* bytes on each side of a slice */
-    FILLED = 0xA5        /* what the guards and the bytes past the last word hold */
+    FILLED = 0xA0        /* plus the number of bytes past the last word: what these and the guards hold */
 };
 
-enum kind { CHECK, IMAGE, START, TURN, KINDS };
-static const char *const names[KINDS] = {"check", "image", "start", "turn"};
+enum kind { CHECK, IMAGE, START, TURN, PREVIEW, KINDS };
+static const char *const names[KINDS] = {"check", "image", "start", "turn", "preview"};
 
 /* Bytes that a line gives. */
 struct given {
@@ -45,17 +48,26 @@ struct given {
 static struct vector {
     enum kind kind;
     uint32_t number, place;
-    struct given program, memory, memory_after, readings, sinks, sinks_after;
+    struct given program, memory, memory_after, work, work_after, readings, sinks, sinks_after;
 } vector;
+
+/* The slices of a line, from its fourth field on. How many they are tells the kind. */
+static struct given *const slices[KINDS][7] = {
+    [IMAGE] = {&vector.memory},
+    [START] = {&vector.memory, &vector.memory_after},
+    [TURN] = {&vector.memory, &vector.memory_after, &vector.readings, &vector.sinks, &vector.sinks_after},
+    [PREVIEW] = {&vector.memory, &vector.work, &vector.readings, &vector.sinks, &vector.work_after,
+                 &vector.sinks_after},
+};
 
 /* A slice that is lent, in a room that begins at a word. */
 struct lent {
     size_t len;
-    uint8_t *at;
+    uint8_t *at, filled;
     uint32_t room[MOST_WORDS + 2 * GUARD / REMUS_WORD_BYTES + 2];
 };
 
-static struct lent program, memory, readings, sinks;
+static struct lent program, memory, work, readings, sinks;
 
 /* The line that is tried. */
 static const char *file_name;
@@ -140,11 +152,12 @@ static size_t split(char *line, char *fields[MOST_FIELDS]) {
 static size_t reorder(char *fields[MOST_FIELDS], size_t n) {
     static const struct {
         const char *call;
-        size_t fields, kept, order[8];
+        size_t fields, kept, order[9];
     } forms[] = {
         {"check", 5, 3, {3, 4, 1}},
         {"start", 7, 5, {4, 5, 1, 2, 6}},
         {"turn", 10, 8, {6, 7, 1, 2, 8, 3, 4, 9}},
+        {"preview", 11, 9, {7, 8, 1, 2, 3, 4, 5, 9, 10}},
     };
     for (size_t f = 0; f < sizeof forms / sizeof forms[0]; f++) {
         if (n == forms[f].fields && strcmp(fields[0], forms[f].call) == 0) {
@@ -170,31 +183,55 @@ static void ask_by_turn(void) {
     vector.readings.len = REMUS_WORD_BYTES;
 }
 
+/* Whether there is a kind of line with n fields; if so, it is the vector's now. */
+static int read_kind(size_t n) {
+    for (int kind = 0; kind < KINDS; kind++) {
+        size_t fields = 3;
+        while (slices[kind][fields - 3] != NULL) {
+            fields++;
+        }
+        if (fields == n) {
+            vector.kind = (enum kind)kind;
+            return 1;
+        }
+    }
+    return 0;
+}
+
 /* Whether the line is understood; if so, it is the vector now. */
 static int read_line(char *line) {
     char *fields[MOST_FIELDS] = {NULL};
     size_t n = split(line, fields);
     n = reorder(fields, n);
-    if (n != 3 && n != 4 && n != 5 && n != 8) {
-        return 0;
-    }
-    vector.kind = n == 3 ? CHECK : n == 4 ? IMAGE : n == 5 ? START : TURN;
-    struct given *const rest[] = {&vector.memory, &vector.memory_after, &vector.readings, &vector.sinks,
-                                  &vector.sinks_after};
-    if (!read_number(fields[0], &vector.number) || !read_number(fields[1], &vector.place) ||
+    if (!read_kind(n) || !read_number(fields[0], &vector.number) || !read_number(fields[1], &vector.place) ||
         !read_program(fields[2], &vector.program)) {
         return 0;
     }
-    for (size_t i = 0; i < sizeof rest / sizeof rest[0]; i++) {
-        rest[i]->len = 0;
-        if (i + 3 < n && !read_words(fields[i + 3], rest[i])) {
+    vector.memory.len = vector.memory_after.len = vector.work.len = vector.work_after.len = 0;
+    vector.readings.len = vector.sinks.len = vector.sinks_after.len = 0;
+    for (size_t i = 3; i < n; i++) {
+        if (!read_words(fields[i], slices[vector.kind][i - 3])) {
             return 0;
         }
     }
     if (vector.kind == IMAGE) {
         ask_by_turn();
     }
+    if (vector.kind == PREVIEW) {
+        vector.memory_after = vector.memory;
+    }
     return 1;
+}
+
+/* Makes of a turn its preview. If the turn runs, to its end or to 14 or 15, work memory has to be then what the turn
+ * leaves as memory, else what it was. */
+static void turn_to_preview(void) {
+    int ran = vector.number == REMUS_OK || vector.number == REMUS_NO_ROOM || vector.number == REMUS_TOO_DEEP;
+    vector.kind = PREVIEW;
+    vector.work.len = vector.memory.len;
+    memset(vector.work.bytes, FILLED, vector.work.len);
+    vector.work_after = ran ? vector.memory_after : vector.work;
+    vector.memory_after = vector.memory;
 }
 
 /* ---- the calls ---- */
@@ -202,21 +239,26 @@ static int read_line(char *line) {
 static void lend(struct lent *lent, const struct given *given, size_t address, size_t spare) {
     lent->at = (uint8_t *)lent->room + GUARD + address % REMUS_WORD_BYTES;
     lent->len = given->len + spare % REMUS_WORD_BYTES;
-    memset(lent->at - GUARD, FILLED, GUARD + lent->len + GUARD);
+    lent->filled = (uint8_t)(FILLED + spare % REMUS_WORD_BYTES);
+    memset(lent->at - GUARD, lent->filled, GUARD + lent->len + GUARD);
     memcpy(lent->at, given->bytes, given->len);
 }
 
-/* The slices differ in address and in spare bytes, so that a mix-up of two of them shows. */
+/* The slices of words differ in address and in spare bytes, so that a mix-up of two of them shows. */
 static uint64_t call_on_bytes(size_t address, size_t spare) {
     lend(&program, &vector.program, address, 0);
     lend(&memory, &vector.memory, address + 1, spare);
     lend(&readings, &vector.readings, address + 2, spare + 1);
     lend(&sinks, &vector.sinks, address + 3, spare + 2);
+    lend(&work, &vector.work, address, spare + 3);
     switch (vector.kind) {
     case CHECK:
         return remus_check(program.at, program.len);
     case START:
         return remus_start(program.at, program.len, memory.at, memory.len);
+    case PREVIEW:
+        return remus_preview(program.at, program.len, memory.at, memory.len, work.at, work.len, readings.at,
+                             readings.len, sinks.at, sinks.len);
     default:
         return remus_turn(program.at, program.len, memory.at, memory.len, readings.at, readings.len, sinks.at,
                           sinks.len);
@@ -241,6 +283,7 @@ static void to_bytes(struct lent *lent, const uint32_t *words) {
 
 static uint64_t call_on_words(void) {
     uint32_t *m = lend_words(&memory, &vector.memory);
+    uint32_t *w = lend_words(&work, &vector.work);
     uint32_t *r = lend_words(&readings, &vector.readings);
     uint32_t *s = lend_words(&sinks, &vector.sinks);
     uint64_t answer;
@@ -249,11 +292,16 @@ static uint64_t call_on_words(void) {
         answer = remus_check(program.at, program.len);
     } else if (vector.kind == START) {
         answer = remus_start_words(program.at, program.len, m, memory.len / REMUS_WORD_BYTES);
+    } else if (vector.kind == PREVIEW) {
+        answer = remus_preview_words(program.at, program.len, m, memory.len / REMUS_WORD_BYTES, w,
+                                     work.len / REMUS_WORD_BYTES, r, readings.len / REMUS_WORD_BYTES, s,
+                                     sinks.len / REMUS_WORD_BYTES);
     } else {
         answer = remus_turn_words(program.at, program.len, m, memory.len / REMUS_WORD_BYTES, r,
                                   readings.len / REMUS_WORD_BYTES, s, sinks.len / REMUS_WORD_BYTES);
     }
     to_bytes(&memory, m);
+    to_bytes(&work, w);
     to_bytes(&readings, r);
     to_bytes(&sinks, s);
     return answer;
@@ -261,8 +309,8 @@ static uint64_t call_on_words(void) {
 
 /* ---- what came of them ---- */
 
-static int filled(const uint8_t *from, const uint8_t *to) {
-    while (from < to && *from == FILLED) {
+static int all(uint8_t filled, const uint8_t *from, const uint8_t *to) {
+    while (from < to && *from == filled) {
         from++;
     }
     return from == to;
@@ -271,7 +319,8 @@ static int filled(const uint8_t *from, const uint8_t *to) {
 /* Whether the slice has these bytes, and all that were not given it are as they were. */
 static int holds(const struct lent *lent, const struct given *before, const struct given *after) {
     return before->len == after->len && memcmp(lent->at, after->bytes, after->len) == 0 &&
-           filled(lent->at - GUARD, lent->at) && filled(lent->at + after->len, lent->at + lent->len + GUARD);
+           all(lent->filled, lent->at - GUARD, lent->at) &&
+           all(lent->filled, lent->at + after->len, lent->at + lent->len + GUARD);
 }
 
 /* What is not as the line says, or null. */
@@ -281,6 +330,9 @@ static const char *difference(uint64_t answer) {
     }
     if (!holds(&memory, &vector.memory, &vector.memory_after)) {
         return "memory";
+    }
+    if (!holds(&work, &vector.work, &vector.work_after)) {
+        return "work memory";
     }
     if (!holds(&sinks, &vector.sinks, &vector.sinks_after)) {
         return "sink space";
@@ -302,8 +354,8 @@ static int agrees(uint64_t answer, const char *face) {
     return 0;
 }
 
-/* Whether all calls for the vector agree with it. */
-static int try_vector(void) {
+/* Whether all calls of the vector's kind agree with it. */
+static int try_calls(void) {
     for (size_t address = 0; address < REMUS_WORD_BYTES; address++) {
         for (size_t spare = 0; spare < REMUS_WORD_BYTES; spare++) {
             if (!agrees(call_on_bytes(address, spare), "bytes")) {
@@ -314,7 +366,20 @@ static int try_vector(void) {
     return agrees(call_on_words(), "words");
 }
 
-/* Whether all lines of a file agree; they are counted by kind. */
+/* Whether the vector agrees; then it is counted by its kind. */
+static int try_vector(unsigned long agreed[KINDS]) {
+    if (!try_calls()) {
+        return 0;
+    }
+    agreed[vector.kind]++;
+    if (vector.kind != TURN) {
+        return 1;
+    }
+    turn_to_preview();
+    return try_calls();
+}
+
+/* Whether all lines of a file agree. */
 static int try_lines(FILE *file, unsigned long agreed[KINDS]) {
     static char line[MOST_LINE];
     for (line_number = 1; fgets(line, sizeof line, file) != NULL; line_number++) {
@@ -322,13 +387,12 @@ static int try_lines(FILE *file, unsigned long agreed[KINDS]) {
             continue;
         }
         if (!read_line(line)) {
-            fprintf(stderr, "%s:%lu: not a vector of check, image, start or turn\n", file_name, line_number);
+            fprintf(stderr, "%s:%lu: not a vector of check, image, start, turn or preview\n", file_name, line_number);
             return 0;
         }
-        if (!try_vector()) {
+        if (!try_vector(agreed)) {
             return 0;
         }
-        agreed[vector.kind]++;
     }
     if (ferror(file)) {
         perror(file_name);

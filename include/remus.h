@@ -5,25 +5,26 @@
  *     remus_check    says whether a program is well formed
  *     remus_start    makes memory ready for a program's first turn
  *     remus_turn     runs one turn
+ *     remus_preview  shows what a turn would do, and leaves memory as it is
  *
- * The caller lends the program, the memory, the readings and the space for the sinks. The library has no heap and no
- * data of its own and keeps nothing between calls, so it is reentrant: calls that write different memory and sinks may
- * run at the same time. It needs memcpy, memmove and memset, and nothing else. No bytes have to be validated before a
- * call: each call tests all that it is lent, and returns whatever it finds. What the calls answer and leave is proved
- * to be as defined, for every input.
+ * The caller lends the program, the memory, the readings and the space for the sinks, and to a preview a work memory.
+ * The library has no heap and no data of its own and keeps nothing between calls, so it is reentrant: calls may run at
+ * the same time if what one of them may write is lent to no other. It needs memcpy, memmove and memset, and nothing
+ * else. No bytes have to be validated before a call: each call tests all that it is lent, and returns whatever it
+ * finds. What the calls answer and leave is proved to be as defined, for every input.
  *
- * Slices. A slice is a pointer and a length. Lengths count bytes; but in the two calls whose names end in _words the
- * lengths of memory, readings and sinks count words.
+ * Slices. A slice is a pointer and a length. Lengths count bytes; but in the calls whose names end in _words all but
+ * the program's count words.
  *
  *   - A word has 32 bits. In a slice of bytes it is four of them, low byte first, at any address. If the length is no
  *     multiple of four, the one to three last bytes make no word: no call reads them, and none writes them.
  *   - In a slice of words it is a uint32_t, in the processor's own byte order, and the slice is aligned as uint32_t is.
- *   - A slice that a call may write, memory or sinks, must share no byte with another slice of that call.
+ *   - A slice that a call may write, one declared without const, must share no byte with another slice of that call.
  *   - The pointer of an empty slice is not used and may be null.
  *
  * Answers. An answer is a number, which says how the call ended, and a place, which says where: see remus_number and
- * remus_place. Any number but 0 is a refusal. A refused call changes no byte of memory or of sink space, so it can be
- * made again once its fault is corrected.
+ * remus_place. Any number but 0 is a refusal. A refused call changes no byte, so it can be made again once its fault is
+ * corrected; only a preview that ends with 14 or 15 has written its work memory.
  *
  * Values. A value is a pair of words, a mark and a content. A reading that is missing is blank, and so is a sink whose
  * value is not known. Blank is not zero and not false: look at the mark before the content.
@@ -40,8 +41,8 @@
  * Only the machine writes memory. Between calls it may be stored, moved and brought back; another program needs a new
  * start.
  *
- * Stack. A turn on words takes 3 to 8 KB, and up to 22 KB if deployments nest 64 deep (measured on x86-64, not proved).
- * The calls on bytes work on a copy of memory, which they have on the stack too: up to 64 KB more.
+ * Stack. A turn or a preview on words takes 2 to 8 KB, and up to 22 KB if deployments nest 64 deep (measured on x86-64,
+ * not proved). The calls on bytes work on a copy of memory, which they have on the stack too: up to 64 KB more.
  */
 #ifndef REMUS_H
 #define REMUS_H
@@ -72,9 +73,10 @@ extern "C" {
  *
  * Of several faults the first is told. The program's come first: header, tables, then each reactor's commands in order
  * and 7 at its end, with 1 tested before each of the three; of one command 3, 25, 4, 5, and then 6, 19, 20 or 21. Then
- * come 8 to 13 in this order, and 14 and 15 as the turn runs. */
+ * come 8, 22 and 9 to 13 in this order, and 14 and 15 as the turn runs. */
 enum remus_numbers {
-    /* Done. Place: of a check, the size of main in words; of a start or a turn, the words of memory now in use. */
+    /* Done. Place: of a check, the size of main in words; of a start or a turn, the words of memory now in use; of a
+     * preview, those of work memory. */
     REMUS_OK = 0,
 
     /* Faults of the program, which every call tests. */
@@ -106,10 +108,12 @@ enum remus_numbers {
     /* The command is primitive 4, the remainder, which is withdrawn. Place: the command. */
     REMUS_WITHDRAWN = 25,
 
-    /* Faults of what else is lent: start tests 8, turn tests 8 to 13. */
+    /* Faults of what else is lent: start tests 8, turn 8 to 13, preview these and 22. */
 
     /* Memory has under 2 words or over 16,384. Place: its whole words. */
     REMUS_MEMORY_LENGTH = 8,
+    /* Work memory has fewer words than memory, or more. Place: its whole words. */
+    REMUS_WORK_LENGTH = 22,
     /* Memory is not as a start or a turn of this program leaves it. Place: where, as an index of memory.
      *   - 0 if word 0 or word 1 is wrong, if deployments, main first, do not fill the words in use exactly, or if a
      *     word past these is not zero;
@@ -131,7 +135,7 @@ enum remus_numbers {
     /* 2,147,483,647 turns are completed: start anew. Place: 0. */
     REMUS_CLOCK = 13,
 
-    /* Faults that are met as a deployment is made: by start, 14 for main; by turn, both, and 15 is tested first. */
+    /* Faults that are met as a deployment is made: by start, 14 for main; by turn and preview, 15, then 14. */
 
     /* The words that are left of memory are fewer than the new deployment takes. Place: its reactor. */
     REMUS_NO_ROOM = 14,
@@ -160,10 +164,21 @@ uint64_t remus_start(const uint8_t *program, size_t program_len, uint8_t *memory
 uint64_t remus_turn(const uint8_t *program, size_t program_len, uint8_t *memory, size_t memory_len,
                     const uint8_t *readings, size_t readings_len, uint8_t *sinks, size_t sinks_len);
 
-/* The same two calls on words. Where the processor has the low byte first, both forms have the same memory. */
+/* Tries a turn and leaves memory as it is. Takes what remus_turn takes, and a work memory of as many words as memory,
+ * whatever they hold. On 0 the sinks are the turn's, and work memory is what the turn would leave as memory; on 14 and
+ * 15 work memory is a copy of memory. Then the turn can be made, with the same outcome, or work memory be taken for
+ * memory, which comes to the same. Gives what the turn would give, or 22. */
+uint64_t remus_preview(const uint8_t *program, size_t program_len, const uint8_t *memory, size_t memory_len,
+                       uint8_t *work, size_t work_len, const uint8_t *readings, size_t readings_len, uint8_t *sinks,
+                       size_t sinks_len);
+
+/* The same three calls on words. Where the processor has the low byte first, both forms have the same memory. */
 uint64_t remus_start_words(const uint8_t *program, size_t program_len, uint32_t *memory, size_t memory_words);
 uint64_t remus_turn_words(const uint8_t *program, size_t program_len, uint32_t *memory, size_t memory_words,
                           const uint32_t *readings, size_t readings_words, uint32_t *sinks, size_t sinks_words);
+uint64_t remus_preview_words(const uint8_t *program, size_t program_len, const uint32_t *memory, size_t memory_words,
+                             uint32_t *work, size_t work_words, const uint32_t *readings, size_t readings_words,
+                             uint32_t *sinks, size_t sinks_words);
 
 /* An answer is its number times 4,294,967,296 plus its place. */
 static inline uint32_t remus_number(uint64_t answer) { return (uint32_t)(answer >> 32); }
