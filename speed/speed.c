@@ -145,25 +145,34 @@ static void growth_table(void) {
 
 static const size_t face_n[] = {11, 55, 1024, 4096, 8192, 16384};
 enum { FACES = sizeof face_n / sizeof *face_n };
-static contest *of_face[FACES];
+static struct {
+    contest *turn, *preview;
+} of_face[FACES];
 
 static void add_faces(void) {
     for (int k = 0; k < FACES; k++) {
         work *w = named(k == 0 ? "clock" : "toggle");
         (k == 0 ? make_clock : make_toggle)(&w->program);
         set_up(w, &on_words, &on_bytes, face_n[k]);
-        of_face[k] = add(w, turns);
+        of_face[k].turn = add(w, turns);
+        of_face[k].preview = add(w, previews);
     }
 }
 
+static void faces_of(const contest *q) {
+    cell_ns(typical(q, LEFT));
+    cell_ns(typical(q, RIGHT));
+    cell_ratio(ratio(q));
+}
+
 static void face_table(void) {
-    table("On bytes", "turn | n | on words | on bytes | ratio");
+    table("On bytes, and previews",
+          "rule | n | turn on words | on bytes | ratio | preview on words | on bytes | ratio");
     for (int k = 0; k < FACES; k++) {
         row(k == 0 ? "clock" : "toggle");
         cell_count(face_n[k]);
-        cell_ns(typical(of_face[k], LEFT));
-        cell_ns(typical(of_face[k], RIGHT));
-        cell_ratio(ratio(of_face[k]));
+        faces_of(of_face[k].turn);
+        faces_of(of_face[k].preview);
         end_row();
     }
 }

@@ -18,9 +18,16 @@ static uint64_t turn_words(const uint8_t *p, size_t n, uint8_t *m, size_t memlen
                             rdlen / REMUS_WORD_BYTES, (uint32_t *)sk, sklen / REMUS_WORD_BYTES);
 }
 
-const face by_hand = {base_check, base_start, base_turn};
-const face on_words = {remus_check, start_words, turn_words};
-const face on_bytes = {remus_check, remus_start, remus_turn};
+static uint64_t preview_words(const uint8_t *p, size_t n, const uint8_t *m, size_t memlen, uint8_t *wk, size_t wklen,
+                              const uint8_t *rd, size_t rdlen, uint8_t *sk, size_t sklen) {
+    return remus_preview_words(p, n, (const uint32_t *)m, memlen / REMUS_WORD_BYTES, (uint32_t *)wk,
+                               wklen / REMUS_WORD_BYTES, (const uint32_t *)rd, rdlen / REMUS_WORD_BYTES,
+                               (uint32_t *)sk, sklen / REMUS_WORD_BYTES);
+}
+
+const face by_hand = {base_check, base_start, base_turn, NULL};
+const face on_words = {remus_check, start_words, turn_words, preview_words};
+const face on_bytes = {remus_check, remus_start, remus_turn, remus_preview};
 
 static void die(const work *w, const char *call, uint64_t answer) {
     fprintf(stderr, "%s: %s gives %u %u\n", w->name, call, remus_number(answer), remus_place(answer));
@@ -50,7 +57,7 @@ static void calm_readings(work *w) {
 
 static void begin(work *w, int i, const face *f, size_t n) {
     side *s = &w->side[i];
-    *s = (side){f, w, (uint8_t *)w->memory[i], (uint8_t *)w->sinks[i], 0, 0};
+    *s = (side){f, w, (uint8_t *)w->memory[i], (uint8_t *)w->work_memory[i], (uint8_t *)w->sinks[i], 0, 0};
     memset(s->memory, 0xEE, sizeof w->memory[i]);
     memset(s->sinks, 0, sizeof w->sinks[i]);
     w->n = n;
@@ -74,6 +81,7 @@ size_t used_words(const work *w) { return w->memory[0][0]; }
 void compare(const work *w) {
     const side *a = &w->side[0], *b = &w->side[1];
     if (a->turns == b->turns && a->last == b->last && memcmp(a->memory, b->memory, REMUS_WORD_BYTES * w->n) == 0 &&
+        memcmp(a->work_memory, b->work_memory, REMUS_WORD_BYTES * w->n) == 0 &&
         memcmp(a->sinks, b->sinks, sizeof w->sinks[0]) == 0) {
         return;
     }
@@ -92,6 +100,19 @@ void turns(void *of_side, long calls) {
     }
     if (remus_number(r) != REMUS_OK) die(w, "turn", r);
     s->turns = k;
+    s->last = r;
+}
+
+void previews(void *of_side, long calls) {
+    side *s = of_side;
+    const work *w = s->work;
+    uint64_t r = 0;
+    for (long j = 0; j < calls; j++) {
+        r = s->face->preview(w->program.b, w->program.n, s->memory, REMUS_WORD_BYTES * w->n, s->work_memory,
+                             REMUS_WORD_BYTES * w->n, (const uint8_t *)w->readings[s->turns % SETS], w->readings_len,
+                             s->sinks, SINK_BYTES);
+    }
+    if (remus_number(r) != REMUS_OK) die(w, "preview", r);
     s->last = r;
 }
 

@@ -11,6 +11,9 @@ typedef struct {
     uint64_t (*check)(const uint8_t *, size_t);
     uint64_t (*start)(const uint8_t *, size_t, uint8_t *, size_t);
     uint64_t (*turn)(const uint8_t *, size_t, uint8_t *, size_t, const uint8_t *, size_t, uint8_t *, size_t);
+    /* null by hand */
+    uint64_t (*preview)(const uint8_t *, size_t, const uint8_t *, size_t, uint8_t *, size_t, const uint8_t *, size_t,
+                        uint8_t *, size_t);
 } face;
 
 extern const face by_hand, on_words, on_bytes;
@@ -20,7 +23,7 @@ typedef struct work work;
 typedef struct {
     const face *face;
     const work *work;
-    uint8_t *memory, *sinks;
+    uint8_t *memory, *work_memory, *sinks;
     uint32_t turns; /* so far; picks the readings */
     uint64_t last;  /* answer of a turn */
 } side;
@@ -34,6 +37,7 @@ struct work {
     side side[2];
     /* At the same place in a page for both sides, as placement alone can move a short call by a third. */
     _Alignas(PAGE) uint32_t memory[2][REMUS_MAX_WORDS + PAGE / REMUS_WORD_BYTES];
+    _Alignas(PAGE) uint32_t work_memory[2][REMUS_MAX_WORDS + PAGE / REMUS_WORD_BYTES];
     _Alignas(64) uint32_t sinks[2][16];
 };
 
@@ -46,8 +50,10 @@ size_t used_words(const work *w);
 /* Ends the program if the sides differ in memory, sinks or last answer. */
 void compare(const work *w);
 
-/* Calls of a side: turns, checks, and turns that 10 refuses, after the tests of program and image. */
+/* Calls of a side: turns, previews of the next one, checks, and turns that 10 refuses, after the tests of program and
+ * image. */
 void turns(void *of_side, long calls);
+void previews(void *of_side, long calls);
 void checks(void *of_side, long calls);
 void refused_turns(void *of_side, long calls);
 
