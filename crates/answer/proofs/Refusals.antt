@@ -6,7 +6,8 @@ use Rattle.answer.specs.declared.Refusal.{Refusal}
 use Rattle.answer.specs.declared.Refusal.the-variants.{ProgramLength, TableByte, Command, Operand, PortOrKind}
 use Rattle.answer.specs.declared.Refusal.the-variants.{SetTwice, Missing, MemoryLength, UnsoundImage}
 use Rattle.answer.specs.declared.Refusal.the-variants.{ReadingsLength, Reading, SinkSpace, Clock, NoRoom, TooDeep}
-use Rattle.answer.specs.declared.Refusal.the-variants.{TooEarly, TooLate, NotLower, WorkLength, Withdrawn}
+use Rattle.answer.specs.declared.Refusal.the-variants.{TooEarly, TooLate, NotLower, WorkLength, Circular}
+use Rattle.answer.specs.declared.Refusal.the-variants.{FigureTooLarge, Withdrawn}
 
 -- the refusal of number n at place q
 unfoldable at : ℕ → ℕ → Refusal
@@ -30,7 +31,9 @@ at n q =
     (pick (n =? 20) (TooLate q)
     (pick (n =? 21) (NotLower q)
     (pick (n =? 22) (WorkLength q)
-    (Withdrawn q)))))))))))))))))))
+    (pick (n =? 23) (Circular q)
+    (pick (n =? 24) FigureTooLarge
+    (Withdrawn q)))))))))))))))))))))
 
 known-by : (w : Refusal) → at (refusalNumber w) (refusalPlace w) ≡ w
 unfolding at pick _=?_
@@ -53,6 +56,8 @@ known-by (TooEarly q) = refl
 known-by (TooLate q) = refl
 known-by (NotLower q) = refl
 known-by (WorkLength q) = refl
+known-by (Circular q) = refl
+known-by FigureTooLarge = refl
 known-by (Withdrawn q) = refl
 
 pub refusals-apart : RefusalsApart
@@ -85,4 +90,6 @@ refusal-counts (TooEarly q) = omega arith
 refusal-counts (TooLate q) = omega arith
 refusal-counts (NotLower q) = omega arith
 refusal-counts (WorkLength q) = omega arith
+refusal-counts (Circular q) = omega arith
+refusal-counts FigureTooLarge = omega arith
 refusal-counts (Withdrawn q) = omega arith

@@ -6,7 +6,8 @@ use Rattle.answer.specs.declared.Refusal.{Refusal}
 use Rattle.answer.specs.declared.Refusal.the-variants.{ProgramLength, TableByte, Command, Operand, PortOrKind}
 use Rattle.answer.specs.declared.Refusal.the-variants.{SetTwice, Missing, MemoryLength, UnsoundImage}
 use Rattle.answer.specs.declared.Refusal.the-variants.{ReadingsLength, Reading, SinkSpace, Clock, NoRoom, TooDeep}
-use Rattle.answer.specs.declared.Refusal.the-variants.{TooEarly, TooLate, NotLower, WorkLength, Withdrawn}
+use Rattle.answer.specs.declared.Refusal.the-variants.{TooEarly, TooLate, NotLower, WorkLength, Circular}
+use Rattle.answer.specs.declared.Refusal.the-variants.{FigureTooLarge, Withdrawn}
 
 abbrev pub refusalNumber : Refusal → ℕ
 refusalNumber (ProgramLength q) = 1
@@ -28,6 +29,8 @@ refusalNumber (TooEarly q) = 19
 refusalNumber (TooLate q) = 20
 refusalNumber (NotLower q) = 21
 refusalNumber (WorkLength q) = 22
+refusalNumber (Circular q) = 23
+refusalNumber FigureTooLarge = 24
 refusalNumber (Withdrawn q) = 25
 
 abbrev pub refusalPlace : Refusal → ℕ
@@ -50,6 +53,8 @@ refusalPlace (TooEarly q) = q
 refusalPlace (TooLate q) = q
 refusalPlace (NotLower q) = q
 refusalPlace (WorkLength q) = q
+refusalPlace (Circular q) = q
+refusalPlace FigureTooLarge = 0
 refusalPlace (Withdrawn q) = q
 
 -- of an answer: 0 and the size that the call is asked for, or the refusal's

@@ -42,6 +42,10 @@ pub enum Refusal {
     NotLower(usize),
     // 22 The work memory of a preview is not as long as the memory: the work memory's words.
     WorkLength(usize),
+    // 23 A reactor that main needs leads back to itself, so there is no figure: the lowest such reactor.
+    Circular(usize),
+    // 24 The figure is larger than any memory: 0.
+    FigureTooLarge,
     // 25 A primitive that is withdrawn.
     Withdrawn(usize),
 }
@@ -82,6 +86,8 @@ impl Refusal {
             Refusal::TooLate(_) => 20,
             Refusal::NotLower(_) => 21,
             Refusal::WorkLength(_) => 22,
+            Refusal::Circular(_) => 23,
+            Refusal::FigureTooLarge => 24,
             Refusal::Withdrawn(_) => 25,
         }
     }
@@ -109,6 +115,8 @@ impl Refusal {
             Refusal::TooLate(q) => q,
             Refusal::NotLower(q) => q,
             Refusal::WorkLength(q) => q,
+            Refusal::Circular(q) => q,
+            Refusal::FigureTooLarge => 0,
             Refusal::Withdrawn(q) => q,
         }
     }
