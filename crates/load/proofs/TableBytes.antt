@@ -15,7 +15,7 @@ use Rattle.load.proofs.Exact.Bytes.{header, tables, header-first, globa
 use Rattle.load.proofs.Exact.Bytes.{source-byte, sink-byte, three-tables}
 use Rattle.load.proofs.Exact.Widths.{sixteen}
 
-few-commands : (p : List ℕ) (r : ℕ) → EntryRule p r → commandsIn p r ≤ 160
+pub few-commands : (p : List ℕ) (r : ℕ) → EntryRule p r → commandsIn p r ≤ 160
 unfolding commandsIn
 few-commands p r e = omega arith
 

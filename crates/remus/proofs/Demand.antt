@@ -70,7 +70,7 @@ module _ (p : List ℕ) (rules : Rules p) (w : List ℕ) (few : length w ≤ mos
 -- ---- the claims
 
 -- what holds of each turn on a sound image, and of the memory that it leaves
-holds : (p w : List ℕ) (t : Input) → IsAccepted p → length w ≤ mostWords → SoundImage p w → TurnHolds p w t
+pub holds : (p w : List ℕ) (t : Input) → IsAccepted p → length w ≤ mostWords → SoundImage p w → TurnHolds p w t
 holds p w t a few image =
     let rules = exact p .0 a in
     turn-holds p w t a few image (rules-soundness p rules w few .1 image) (inside p rules w few image t)

@@ -13,6 +13,7 @@ pub mod Inside
 pub mod OneTurn
 pub mod Steady
 pub mod Demand
+pub mod Work
 pub mod RefusedLeaves
 pub mod FirstFault
 pub mod Previews

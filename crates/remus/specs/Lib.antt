@@ -10,5 +10,6 @@ pub mod Preview
 pub mod Walk
 pub mod Point
 pub mod Claim
+pub mod Work
 pub mod Open
 pub mod Cases

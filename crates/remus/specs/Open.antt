@@ -13,11 +13,12 @@ use Rattle.remus.specs.Turn.{turnOf}
 use Rattle.remus.specs.Preview.{fromRun, tried, previewRefused, previewBy, previewOf}
 use Rattle.remus.specs.Walk.{suppliedNote, notesOf, onto, begun, stepAt, stepOn, step, onwards, steps}
 use Rattle.remus.specs.Claim.{turnsOf, memoryAfter}
+use Rattle.remus.specs.Work.{standing}
 
 unfoldable pub opened : ℕ
 unfolding below-opened pending kept keepBy keepFrom keepOne keepOf globalValue find there allocated branched chosen
     operated supplied reacted consumed given exec opening ready eff andThen entered commands stepOf runOf mainRun
     clearedWords clearOne clearOf closed finished pairsFrom pairs sunk below slotBack slotsBack oneBack zeroFrom back
     undoOf readingAt badReading askedOf turnRefused byRun byAsked bySound byCheck turnOf fromRun tried previewRefused
-    previewBy previewOf suppliedNote notesOf onto begun stepAt stepOn step onwards steps turnsOf memoryAfter
+    previewBy previewOf suppliedNote notesOf onto begun stepAt stepOn step onwards steps turnsOf memoryAfter standing
 opened = 0

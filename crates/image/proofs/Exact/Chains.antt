@@ -16,7 +16,8 @@ use Rattle.value.proofs.Zeros.{zeros-at}
 use Rattle.image.proofs.Chains.{members-end, members-next}
 use Rattle.image.proofs.Memory.Tiles.{in-to}
 use Rattle.image.proofs.Memory.Distinct.{Members, end, one, few-members}
-use Rattle.image.proofs.Exact.Lists.{_∈_, same, total, is, is-same, is-other, count, count-none}
+use Rattle.image.proofs.Exact.Lists.{_∈_, same, total, is, is-same, is-other, count, count-none, Apart, none}
+use Rattle.image.proofs.Exact.Lists.{and}
 use Rattle.image.proofs.Exact.Tiling.{Laid, tableOf, start-test, deployed-reactor}
 
 module _ (p m : List ℕ) where
@@ -79,6 +80,14 @@ module _ (p m : List ℕ) where
         let here : is d c ≡ 1 = is-same q in
         omega arith)
         (λ q. omega (arith, is-other q, members-once f d r)))
+
+    -- nor does a reactor
+    pub members-apart : (f : ℕ) {c : ℕ} → Chain p m o s c → Apart (reactor m) (membersFrom p m f c)
+    unfolding membersFrom
+    members-apart zero r = none
+    members-apart (suc f) empty = rw (members-end p m 0 (suc f) (omega arith)) none
+    members-apart (suc f) (link {c = c} h l e g u r) =
+        rw (after f c (omega arith)) (and (λ d i. u d (members? f (next m c) i)) (members-apart f r))
 
   -- ---- the test
 

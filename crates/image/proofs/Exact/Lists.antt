@@ -1,7 +1,7 @@
--- Lists of indices: membership, rising lists, sums over a list, how often a number occurs, lists joined.
--- Nothing here speaks of memory.
-use Rattle.value.specs.Prelude.{ℕ, zero, suc, _+_, _≤_, _<_, _≡_, refl, sym, subst, ⊎-elim, _↔_, _≢_, List, [], _∷_}
-use Rattle.value.specs.Prelude.{_++_, length, arith}
+-- Lists of indices: membership, rising lists, sums over a list, how often a number occurs, lists joined, numbers that
+-- differ. Nothing here speaks of memory.
+use Rattle.value.specs.Prelude.{ℕ, zero, suc, _+_, _≤_, _<_, _≡_, refl, sym, _∙_, ap, subst, ⊎-elim, _↔_, _≢_, List}
+use Rattle.value.specs.Prelude.{[], _∷_, _++_, length, arith}
 use mathlib.Core.List.{List·Memᴰ, List·Memᴰ·head as first, List·Memᴰ·tail as later, List·Memᴰ·cases-cons as in-cons}
 use mathlib.Core.List.{List·Memᴰ·not-nil as in-nil, List·Memᴰ·append-cases as in-append, Memᴰ·append-left as in-left}
 use mathlib.Core.List.{Memᴰ·append-right as in-right}
@@ -57,6 +57,11 @@ from-in (suc n) j i =
       λ h. ⊎-elim (λ e. omega arith) (λ k. let q = w .0 k in omega arith) (in-cons h),
       λ h. same i j (λ e. first e) (λ e. later (w .1 (omega arith))),
     )
+
+pub from-length : (n j : ℕ) → length (from n j) ≡ n
+unfolding from
+from-length zero j = refl
+from-length (suc n) j = ap suc (from-length n (j + 1))
 
 -- ---- sums over a list
 
@@ -125,6 +130,31 @@ module _ (f : ℕ → ℕ) where
             (in-cons (o .there)),
       )
 
+pub total-ones : (l : List ℕ) → total (λ a. 1) l ≡ length l
+unfolding total
+total-ones [] = refl
+total-ones (a ∷ l) = omega (arith, total-ones l)
+
+module _ (f g : ℕ → ℕ) where
+  pub total-both : (l : List ℕ) → total (λ a. f a + g a) l ≡ total f l + total g l
+  unfolding total
+  total-both [] = omega arith
+  total-both (a ∷ l) = omega (arith, total-both l)
+
+  pub total-least : (l : List ℕ) → ((a : ℕ) → a ∈ l → f a ≤ g a) → total f l ≤ total g l
+  unfolding total
+  total-least [] h = omega arith
+  total-least (a ∷ l) h = omega (arith, h a (first refl), total-least l (λ b i. h b (later i)))
+
+  -- what one place leaves to spare, the sum does
+  pub total-spare : (k : ℕ) {a : ℕ} {l : List ℕ} → a ∈ l → ((b : ℕ) → b ∈ l → f b ≤ g b) → f a + k ≤ g a →
+      total f l + k ≤ total g l
+  unfolding total
+  total-spare k (first {x = b} {xs = l} e) h s =
+      let z : f b + k ≤ g b = rw e at s in omega (arith, total-least l (λ c i. h c (later i)))
+  total-spare k (later {x = b} i) h s =
+      omega (arith, h b (first refl), total-spare k i (λ c j. h c (later j)) s)
+
 -- ---- how often a number occurs
 
 unfoldable pub is : ℕ → ℕ → ℕ
@@ -181,7 +211,45 @@ flat-in d g (b ∷ l) =
           (in-cons (h .1)),
     )
 
-pub count-flat : (d : ℕ) (g : ℕ → List ℕ) (l : List ℕ) → count d (flat g l) ≡ total (λ a. count d (g a)) l
+pub total-flat : (f : ℕ → ℕ) (g : ℕ → List ℕ) (l : List ℕ) → total f (flat g l) ≡ total (λ a. total f (g a)) l
 unfolding total flat
-count-flat d g [] = refl
-count-flat d g (a ∷ l) = omega (arith, total-append (is d) (g a) (flat g l), count-flat d g l)
+total-flat f g [] = refl
+total-flat f g (a ∷ l) = omega (arith, total-append f (g a) (flat g l), total-flat f g l)
+
+-- ---- numbers that differ
+
+-- no two of the list have the same g
+pub data Apart (g : ℕ → ℕ) : List ℕ → Type 0 where
+  none : Apart g []
+  and : {a : ℕ} {l : List ℕ} → ((b : ℕ) → b ∈ l → g b ≢ g a) → Apart g l → Apart g (a ∷ l)
+
+pub rising-apart : {a : ℕ} {l : List ℕ} → Rising a l → Apart (λ b. b) l
+rising-apart ends = none
+rising-apart (rises {b = a} h r) = and {a = a} (λ b i. let q = rising-from r i in omega arith) (rising-apart r)
+
+-- k is the list l without one that is a
+pub record Without (f : ℕ → ℕ) (a : ℕ) (l k : List ℕ) : Type 0 where
+  pub sum : total f l ≡ f a + total f k
+  pub others : (b : ℕ) → b ∈ l → b ≢ a → b ∈ k
+
+pub without : (f : ℕ → ℕ) {a : ℕ} {l : List ℕ} → a ∈ l → (k : List ℕ) × Without f a l k
+unfolding total
+without f (first {x = b} {xs = l} e) =
+    (l, record { sum = rw e refl; others = λ c i n. ⊎-elim (λ q. absurd (n (q ∙ sym e))) (λ j. j) (in-cons i) })
+without f (later {x = b} i) =
+    let w = without f i in (
+      b ∷ (w .0),
+      record {
+        sum = omega (arith, w .1 .sum);
+        others = λ c j n. ⊎-elim (λ q. first q) (λ h. later (w .1 .others c h n)) (in-cons j);
+      },
+    )
+
+-- f summed over the g of a list, no two of them the same, is at most f summed over a list that has them all
+pub covered : (f g : ℕ → ℕ) {l : List ℕ} (k : List ℕ) → Apart g l → ((a : ℕ) → a ∈ l → g a ∈ k) →
+    total (λ a. f (g a)) l ≤ total f k
+unfolding total
+covered f g k none h = omega arith
+covered f g k (and {a = a} n r) h =
+    let w = without f (h a (first refl)) in
+    omega (arith, w .1 .sum, covered f g (w .0) r (λ b i. w .1 .others (g b) (h b (later i)) (n b i)))

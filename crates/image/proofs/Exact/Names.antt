@@ -9,14 +9,14 @@ use Rattle.program.specs.Bytes.{reactors, commandsD}
 use Rattle.program.specs.Command.{allocMono, makePoly, cell, nought, madeBy, cmdOf}
 use Rattle.program.specs.Location.{commandLoc}
 use Rattle.image.specs.Memory.{mainAt, reactor, content}
-use Rattle.image.specs.Sound.{Deployed, Names as NamedBy, by-mono, by-point, Owner, NamedOnce}
+use Rattle.image.specs.Sound.{Deployed, Chain, Names as NamedBy, by-mono, by-point, Owner, NamedOnce}
 use Rattle.image.specs.Fault.{SlotsRight}
 use Rattle.image.specs.Passes.{over, tableByte, blankTable, name, membersFrom, namedBy, childrenFrom, childrenOf}
 use Rattle.image.specs.Passes.{visit, tableAfter, fits}
 use Rattle.image.specs.declared.Pass.the-variants.{Names}
 use Rattle.image.proofs.Exact.Lists.{_∈_, same, from, from-in, from-rising, total, OneOf, total-one, is, is-same}
 use Rattle.image.proofs.Exact.Lists.{is-other, count, count-none, count-in, count-most, flat, flat-in}
-use Rattle.image.proofs.Exact.Lists.{count-flat}
+use Rattle.image.proofs.Exact.Lists.{total-flat}
 use Rattle.image.proofs.Exact.Tables.{over-flat, entry-near, entry-here, entry-other, entry-length, blank-main}
 use Rattle.image.proofs.Exact.Tables.{blank-other}
 use Rattle.image.proofs.Exact.Tiling.{Laid, starts, tableOf, start-in, start-rising, main-deployed, deployed-one}
@@ -33,29 +33,29 @@ module _ (p m : List ℕ) where
   owned o j = namedBy p m o (commandLoc p (reactor m o) j) (madeBy (cmdOf p (reactor m o) j))
 
   module _ (o j : ℕ) where
-    owned-mono : {x : ℕ} → cmdOf p (reactor m o) j ≡ allocMono x →
+    pub owned-mono : {x : ℕ} → cmdOf p (reactor m o) j ≡ allocMono x →
         owned o j ≡ content p m o (commandLoc p (reactor m o) j) ∷ []
     unfolding namedBy
     owned-mono e = ap (namedBy p m o (commandLoc p (reactor m o) j)) (made-mono e)
 
-    owned-point : {x : ℕ} → cmdOf p (reactor m o) j ≡ makePoly x →
+    pub owned-point : {x : ℕ} → cmdOf p (reactor m o) j ≡ makePoly x →
         owned o j ≡ membersFrom p m (reactors p) (content p m o (commandLoc p (reactor m o) j))
     unfolding namedBy
     owned-point e = ap (namedBy p m o (commandLoc p (reactor m o) j)) (made-point e)
 
-    owned-cell : {x v : ℕ} → cmdOf p (reactor m o) j ≡ cell x v → owned o j ≡ []
+    pub owned-cell : {x v : ℕ} → cmdOf p (reactor m o) j ≡ cell x v → owned o j ≡ []
     unfolding namedBy
     owned-cell e = ap (namedBy p m o (commandLoc p (reactor m o) j)) (made-cell e)
 
-    owned-none : madeBy (cmdOf p (reactor m o) j) ≡ nought → owned o j ≡ []
+    pub owned-none : madeBy (cmdOf p (reactor m o) j) ≡ nought → owned o j ≡ []
     unfolding namedBy
     owned-none e = ap (namedBy p m o (commandLoc p (reactor m o) j)) e
 
   -- the D commands of o
-  abbrev commands : ℕ → List ℕ
+  abbrev pub commands : ℕ → List ℕ
   commands o = from (commandsD p (reactor m o)) 0
 
-  command-in : (o j : ℕ) → (j ∈ commands o) ↔ (j < commandsD p (reactor m o))
+  pub command-in : (o j : ℕ) → (j ∈ commands o) ↔ (j < commandsD p (reactor m o))
   command-in o j =
       let w = from-in (commandsD p (reactor m o)) 0 j in
       (λ i. omega (arith, w .0 i), λ l. w .1 (omega arith))
@@ -74,18 +74,21 @@ module _ (p m : List ℕ) where
   times d o = count d (childrenOf p m o)
 
   times-total : (d o : ℕ) → times d o ≡ total (λ j. count d (owned o j)) (commands o)
-  times-total d o = ap (count d) (children-list o) ∙ count-flat d (owned o) (commands o)
+  times-total d o = ap (count d) (children-list o) ∙ total-flat (is d) (owned o) (commands o)
 
   -- ---- the lists of children
+
+  -- what D command j of o names is on its list, where the slot of a branch point heads a chain
+  pub names-owned : Laid p m → {o j d : ℕ} → ((x : ℕ) → cmdOf p (reactor m o) j ≡ makePoly x →
+      Chain p m o x (content p m o (commandLoc p (reactor m o) j))) → NamedBy p m o j d → d ∈ owned o j
+  names-owned laid {o} {j} {d} ch (by-mono x e q) =
+      subst (λ (k : List ℕ). d ∈ k) (sym (owned-mono o j e)) (first (sym q))
+  names-owned laid {o} {j} {d} ch (by-point x e i) =
+      subst (λ (k : List ℕ). d ∈ k) (sym (owned-point o j e)) (members p m laid o x d (ch x e) .1 i)
 
   module _ (laid : Laid p m) {o : ℕ} (right : SlotsRight p m o) {j : ℕ} (l : j < commandsD p (reactor m o)) where
     owned-above : {d : ℕ} → NamedBy p m o j d → (Deployed p m d × (o < d))
     owned-above k = names-above p (λ x e. right .monos j x l e) (λ x e. right .points j x l e) k
-
-    names-owned : {d : ℕ} → NamedBy p m o j d → d ∈ owned o j
-    names-owned {d} (by-mono x e q) = subst (λ (k : List ℕ). d ∈ k) (sym (owned-mono o j e)) (first (sym q))
-    names-owned {d} (by-point x e i) = subst (λ (k : List ℕ). d ∈ k) (sym (owned-point o j e))
-        (members p m laid o x d (right .points j x l e .chain) .1 i)
 
     owned-names : (d : ℕ) → Makes (cmdOf p (reactor m o) j) → d ∈ owned o j → NamedBy p m o j d
     owned-names d (a-deployment x e) i = by-mono x e (sym (in-one (subst (λ (k : List ℕ). d ∈ k) (owned-mono o j e) i)))
@@ -108,7 +111,8 @@ module _ (p m : List ℕ) where
     owner-above {o} w = owned-above laid (right o (w .deployed)) (w .low) (w .names)
 
     owner-owned : {o j d : ℕ} → Owner p m o j d → d ∈ owned o j
-    owner-owned {o} w = names-owned laid (right o (w .deployed)) (w .low) (w .names)
+    owner-owned {o} {j} w =
+        names-owned laid (λ x e. right o (w .deployed) .points j x (w .low) e .chain) (w .names)
 
     owned-owner : {o j d : ℕ} → Deployed p m o → j < commandsD p (reactor m o) → d ∈ owned o j → Owner p m o j d
     owned-owner {o} {j} {d} h l i =
@@ -251,7 +255,7 @@ module _ (p m : List ℕ) (laid : Laid p m) (right : (o : ℕ) → Deployed p m 
       tableByte (tableOf p m Names) d ≡ min 2 (total (times p m d) (starts p m))
   other-named {d} i n =
       let blank = blank-other d (λ e. n (deployed-one p m laid i (main-deployed p m laid) e)) in
-      omega (arith, named-entry i (omega arith), count-flat d (childrenOf p m) (starts p m))
+      omega (arith, named-entry i (omega arith), total-flat (is d) (childrenOf p m) (starts p m))
 
   pub named-test : {d : ℕ} → Deployed p m d →
       (fits p m Names (tableOf p m Names) d ≡ true) ↔ (d ≢ mainAt → NamedOnce p m d)

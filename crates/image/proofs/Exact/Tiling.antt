@@ -13,7 +13,7 @@ use Rattle.image.specs.declared.Pass.{Pass}
 use Rattle.image.specs.declared.Pass.the-variants.{Starts}
 use Rattle.image.proofs.Tiles.{grows}
 use Rattle.image.proofs.Memory.Tiles.{in-ge, in-to, in-reactor, three-unique}
-use Rattle.image.proofs.Exact.Lists.{_∈_, Rising, ends, rises, rising-low}
+use Rattle.image.proofs.Exact.Lists.{_∈_, Rising, ends, rises, rising-low, total}
 use Rattle.image.proofs.Exact.Tables.{entry-near, near, blank-length, blank-other, writes-keep, writes-set}
 
 module _ (p m : List ℕ) where
@@ -67,6 +67,17 @@ module _ (p m : List ℕ) where
       subst (Rising a) (goes [] _ t refl) (rises {a = a} {b = a} (omega arith) rest))
       (λ t. subst (Rising a) (stops _ t refl) ends)
 
+  -- the deployments' sizes fill the words
+  starts-fill : (f u a : ℕ) → u ≤ a + f → Tiles p m u a → a + total (sizeAt p m) (startsFrom p f m u a) ≡ u
+  unfolding startsFrom total
+  starts-fill zero u a l done = omega arith
+  starts-fill zero u a l (more h r t) = absurd (omega arith)
+  starts-fill (suc f) u a l done =
+      subst (λ (k : List ℕ). a + total (sizeAt p m) k ≡ u) (stops _ (lt× (omega arith)) refl) (omega arith)
+  starts-fill (suc f) u a l (more h r t) =
+      subst (λ (k : List ℕ). a + total (sizeAt p m) k ≡ u) (goes [] _ (lt! h) refl)
+      (omega (arith, starts-fill f u (a + sizeAt p m a) (omega (arith, grows p m a)) t))
+
 -- ---- what is known once the deployments tile
 
 pub record Laid (p m : List ℕ) : Type 0 where
@@ -93,6 +104,10 @@ module _ (p m : List ℕ) (laid : Laid p m) where
   pub start-rising : Rising mainAt (starts p m)
   unfolding startsBelow
   start-rising = starts-rising p m (length m) (used m) mainAt
+
+  pub start-fill : mainAt + total (sizeAt p m) (starts p m) ≡ used m
+  unfolding startsBelow
+  start-fill = starts-fill p m (length m) (used m) mainAt (omega (arith, laid .fits)) (laid .tiles)
 
   pub main-deployed : Deployed p m mainAt
   main-deployed = here (laid .some)

@@ -90,13 +90,13 @@ module _ (p : List ℕ) (rules : Rules p) (w : List ℕ) (few : length w ≤ 163
   -- ---- points
 
   -- the invariant on the words before the next command, with the pile at height h
-  record At (m : List ℕ) (o : ℕ) (c : Cmd) (ns : List Note) (h : ℕ) : Type 0 where
-    index : ℕ
-    lower : List Frame
-    inv : Inv p w (state m (frame o index ∷ lower) ns)
-    less : index < commandsIn p (reactor m o)
-    is : cmd p m o index ≡ c
-    height : length lower + 1 ≡ h
+  pub record At (m : List ℕ) (o : ℕ) (c : Cmd) (ns : List Note) (h : ℕ) : Type 0 where
+    pub index : ℕ
+    pub lower : List Frame
+    pub inv : Inv p w (state m (frame o index ∷ lower) ns)
+    pub less : index < commandsIn p (reactor m o)
+    pub is : cmd p m o index ≡ c
+    pub height : length lower + 1 ≡ h
 
   -- the invariant with the topmost in sight, which is not at its end
   top-inv : {s : State} {m : List ℕ} {o : ℕ} {c : Cmd} (q : Point p w t s m o c)
@@ -108,7 +108,7 @@ module _ (p : List ℕ) (rules : Rules p) (w : List ℕ) (few : length w ≤ 163
       → q .before .index < commandsIn p (reactor (s .words) o)
   top-less q = omega (arith, top-frame p (top-inv q) .bound, q .before .goes-on)
 
-  at : (s : State) (m : List ℕ) (o : ℕ) (c : Cmd) → Point p w t s m o c → At m o c (s .notes) (length (s .pile))
+  pub at : (s : State) (m : List ℕ) (o : ℕ) (c : Cmd) → Point p w t s m o c → At m o c (s .notes) (length (s .pile))
   at s m o c q =
       let b = q .before in
       let less = top-less q in

@@ -33,7 +33,7 @@ module _ (p rd : List ℕ) where
   meets-on fs (stopped v m) a b = (b .0, reach-on a (b .1), b .2)
 
   -- the step at the end of o's commands, and before
-  leaving : (m : List ℕ) (o i : ℕ) (fs : List Frame) (ns : List Note) → i ≡ commandsIn p (reactor m o) →
+  pub leaving : (m : List ℕ) (o i : ℕ) (fs : List Frame) (ns : List Note) → i ≡ commandsIn p (reactor m o) →
       step p rd (state m (frame o i ∷ fs) ns) ≡ go (state m fs (run o ∷ ns))
   unfolding step stepOn stepAt
   leaving m o i fs ns e = ap (λ (t : Bool). stepAt p rd t m o i fs ns) (eq! e)

@@ -25,6 +25,9 @@ pub data Open (o i : ℕ) : List Frame → Type 0 where
 pub none-open : {o i : ℕ} → Open o i [] → ⊥
 none-open = elim [ ]
 
+pub no-note : {n : Note} → n ∈ [] → ⊥
+no-note = elim [ ]
+
 -- addresses fall from u on
 pub data Falling : ℕ → List Frame → Type 0 where
   ground : {u : ℕ} → Falling u []

@@ -17,10 +17,11 @@ use Rattle.image.proofs.Memory.Changes.{Same, same-self, same-on, This-slot}
 use Rattle.remus.specs.Exec.{Eff, move, call, fail, globalValue, there, exec, eff, opening, ready}
 use Rattle.remus.specs.Walk.{Note, run, Frame, State, Next, go, stop, over, suppliedNote, notesOf, onto, stepAt}
 use Rattle.remus.specs.Walk.{stepOn, step}
-use Rattle.remus.specs.Point.{_∈_, Before, Allocation, mono, poly, StepAllocates, a-deployment, nothing}
+use Rattle.remus.specs.Point.{_∈_, first, later, Before, Allocation, mono, poly, StepAllocates, a-deployment}
+use Rattle.remus.specs.Point.{nothing}
 use Rattle.remus.proofs.Walk.Facts.{Facts}
 use Rattle.remus.proofs.Walk.MidTurn.{own, cmd, CellAt}
-use Rattle.remus.proofs.Walk.Pile.{frame, state, Open, first as top, later as under, Behind, Inv}
+use Rattle.remus.proofs.Walk.Pile.{frame, state, Open, first as top, later as under, no-note, Behind, Inv}
 use Rattle.remus.proofs.Walk.Top.{Onward, onward-self, onward-on, top-frame, not-behind}
 use Rattle.remus.proofs.Walk.Writes.{Writes, Gave}
 use Rattle.remus.proofs.Walk.Locations.{declared-in, not-cell}
@@ -57,23 +58,28 @@ module _ (p : List ℕ) (u : Facts p) (rd : List ℕ) (legal : Legal p rd) where
 
 -- ---- no command notes a run
 
-supply-notes : (p : List ℕ) (t : Bool) (d a l : ℕ) {ns : List Note} → run d ∈ (suppliedNote p t a l ++ ns) → run d ∈ ns
+no-supply-run : (p : List ℕ) (t : Bool) (a l : ℕ) {d : ℕ} → run d ∈ suppliedNote p t a l → ⊥
 unfolding suppliedNote
-supply-notes p true d a l z = run-past z
-supply-notes p false d a l z = z
+no-supply-run p true a l z = no-note (run-past z)
+no-supply-run p false a l z = no-note z
 
-runs-only : (p m : List ℕ) (o i : ℕ) (c : Cmd) {d : ℕ} {ns : List Note} → run d ∈ (notesOf p m o i c ++ ns) → run d ∈ ns
+pub no-run : (p m : List ℕ) (o i : ℕ) (c : Cmd) {d : ℕ} → run d ∈ notesOf p m o i c → ⊥
 unfolding notesOf
-runs-only p m o i (allocMono x) z = z
-runs-only p m o i (makePoly x) z = z
-runs-only p m o i (cell x v) z = z
-runs-only p m o i (gives g) z = run-past z
-runs-only p m o i (supply x a b) {d} z = supply-notes p (there p m o b) d (content p m o b) x z
-runs-only p m o i (react b) z = z
-runs-only p m o i (sink x a) z = run-past z
-runs-only p m o i (allocPoly a b) z = run-past z
-runs-only p m o i (keep a b) z = run-past z
-runs-only p m o i none z = z
+no-run p m o i (allocMono x) z = no-note z
+no-run p m o i (makePoly x) z = no-note z
+no-run p m o i (cell x v) z = no-note z
+no-run p m o i (gives g) z = no-note (run-past z)
+no-run p m o i (supply x a b) z = no-supply-run p (there p m o b) (content p m o b) x z
+no-run p m o i (react b) z = no-note z
+no-run p m o i (sink x a) z = no-note (run-past z)
+no-run p m o i (allocPoly a b) z = no-note (run-past z)
+no-run p m o i (keep a b) z = no-note (run-past z)
+no-run p m o i none z = no-note z
+
+noted-before : {n : Note} (xs : List Note) {ns : List Note} → (n ∈ xs → ⊥) → n ∈ (xs ++ ns) → n ∈ ns
+noted-before [] f z = z
+noted-before (x ∷ xs) f first = absurd (f first)
+noted-before (x ∷ xs) f (later z) = noted-before xs (λ k. f (later k)) z
 
 -- ---- steps
 
@@ -92,6 +98,16 @@ same-point {p} {s} {m} {m′} {o} {o′} {c} {c′} a b =
     let at : o ≡ o′ = top .0 in
     let next : a .index ≡ b .index = top .1 in
     (sym (a .wiring) ∙ rw (at, next) (b .wiring), at, sym (a .is) ∙ rw (at, next) (b .is))
+
+-- at its end a deployment has no next command
+pub at-end : {p m : List ℕ} {o i : ℕ} {fs : List Frame} {ns : List Note} → i ≡ commandsIn p (reactor m o)
+    → {m′ : List ℕ} {o′ : ℕ} {c : Cmd} → Before p (state m (frame o i ∷ fs) ns) m′ o′ c → ⊥
+at-end {p} {m} {o} {i} e {o′ = o′} b =
+    let top = same-top (b .top) in
+    let at : o ≡ o′ = top .0 in
+    let next : i ≡ b .index = top .1 in
+    let n : b .index ≢ commandsIn p (reactor m o) = rw (← at) at (b .goes-on) in
+    n (sym next ∙ e)
 
 -- the step stops at an allocation
 pub record Stops (p : List ℕ) (s : State) (v : Refusal) : Type 0 where
@@ -158,8 +174,8 @@ module _ (p : List ℕ) (u : Facts p) (rd : List ℕ) (legal : Legal p rd) where
         record {
           inv = leave-kept p u v e;
           onward = onward-self;
-          made = (0, nothing (λ m′ o′ q c b a. ended m′ o′ c b), omega arith);
-          roomy = λ m′ o′ q c b a. absurd (ended m′ o′ c b);
+          made = (0, nothing (λ m′ o′ q c b a. at-end e b), omega arith);
+          roomy = λ m′ o′ q c b a. absurd (at-end e b);
           passed = record {
             wireds = λ d t q. q;
             back = λ d t q. (t, inl q);
@@ -178,14 +194,6 @@ module _ (p : List ℕ) (u : Facts p) (rd : List ℕ) (legal : Legal p rd) where
         back : (a j : ℕ) → Behind p m fs (run o ∷ ns) a j → BehindIn p here a j
         back a j (inl b) = inl (b .0, under (b .1), b .2)
         back a j (inr b) = was a j (run-out (b .0)) (b .1)
-
-        ended : (m′ : List ℕ) (o′ : ℕ) (c : Cmd) → Before p here m′ o′ c → ⊥
-        ended m′ o′ c b =
-            let top = same-top (b .top) in
-            let at : o ≡ o′ = top .0 in
-            let next : i ≡ b .index = top .1 in
-            let n : b .index ≢ commandsIn p (reactor m o) = rw (← at) at (b .goes-on) in
-            n (sym next ∙ e)
 
     module _ (h : i < commandsIn p (reactor m o)) where
       abbrev m₁ : List ℕ
@@ -229,6 +237,9 @@ module _ (p : List ℕ) (u : Facts p) (rd : List ℕ) (legal : Legal p rd) where
       abbrev notes : List Note
       notes = notesOf p m₁ o i c₀ ++ ns
 
+      ran-then : {d : ℕ} → run d ∈ notes → run d ∈ ns
+      ran-then = noted-before (notesOf p m₁ o i c₀) (no-run p m₁ o i c₀)
+
       t₀ : Deployed p m o
       t₀ = top-frame p v .deployed
 
@@ -261,13 +272,13 @@ module _ (p : List ℕ) (u : Facts p) (rd : List ℕ) (legal : Legal p rd) where
           by (inr q) = before (inl (i, top e refl, omega arith))
 
       on-move : (m′ : List ℕ) → Onward p m m′ → Gave p m₁ m′ o i c₀ → AllNewly (state m′ (frame o (i + 1) ∷ fs) notes)
-      on-move m′ on g a j (inr b) = before (ran-before m′ on a j (runs-only p m₁ o i c₀ (b .0)) (b .1))
+      on-move m′ on g a j (inr b) = before (ran-before m′ on a j (ran-then (b .0)) (b .1))
       on-move m′ on g a j (inl b) = in-old m′ (frame o (i + 1) ∷ fs) j (b .1) (b .2) g
 
       on-call : (m′ : List ℕ) (d : ℕ) → Onward p m m′ → m′ ≡ m₁
           → Inv p w (state m′ (frame d (opening p m′ d) ∷ frame o (i + 1) ∷ fs) notes) → Gave p m₁ m′ o i c₀
           → AllNewly (state m′ (frame d (opening p m′ d) ∷ frame o (i + 1) ∷ fs) notes)
-      on-call m′ d on e n g a j (inr b) = before (ran-before m′ on a j (runs-only p m₁ o i c₀ (b .0)) (b .1))
+      on-call m′ d on e n g a j (inr b) = before (ran-before m′ on a j (ran-then (b .0)) (b .1))
       on-call m′ d on e n g a j (inl b) = by (b .1) (b .2)
         where
           pile : List Frame
