@@ -1,0 +1,12 @@
+pub mod Sums
+pub mod Closure
+pub mod Bounds
+pub mod Circles
+pub mod Answers
+pub mod Room
+pub mod Never
+pub mod Enough
+pub mod Commands
+pub mod Cells
+pub mod Joining
+pub mod Capping
