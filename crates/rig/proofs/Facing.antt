@@ -16,9 +16,9 @@ use Rattle.rig.specs.declared.Call.the-variants as C
 
 -- a is the number n and the place q of an answer
 module _ {n q a : ℕ} (h : a ≡ packed n q) where
-  pub check-faced : (r s : Answer) → r ≡ s → n ≡ numberOf r → q ≡ placeOf r → a ≡ oneNumber s
+  pub answer-faced : (r s : Answer) → r ≡ s → n ≡ numberOf r → q ≡ placeOf r → a ≡ oneNumber s
   unfolding oneNumber
-  check-faced r s e f g = rw (← e, h, f, g)
+  answer-faced r s e f g = rw (← e, h, f, g)
 
   pub start-faced : (r : Answer) (m : List ℕ) (s : Start.Start) → started r m ≡ s
       → n ≡ numberOf r → q ≡ placeOf r → (a ≡ oneNumber (s .answer)) × (m ≡ s .memory)

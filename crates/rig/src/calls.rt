@@ -6,6 +6,7 @@ use crate::rooms::call_sized;
 use crate::sinks::SINK_WORDS;
 use crate::sinks::least;
 use crate::sinks::sink_in;
+use figure::figure;
 use image::words_legal;
 use machine::Answer;
 use machine::Refusal;
@@ -15,6 +16,7 @@ ghost use Rattle.rig.specs.Face.{oneNumber, faced, turnFaced, previewFac
 ghost use Rattle.rig.specs.Face.{turnBytes, previewBytes};
 ghost use Rattle.rig.specs.Contracts.{unfitOf};
 ghost use Rattle.load.specs.Check.{checkOf};
+ghost use Rattle.figure.specs.Figure.{figureOf};
 
 // Check.
 #[no_mangle]
@@ -23,6 +25,15 @@ pub extern "C" fn remus_check(program: &[u8]) -> u64
 {
     let c = check(program);
     pack(c.number(), c.place())
+}
+
+// Figure.
+#[no_mangle]
+pub extern "C" fn remus_figure(program: &[u8]) -> u64
+    ensures { λ r. ⌜ r ≡ oneNumber (figureOf (now (program .entry))) ⌝ }
+{
+    let f = figure(program);
+    pack(f.number(), f.place())
 }
 
 // Start. It takes no readings and has no sinks.

@@ -1,4 +1,4 @@
-use Rattle.rig.proofs.Facing.{check-faced}
+use Rattle.rig.proofs.Facing.{answer-faced}
 use Rattle.rig.proofs.Trying.{level, preview-told, unfit-told}
 use Rattle.value.proofs.Tests.{passed, refused, same-and, same-eq}
 use Rattle.value.specs.Prelude.{refl, sym, _∙_, arith, needs}
@@ -14,7 +14,7 @@ returns c =
     let fit = same-and (same-eq refl refl) (at-if .before .words-legal .ensures) in
     let number = c .before .before .number in
     let place = c .before .place in
-    let told = check-faced (c .pack .ensures) _ _ refl (number .ensures) (place .ensures) in
+    let told = answer-faced (c .pack .ensures) _ _ refl (number .ensures) (place .ensures) in
     rw told
     (unfit-told _ _ _ _ _ (λ i. omega (arith, at-slice .before .before .slice-known .given i))
     (λ i. omega (arith, at-slice .slice-known2 .given i)) (refused fit (at-if .if1 .taken)) _
