@@ -3,6 +3,7 @@ use crate::programs::CLOCK;
 use crate::programs::NEST;
 use crate::programs::PEAK;
 use crate::programs::TOGGLE;
+use crate::programs::put_command;
 use crate::text::put;
 use crate::text::put_answer;
 use crate::text::put_decimal;
@@ -15,32 +16,18 @@ fn put_check(name: &[u8], program: &[u8]) {
     put(b"\n");
 }
 
-fn put_byte(program: &mut [u8], at: usize, b: u8) {
-    if at < program.len() {
-        program[at] = b;
-    }
-}
-
-// Another command at byte `at`: code, x, a and b.
-fn put_command(program: &mut [u8], at: u8, command: [u8; 4]) {
-    put_byte(program, at as usize, command[0]);
-    put_byte(program, at as usize + 1, command[1]);
-    put_byte(program, at as usize + 2, command[2]);
-    put_byte(program, at as usize + 3, command[3]);
-}
-
-// The line of a program with such a command.
-fn put_changed(name: &[u8], program: &mut [u8], at: u8, command: [u8; 4]) {
+// The line of a program with another command.
+fn put_changed(name: &[u8], program: &mut [u8], at: u16, command: [u8; 4]) {
     put_command(program, at, command);
     put_check(name, program);
 }
 
-fn toggle_with(change: &[u8], at: u8, command: [u8; 4]) {
+fn toggle_with(change: &[u8], at: u16, command: [u8; 4]) {
     put(b"toggle");
     put_changed(change, &mut TOGGLE, at, command);
 }
 
-fn peak_with(change: &[u8], at: u8, command: [u8; 4]) {
+fn peak_with(change: &[u8], at: u16, command: [u8; 4]) {
     put(b"running maximum");
     put_changed(change, &mut PEAK, at, command);
 }

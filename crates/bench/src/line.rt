@@ -3,7 +3,7 @@
 // Its fields, with a space between: 0 the number and 1 the place that is due, in decimal; 2 the
 // bytes of the program, in hexadecimal, or `=` for the program of the line before; from 3 on, where
 // there are any, words, as `n:` and the bytes of n words in hexadecimal, the words that are not
-// written being zero.
+// written being zero. A figure's line has `?` for the memory that it asks for, which is read as no words.
 use image::MOST_WORDS;
 use machine::Answer;
 

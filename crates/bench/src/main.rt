@@ -2,11 +2,13 @@
 // holds what they have to come to, and the gate compares the two.
 mod checks;
 mod faults;
+mod figures;
 mod line;
 mod previews;
 mod primitives;
 mod programs;
 mod text;
+mod tower;
 mod trial;
 mod turns;
 mod vectors;
@@ -18,5 +20,6 @@ fn main() {
     turns::print_all();
     faults::print_all();
     previews::print_all();
+    figures::print_all();
     vectors::run();
 }

@@ -26,6 +26,7 @@ pub enum Kind {
     Image,
     Turn,
     Preview,
+    Figure,
 }
 
 // Whether these are all the words of a field of the line.
@@ -96,6 +97,7 @@ fn agrees_on(
         Kind::Image => image_agrees(line, line.program(room), memory),
         Kind::Turn => turn_agrees(line, room, memory, readings, sinks),
         Kind::Preview => preview_agrees(line, room, memory, work, readings, sinks),
+        Kind::Figure => line.says(figure::figure(line.program(room))),
     }
 }
 

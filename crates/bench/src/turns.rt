@@ -86,11 +86,16 @@ fn clock(memory: &mut [u32]) {
     put_turn(b"clock", &CLOCK, memory, &[]);
 }
 
+// A start, and three turns with the same readings.
+pub(crate) fn three_turns(name: &[u8], program: &[u8], memory: &mut [u32], readings: &[u32]) {
+    machine::start(program, memory);
+    put_turn(name, program, memory, readings);
+    put_turn(name, program, memory, readings);
+    put_turn(name, program, memory, readings);
+}
+
 fn toggle(name: &[u8], memory: &mut [u32]) {
-    machine::start(&TOGGLE, memory);
-    put_turn(name, &TOGGLE, memory, &[1, 7, 1, 5]);
-    put_turn(name, &TOGGLE, memory, &[1, 7, 1, 5]);
-    put_turn(name, &TOGGLE, memory, &[1, 7, 1, 5]);
+    three_turns(name, &TOGGLE, memory, &[1, 7, 1, 5]);
 }
 
 // It has a tick difference where it subtracts: the readings are one past the highest number, and that number.

@@ -149,4 +149,5 @@ pub fn run() {
     run_file(Kind::Image, b"image ", 3);
     run_file(Kind::Turn, b"turn ", 4);
     run_file(Kind::Preview, b"preview ", 5);
+    run_file(Kind::Figure, b"figure ", 6);
 }
