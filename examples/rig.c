@@ -1,4 +1,4 @@
-/* rig.c: a program on the Remus machine: a check, a start, turns on bytes and on words, previews and refusals.
+/* rig.c: a program on the Remus machine: a check, a figure, a start, turns on bytes and on words, previews, refusals.
  *
  *     cc -Ibuild examples/rig.c build/libremus.a
  *
@@ -10,9 +10,9 @@
 #include <string.h>
 
 enum {
-    WORDS = 55,   /* words 0 and 1, 31 of main, and 11 of each reactor that main deploys */
-    SPARE = 3,    /* bytes past the last word, to see that they are kept */
-    UNUSED = 0xEE /* what is in memory before a start, which does not mind */
+    ROOM = REMUS_MAX_WORDS * REMUS_WORD_BYTES, /* for any program's memory; this one takes as much as its figure says */
+    SPARE = 3,                                 /* bytes past the last word, to see that they are kept */
+    UNUSED = 0xEE                              /* what is in memory before a start, which does not mind */
 };
 
 /* A command is eight bytes: code, x, a, b and four bytes of v. The locations that a and b name count from 0 in each
@@ -74,6 +74,8 @@ static const struct {
     [REMUS_TOO_LATE] = {"a command comes too late, or for the second time", "byte"},
     [REMUS_NOT_LOWER] = {"an AllocMono names a reactor that is not lower", "byte"},
     [REMUS_WORK_LENGTH] = {"work memory is not as long as memory", "words"},
+    [REMUS_CIRCULAR] = {"a reactor may come to deploy itself again", "reactor"},
+    [REMUS_FIGURE_TOO_LARGE] = {"the program may take more words than memory can have", "place"},
     [REMUS_WITHDRAWN] = {"a command is the remainder, which is withdrawn", "byte"},
 };
 
@@ -105,6 +107,17 @@ static void check(void) {
     if (!refused(answer)) {
         printf("accepted, main has %" PRIu32 " words\n", remus_place(answer));
     }
+}
+
+/* Words that are enough for all turns: 0 and 1, 31 of main, and 11 of each reactor that main may deploy. */
+static size_t figure(void) {
+    printf("figure: ");
+    uint64_t answer = remus_figure(toggle, sizeof toggle);
+    if (refused(answer)) {
+        return 0;
+    }
+    printf("%" PRIu32 " words are enough\n", remus_place(answer));
+    return remus_place(answer);
 }
 
 static void start(uint8_t *memory, size_t memory_len) {
@@ -153,24 +166,25 @@ static void preview(const uint8_t *memory, size_t memory_len, uint8_t *work, siz
 }
 
 /* Three turns, one with a reading missing, and one that is refused; with other readings it is tried, then made. */
-static void run(void) {
-    uint8_t memory[WORDS * REMUS_WORD_BYTES + SPARE], work[WORDS * REMUS_WORD_BYTES];
-    start(memory, sizeof memory);
+static void run(size_t words) {
+    static uint8_t memory[ROOM + SPARE], work[ROOM];
+    size_t work_len = words * REMUS_WORD_BYTES, memory_len = work_len + SPARE;
+    start(memory, memory_len);
     uint8_t readings[2 * REMUS_PAIR_BYTES];
     remus_put(readings, 0, REMUS_NUMBER, 7);
     remus_put(readings, 1, REMUS_NUMBER, 5);
     for (int i = 0; i < 3; i++) {
-        turn(memory, sizeof memory, readings, sizeof readings);
+        turn(memory, memory_len, readings, sizeof readings);
     }
     remus_put(readings, 1, REMUS_BLANK, 0);
-    turn(memory, sizeof memory, readings, sizeof readings);
-    turn(memory, sizeof memory, NULL, 0);
+    turn(memory, memory_len, readings, sizeof readings);
+    turn(memory, memory_len, NULL, 0);
     remus_put(readings, 1, REMUS_NUMBER, -5);
-    preview(memory, sizeof memory, work, sizeof work, readings, sizeof readings);
-    turn(memory, sizeof memory, readings, sizeof readings);
-    printf("memory: %s\n", memcmp(work, memory, sizeof work) == 0 ? "as the preview has shown" : "otherwise");
+    preview(memory, memory_len, work, work_len, readings, sizeof readings);
+    turn(memory, memory_len, readings, sizeof readings);
+    printf("memory: %s\n", memcmp(work, memory, work_len) == 0 ? "as the preview has shown" : "otherwise");
     int kept = 1;
-    for (size_t i = sizeof memory - SPARE; i < sizeof memory; i++) {
+    for (size_t i = work_len; i < memory_len; i++) {
         kept = kept && memory[i] == UNUSED;
     }
     printf("bytes past the last word: %s\n", kept ? "kept" : "lost");
@@ -178,30 +192,31 @@ static void run(void) {
 
 /* One word less: the second turn has no room for the second deployment, however often it is tried. A work memory with
  * the room for it is not taken. */
-static void run_short(void) {
-    uint8_t memory[(WORDS - 1) * REMUS_WORD_BYTES], work[WORDS * REMUS_WORD_BYTES];
-    start(memory, sizeof memory);
+static void run_short(size_t words) {
+    static uint8_t memory[ROOM], work[ROOM], before[ROOM];
+    size_t work_len = words * REMUS_WORD_BYTES, memory_len = work_len - REMUS_WORD_BYTES;
+    start(memory, memory_len);
     uint8_t readings[2 * REMUS_PAIR_BYTES];
     remus_put(readings, 0, REMUS_NUMBER, 7);
     remus_put(readings, 1, REMUS_NUMBER, 5);
-    turn(memory, sizeof memory, readings, sizeof readings);
-    uint8_t before[sizeof memory];
-    memcpy(before, memory, sizeof memory);
-    preview(memory, sizeof memory, work, sizeof work, readings, sizeof readings);
-    preview(memory, sizeof memory, work, sizeof memory, readings, sizeof readings);
-    turn(memory, sizeof memory, readings, sizeof readings);
-    printf("memory: %s\n", memcmp(before, memory, sizeof memory) == 0 ? "as before the refusals" : "changed");
+    turn(memory, memory_len, readings, sizeof readings);
+    memcpy(before, memory, memory_len);
+    preview(memory, memory_len, work, work_len, readings, sizeof readings);
+    preview(memory, memory_len, work, memory_len, readings, sizeof readings);
+    turn(memory, memory_len, readings, sizeof readings);
+    printf("memory: %s\n", memcmp(before, memory, memory_len) == 0 ? "as before the refusals" : "changed");
 }
 
 /* The first three turns on the processor's own words: these lengths count words. */
-static void run_on_words(void) {
-    uint32_t memory[WORDS], sinks[REMUS_PAIR_WORDS];
+static void run_on_words(size_t words) {
+    static uint32_t memory[REMUS_MAX_WORDS];
+    uint32_t sinks[REMUS_PAIR_WORDS];
     const uint32_t readings[] = {REMUS_NUMBER, 7, REMUS_NUMBER, 5};
-    if (refused(remus_start_words(toggle, sizeof toggle, memory, WORDS))) {
+    if (refused(remus_start_words(toggle, sizeof toggle, memory, words))) {
         return;
     }
     for (int i = 1; i <= 3; i++) {
-        uint64_t answer = remus_turn_words(toggle, sizeof toggle, memory, WORDS, readings,
+        uint64_t answer = remus_turn_words(toggle, sizeof toggle, memory, words, readings,
                                            sizeof readings / sizeof readings[0], sinks, REMUS_PAIR_WORDS);
         if (refused(answer)) {
             return;
@@ -213,8 +228,12 @@ static void run_on_words(void) {
 
 int main(void) {
     check();
-    run();
-    run_short();
-    run_on_words();
+    size_t words = figure();
+    if (words == 0) {
+        return 1;
+    }
+    run(words);
+    run_short(words);
+    run_on_words(words);
     return 0;
 }

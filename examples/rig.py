@@ -33,6 +33,8 @@ WHY = {
     20: ("a command comes too late, or for the second time", "byte"),
     21: ("an AllocMono names a reactor that is not lower", "byte"),
     22: ("work memory is not as long as memory", "words"),
+    23: ("a reactor may come to deploy itself again", "reactor"),
+    24: ("the program may take more words than memory can have", "place"),
     25: ("a command is the remainder, which is withdrawn", "byte"),
 }
 
@@ -71,8 +73,9 @@ def load(path):
     """The library, with the types of its calls: a slice is a pointer and a length."""
     lib = ctypes.CDLL(str(path))
     one = [ctypes.c_void_p, ctypes.c_size_t]
-    calls = {"check": 1, "start": 2, "turn": 4, "preview": 5, "start_words": 2, "turn_words": 4, "preview_words": 5}
-    for name, slices in calls.items():
+    on_bytes = {"check": 1, "figure": 1, "start": 2, "turn": 4, "preview": 5}
+    on_words = {"start_words": 2, "turn_words": 4, "preview_words": 5}
+    for name, slices in {**on_bytes, **on_words}.items():
         call = getattr(lib, "remus_" + name)
         call.argtypes, call.restype = slices * one, ctypes.c_uint64
     return lib
@@ -159,39 +162,39 @@ def print_turn(rules, *readings, work=None):
         print(f"{head} {why}")
 
 
-def run(lib):
+def run(lib, words):
     """Three turns, one with a reading missing, and one that is refused; with other readings it is tried, then made."""
-    rules = Rules(lib, TOGGLE, 55, spare=3)
+    rules = Rules(lib, TOGGLE, words, spare=3)
     print_start(rules)
     for _ in range(3):
         print_turn(rules, 7, 5)
     print_turn(rules, 7, None)
     print_turn(rules)
-    work = ctypes.create_string_buffer(WORD * 55)
+    work = ctypes.create_string_buffer(WORD * words)
     print_turn(rules, 7, -5, work=work)
     print_turn(rules, 7, -5)
     print("memory:", "as the preview has shown" if rules.memory.raw[:-3] == work.raw else "otherwise")
     print("bytes past the last word:", "kept" if rules.memory.raw[-3:] == b"\xee\xee\xee" else "lost")
 
 
-def run_short(lib):
+def run_short(lib, words):
     """One word less: the second turn has no room for the second deployment, however often it is tried.
 
     A work memory with the room for it is not taken.
     """
-    rules = Rules(lib, TOGGLE, 54)
+    rules = Rules(lib, TOGGLE, words - 1)
     print_start(rules)
     print_turn(rules, 7, 5)
     before = rules.memory.raw
-    print_turn(rules, 7, 5, work=ctypes.create_string_buffer(WORD * 55))
-    print_turn(rules, 7, 5, work=ctypes.create_string_buffer(WORD * 54))
+    print_turn(rules, 7, 5, work=ctypes.create_string_buffer(WORD * words))
+    print_turn(rules, 7, 5, work=ctypes.create_string_buffer(WORD * (words - 1)))
     print_turn(rules, 7, 5)
     print("memory:", "as before the refusals" if rules.memory.raw == before else "changed")
 
 
-def run_on_words(lib):
+def run_on_words(lib, words):
     """The first three turns on the processor's own words: these lengths count words."""
-    memory, sinks = (ctypes.c_uint32 * 55)(), (ctypes.c_int32 * 2)()
+    memory, sinks = (ctypes.c_uint32 * words)(), (ctypes.c_int32 * 2)()
     readings = (ctypes.c_int32 * 4)(NUMBER, 7, NUMBER, 5)
     place_of(lib.remus_start_words(TOGGLE, len(TOGGLE), memory, len(memory)))
     for turn in (1, 2, 3):
@@ -204,9 +207,11 @@ def main():
     built = pathlib.Path(__file__).resolve().parent.parent / "build" / "libremus.so"
     lib = load(sys.argv[1] if len(sys.argv) > 1 else built)
     print(f"check: accepted, main has {place_of(lib.remus_check(TOGGLE, len(TOGGLE)))} words")
-    run(lib)
-    run_short(lib)
-    run_on_words(lib)
+    words = place_of(lib.remus_figure(TOGGLE, len(TOGGLE)))
+    print(f"figure: {words} words are enough")
+    run(lib, words)
+    run_short(lib, words)
+    run_on_words(lib, words)
 
 
 if __name__ == "__main__":

@@ -6,12 +6,14 @@
  * one of two forms:
  *
  *     NUMBER PLACE PROGRAM                                            check
+ *     NUMBER PLACE PROGRAM ?                                          figure, which asks for memory
  *     NUMBER PLACE PROGRAM MEMORY                                     image: 0 0 if sound, else 9 and the place
  *     NUMBER PLACE PROGRAM MEMORY AFTER                               start
  *     NUMBER PLACE PROGRAM MEMORY AFTER READINGS SINKS AFTER          turn
  *     NUMBER PLACE PROGRAM MEMORY WORK READINGS SINKS AFTER AFTER     preview: work memory after, sinks after
  *
  *     check PROGRAM -> NUMBER PLACE
+ *     figure PROGRAM -> NUMBER PLACE
  *     start PROGRAM MEMORY -> NUMBER PLACE AFTER
  *     turn PROGRAM MEMORY READINGS SINKS -> NUMBER PLACE AFTER AFTER
  *     preview PROGRAM MEMORY WORK READINGS SINKS -> NUMBER PLACE AFTER AFTER
@@ -20,9 +22,9 @@
  * `N:` and the bytes of N words in hexadecimal, low byte first; what is not written is zero.
  *
  * Each line is tried on bytes, with every slice at each of four addresses in a row and with 0 to 3 bytes past its last
- * word, and then on words; a turn is tried as a preview too. Number and place have to be the line's, and so has every
- * word; the bytes past the last word and those around each slice have to be as before. It stops at the first line that
- * differs. */
+ * word, and then on words; a turn is tried as a preview too, and a figure by turns in so many words. Number and place
+ * have to be the line's, and so has every word; the bytes past the last word and those around each slice have to be as
+ * before. It stops at the first line that differs. */
 #include <remus.h>
 #include <stdio.h>
 #include <stdlib.h>
@@ -36,8 +38,8 @@ enum {
     FILLED = 0xA0        /* plus the number of bytes past the last word: what these and the guards hold */
 };
 
-enum kind { CHECK, IMAGE, START, TURN, PREVIEW, KINDS };
-static const char *const names[KINDS] = {"check", "image", "start", "turn", "preview"};
+enum kind { CHECK, IMAGE, START, TURN, PREVIEW, FIGURE, KINDS };
+static const char *const names[KINDS] = {"check", "image", "start", "turn", "preview", "figure"};
 
 /* Bytes that a line gives. */
 struct given {
@@ -51,7 +53,7 @@ static struct vector {
     struct given program, memory, memory_after, work, work_after, readings, sinks, sinks_after;
 } vector;
 
-/* The slices of a line, from its fourth field on. How many they are tells the kind. */
+/* The slices of a line, from its fourth field on. How many they are tells the kind, but for a figure. */
 static struct given *const slices[KINDS][7] = {
     [IMAGE] = {&vector.memory},
     [START] = {&vector.memory, &vector.memory_after},
@@ -155,6 +157,7 @@ static size_t reorder(char *fields[MOST_FIELDS], size_t n) {
         size_t fields, kept, order[9];
     } forms[] = {
         {"check", 5, 3, {3, 4, 1}},
+        {"figure", 5, 4, {3, 4, 1, 0}},
         {"start", 7, 5, {4, 5, 1, 2, 6}},
         {"turn", 10, 8, {6, 7, 1, 2, 8, 3, 4, 9}},
         {"preview", 11, 9, {7, 8, 1, 2, 3, 4, 5, 9, 10}},
@@ -183,14 +186,21 @@ static void ask_by_turn(void) {
     vector.readings.len = REMUS_WORD_BYTES;
 }
 
-/* Whether there is a kind of line with n fields; if so, it is the vector's now. */
-static int read_kind(size_t n) {
-    for (int kind = 0; kind < KINDS; kind++) {
-        size_t fields = 3;
-        while (slices[kind][fields - 3] != NULL) {
-            fields++;
+/* Whether a field stands for the memory that a figure asks for: in the second form the call's name is put there. */
+static int asks(const char *field) { return strcmp(field, "?") == 0 || strcmp(field, names[FIGURE]) == 0; }
+
+/* Whether there is a kind of line with these n fields; if so, it is the vector's now. */
+static int read_kind(char *fields[MOST_FIELDS], size_t n) {
+    if (n == 4 && asks(fields[3])) {
+        vector.kind = FIGURE;
+        return 1;
+    }
+    for (int kind = 0; kind < FIGURE; kind++) {
+        size_t count = 3;
+        while (slices[kind][count - 3] != NULL) {
+            count++;
         }
-        if (fields == n) {
+        if (count == n) {
             vector.kind = (enum kind)kind;
             return 1;
         }
@@ -203,14 +213,14 @@ static int read_line(char *line) {
     char *fields[MOST_FIELDS] = {NULL};
     size_t n = split(line, fields);
     n = reorder(fields, n);
-    if (!read_kind(n) || !read_number(fields[0], &vector.number) || !read_number(fields[1], &vector.place) ||
+    if (!read_kind(fields, n) || !read_number(fields[0], &vector.number) || !read_number(fields[1], &vector.place) ||
         !read_program(fields[2], &vector.program)) {
         return 0;
     }
     vector.memory.len = vector.memory_after.len = vector.work.len = vector.work_after.len = 0;
     vector.readings.len = vector.sinks.len = vector.sinks_after.len = 0;
-    for (size_t i = 3; i < n; i++) {
-        if (!read_words(fields[i], slices[vector.kind][i - 3])) {
+    for (size_t i = 0; slices[vector.kind][i] != NULL; i++) {
+        if (!read_words(fields[3 + i], slices[vector.kind][i])) {
             return 0;
         }
     }
@@ -254,6 +264,8 @@ static uint64_t call_on_bytes(size_t address, size_t spare) {
     switch (vector.kind) {
     case CHECK:
         return remus_check(program.at, program.len);
+    case FIGURE:
+        return remus_figure(program.at, program.len);
     case START:
         return remus_start(program.at, program.len, memory.at, memory.len);
     case PREVIEW:
@@ -290,6 +302,8 @@ static uint64_t call_on_words(void) {
     lend(&program, &vector.program, 0, 0);
     if (vector.kind == CHECK) {
         answer = remus_check(program.at, program.len);
+    } else if (vector.kind == FIGURE) {
+        answer = remus_figure(program.at, program.len);
     } else if (vector.kind == START) {
         answer = remus_start_words(program.at, program.len, m, memory.len / REMUS_WORD_BYTES);
     } else if (vector.kind == PREVIEW) {
@@ -366,12 +380,33 @@ static int try_calls(void) {
     return agrees(call_on_words(), "words");
 }
 
+/* Whether a start and three turns succeed in as many words as the line says are enough. Blank readings suit every
+ * program, and the fourth byte of one is how many it takes. */
+static int try_turns(void) {
+    static uint8_t in[REMUS_MAX_WORDS * REMUS_WORD_BYTES];
+    uint8_t blanks[REMUS_MAX_GLOBALS * REMUS_PAIR_BYTES] = {0}, out[REMUS_MAX_SINKS * REMUS_PAIR_BYTES];
+    const struct given *p = &vector.program;
+    size_t len = (size_t)vector.place * REMUS_WORD_BYTES;
+    uint64_t answer = remus_start(p->bytes, p->len, in, len);
+    for (int i = 0; i < 3 && remus_number(answer) == REMUS_OK; i++) {
+        answer = remus_turn(p->bytes, p->len, in, len, blanks, p->bytes[3] * REMUS_PAIR_BYTES, out, sizeof out);
+    }
+    if (remus_number(answer) != REMUS_OK) {
+        fprintf(stderr, "%s:%lu: %lu words are not enough: %lu, %lu\n", file_name, line_number,
+                (unsigned long)vector.place, (unsigned long)remus_number(answer), (unsigned long)remus_place(answer));
+    }
+    return remus_number(answer) == REMUS_OK;
+}
+
 /* Whether the vector agrees; then it is counted by its kind. */
 static int try_vector(unsigned long agreed[KINDS]) {
     if (!try_calls()) {
         return 0;
     }
     agreed[vector.kind]++;
+    if (vector.kind == FIGURE && vector.number == REMUS_OK) {
+        return try_turns();
+    }
     if (vector.kind != TURN) {
         return 1;
     }
@@ -387,7 +422,7 @@ static int try_lines(FILE *file, unsigned long agreed[KINDS]) {
             continue;
         }
         if (!read_line(line)) {
-            fprintf(stderr, "%s:%lu: not a vector of check, image, start, turn or preview\n", file_name, line_number);
+            fprintf(stderr, "%s:%lu: not a vector of any call\n", file_name, line_number);
             return 0;
         }
         if (!try_vector(agreed)) {

@@ -3,6 +3,7 @@
  * A program is bytecode, a rule set of up to 65,535 bytes. It runs in turns: each turn takes readings and gives sinks.
  *
  *     remus_check    says whether a program is well formed
+ *     remus_figure   says how many words of memory are enough for a program
  *     remus_start    makes memory ready for a program's first turn
  *     remus_turn     runs one turn
  *     remus_preview  shows what a turn would do, and leaves memory as it is
@@ -41,8 +42,9 @@
  * Only the machine writes memory. Between calls it may be stored, moved and brought back; another program needs a new
  * start.
  *
- * Stack. A turn or a preview on words takes 2 to 8 KB, and up to 22 KB if deployments nest 64 deep (measured on x86-64,
- * not proved). The calls on bytes work on a copy of memory, which they have on the stack too: up to 64 KB more.
+ * Stack. A figure takes 9 KB, a turn or a preview on words 2 to 8 KB, and up to 22 KB if deployments nest 64 deep
+ * (measured on x86-64, not proved). The calls on bytes work on a copy of memory, which they have on the stack too: up
+ * to 64 KB more.
  */
 #ifndef REMUS_H
 #define REMUS_H
@@ -73,10 +75,10 @@ extern "C" {
  *
  * Of several faults the first is told. The program's come first: header, tables, then each reactor's commands in order
  * and 7 at its end, with 1 tested before each of the three; of one command 3, 25, 4, 5, and then 6, 19, 20 or 21. Then
- * come 8, 22 and 9 to 13 in this order, and 14 and 15 as the turn runs. */
+ * come 8, 22 and 9 to 13 in this order, and 14 and 15 as the turn runs; for a figure, 23 and 24. */
 enum remus_numbers {
-    /* Done. Place: of a check, the size of main in words; of a start or a turn, the words of memory now in use; of a
-     * preview, those of work memory. */
+    /* Done. Place: of a check, the size of main in words; of a figure, the words of memory that are enough; of a start
+     * or a turn, the words of memory now in use; of a preview, those of work memory. */
     REMUS_OK = 0,
 
     /* Faults of the program, which every call tests. */
@@ -107,6 +109,14 @@ enum remus_numbers {
     REMUS_NOT_LOWER = 21,
     /* The command is primitive 4, the remainder, which is withdrawn. Place: the command. */
     REMUS_WITHDRAWN = 25,
+
+    /* Why a program has no figure, which remus_figure alone tests: it can be started and run all the same. */
+
+    /* A deployment may come to deploy its own reactor again, at once or by way of others. Place: the lowest reactor, of
+     * main and those that main may come to deploy, of which this holds. */
+    REMUS_CIRCULAR = 23,
+    /* The figure would be over 16,384. Place: 0. */
+    REMUS_FIGURE_TOO_LARGE = 24,
 
     /* Faults of what else is lent: start tests 8, turn 8 to 13, preview these and 22. */
 
@@ -153,9 +163,15 @@ enum remus_marks {
 /* Tests a program. Gives 0 and the size of main in words, or the program's fault: 1 to 7, 19 to 21, 25. */
 uint64_t remus_check(const uint8_t *program, size_t program_len);
 
+/* Finds the figure of a program, a number of words that is always enough: in memory of so many, or of more, a start is
+ * not refused with 14, and no turn or preview after it with 14 or 15. Counted are words 0 and 1, main, and all that may
+ * ever be deployed: for each AllocMono its reactor, for each branch point every reactor of its shape, and what those
+ * deploy in the same way. Gives 0 and the figure, or the program's fault, 23 or 24. */
+uint64_t remus_figure(const uint8_t *program, size_t program_len);
+
 /* Makes memory ready for the first turn: zeroes all its words, whatever they were, and places main. Memory needs 2
  * words more than the size of main, and further ones for what turns will deploy: without these a turn is refused with
- * 14. Gives 0 and the words in use, or the program's fault, 8 or 14. */
+ * 14. The figure counts them in. Gives 0 and the words in use, or the program's fault, 8 or 14. */
 uint64_t remus_start(const uint8_t *program, size_t program_len, uint8_t *memory, size_t memory_len);
 
 /* Runs one turn, on memory as a start or a turn of this program has left it. Readings are a pair for each global from 1
