@@ -159,7 +159,7 @@ static void add_faces(void) {
     }
 }
 
-static void faces_of(const contest *q) {
+static void both_sides(const contest *q) {
     cell_ns(typical(q, LEFT));
     cell_ns(typical(q, RIGHT));
     cell_ratio(ratio(q));
@@ -171,8 +171,35 @@ static void face_table(void) {
     for (int k = 0; k < FACES; k++) {
         row(k == 0 ? "clock" : "toggle");
         cell_count(face_n[k]);
-        faces_of(of_face[k].turn);
-        faces_of(of_face[k].preview);
+        both_sides(of_face[k].turn);
+        both_sides(of_face[k].preview);
+        end_row();
+    }
+}
+
+/* ---- the figure beside the check that it begins with ---- */
+
+static contest *of_figure[WORKLOADS]; /* null where there is no figure */
+
+static void add_figures(void) {
+    for (int k = 0; k < WORKLOADS; k++) {
+        work *w = of_workload[k].work;
+        if (remus_number(remus_figure(w->program.b, w->program.n)) != REMUS_OK) continue;
+        of_figure[k] = add(w, figures);
+        of_figure[k]->call[LEFT] = checks;
+        of_figure[k]->on[LEFT] = &w->side[RIGHT];
+    }
+}
+
+static void figure_table(void) {
+    table("Figure", "program | bytes | reactors | check | figure | ratio");
+    for (int k = 0; k < WORKLOADS; k++) {
+        const program *p = &of_workload[k].work->program;
+        if (!of_figure[k]) continue;
+        row(workload[k].name);
+        cell_count(p->n);
+        cell_count(p->b[2]);
+        both_sides(of_figure[k]);
         end_row();
     }
 }
@@ -186,11 +213,13 @@ int main(int argc, char **argv) {
     add_workloads();
     add_growth();
     add_faces();
+    add_figures();
     measure(contests, contest_count, compare_all);
     say_how();
     part_table();
     growth_table();
     face_table();
+    figure_table();
     stack_tables();
     return 0;
 }

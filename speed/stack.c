@@ -34,6 +34,10 @@ static void start_bytes(void) {
     answer = remus_start(on->program.b, on->program.n, (uint8_t *)on->memory[0], REMUS_WORD_BYTES * on->n);
 }
 
+static void check(void) { answer = remus_check(on->program.b, on->program.n); }
+
+static void figure(void) { answer = remus_figure(on->program.b, on->program.n); }
+
 static size_t touched(void (*call)(void)) {
     memset(area, PAINT, SIZE);
     getcontext(&there);
@@ -112,10 +116,20 @@ static void bytes_table(void) {
     }
 }
 
+static void program_table(void) {
+    table("Stack, of a program alone", "call | bytes");
+    make_wide(&on->program, 64, 100);
+    check();
+    figure();
+    row_of("check", stack_of(check));
+    row_of("figure", stack_of(figure));
+}
+
 void stack_tables(void) {
     on = new_work("stack");
     area = mmap(0, SIZE, PROT_READ | PROT_WRITE, MAP_PRIVATE | MAP_ANONYMOUS, -1, 0);
     if (area == MAP_FAILED) exit(2);
     words_table();
     bytes_table();
+    program_table();
 }

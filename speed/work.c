@@ -25,9 +25,9 @@ static uint64_t preview_words(const uint8_t *p, size_t n, const uint8_t *m, size
                                (uint32_t *)sk, sklen / REMUS_WORD_BYTES);
 }
 
-const face by_hand = {base_check, base_start, base_turn, NULL};
-const face on_words = {remus_check, start_words, turn_words, preview_words};
-const face on_bytes = {remus_check, remus_start, remus_turn, remus_preview};
+const face by_hand = {base_check, base_start, base_turn, NULL, NULL};
+const face on_words = {remus_check, start_words, turn_words, remus_figure, preview_words};
+const face on_bytes = {remus_check, remus_start, remus_turn, remus_figure, remus_preview};
 
 static void die(const work *w, const char *call, uint64_t answer) {
     fprintf(stderr, "%s: %s gives %u %u\n", w->name, call, remus_number(answer), remus_place(answer));
@@ -122,6 +122,14 @@ void checks(void *of_side, long calls) {
     uint64_t r = 0;
     for (long j = 0; j < calls; j++) r = s->face->check(w->program.b, w->program.n);
     if (remus_number(r) != REMUS_OK) die(w, "check", r);
+}
+
+void figures(void *of_side, long calls) {
+    const side *s = of_side;
+    const work *w = s->work;
+    uint64_t r = 0;
+    for (long j = 0; j < calls; j++) r = s->face->figure(w->program.b, w->program.n);
+    if (remus_number(r) != REMUS_OK) die(w, "figure", r);
 }
 
 void refused_turns(void *of_side, long calls) {

@@ -11,7 +11,8 @@ typedef struct {
     uint64_t (*check)(const uint8_t *, size_t);
     uint64_t (*start)(const uint8_t *, size_t, uint8_t *, size_t);
     uint64_t (*turn)(const uint8_t *, size_t, uint8_t *, size_t, const uint8_t *, size_t, uint8_t *, size_t);
-    /* null by hand */
+    /* null by hand, both */
+    uint64_t (*figure)(const uint8_t *, size_t);
     uint64_t (*preview)(const uint8_t *, size_t, const uint8_t *, size_t, uint8_t *, size_t, const uint8_t *, size_t,
                         uint8_t *, size_t);
 } face;
@@ -50,11 +51,12 @@ size_t used_words(const work *w);
 /* Ends the program if the sides differ in memory, sinks or last answer. */
 void compare(const work *w);
 
-/* Calls of a side: turns, previews of the next one, checks, and turns that 10 refuses, after the tests of program and
- * image. */
+/* Calls of a side: turns, previews of the next one, checks, figures, and turns that 10 refuses, after the tests of
+ * program and image. */
 void turns(void *of_side, long calls);
 void previews(void *of_side, long calls);
 void checks(void *of_side, long calls);
+void figures(void *of_side, long calls);
 void refused_turns(void *of_side, long calls);
 
 #endif
