@@ -6,8 +6,8 @@ use Rattle.answer.specs.declared.Refusal.{Refusal}
 use Rattle.answer.specs.declared.Refusal.the-variants.{ProgramLength, TableByte, Command, Operand, PortOrKind}
 use Rattle.answer.specs.declared.Refusal.the-variants.{SetTwice, Missing, MemoryLength, UnsoundImage}
 use Rattle.answer.specs.declared.Refusal.the-variants.{ReadingsLength, Reading, SinkSpace, Clock, NoRoom, TooDeep}
-use Rattle.answer.specs.declared.Refusal.the-variants.{TooEarly, TooLate, NotLower, WorkLength, Circular}
-use Rattle.answer.specs.declared.Refusal.the-variants.{FigureTooLarge, Withdrawn}
+use Rattle.answer.specs.declared.Refusal.the-variants.{TextForm, TextName, OutputSpace, TooEarly, TooLate, NotLower}
+use Rattle.answer.specs.declared.Refusal.the-variants.{WorkLength, Circular, FigureTooLarge, Withdrawn}
 
 -- the refusal of number n at place q
 unfoldable at : ℕ → ℕ → Refusal
@@ -27,13 +27,16 @@ at n q =
     (pick (n =? 13) Clock
     (pick (n =? 14) (NoRoom q)
     (pick (n =? 15) (TooDeep q)
+    (pick (n =? 16) (TextForm q)
+    (pick (n =? 17) (TextName q)
+    (pick (n =? 18) (OutputSpace q)
     (pick (n =? 19) (TooEarly q)
     (pick (n =? 20) (TooLate q)
     (pick (n =? 21) (NotLower q)
     (pick (n =? 22) (WorkLength q)
     (pick (n =? 23) (Circular q)
     (pick (n =? 24) FigureTooLarge
-    (Withdrawn q)))))))))))))))))))))
+    (Withdrawn q))))))))))))))))))))))))
 
 known-by : (w : Refusal) → at (refusalNumber w) (refusalPlace w) ≡ w
 unfolding at pick _=?_
@@ -52,6 +55,9 @@ known-by (SinkSpace q) = refl
 known-by Clock = refl
 known-by (NoRoom q) = refl
 known-by (TooDeep q) = refl
+known-by (TextForm q) = refl
+known-by (TextName q) = refl
+known-by (OutputSpace q) = refl
 known-by (TooEarly q) = refl
 known-by (TooLate q) = refl
 known-by (NotLower q) = refl
@@ -86,6 +92,9 @@ refusal-counts (SinkSpace q) = omega arith
 refusal-counts Clock = omega arith
 refusal-counts (NoRoom q) = omega arith
 refusal-counts (TooDeep q) = omega arith
+refusal-counts (TextForm q) = omega arith
+refusal-counts (TextName q) = omega arith
+refusal-counts (OutputSpace q) = omega arith
 refusal-counts (TooEarly q) = omega arith
 refusal-counts (TooLate q) = omega arith
 refusal-counts (NotLower q) = omega arith

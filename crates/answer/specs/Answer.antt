@@ -6,8 +6,8 @@ use Rattle.answer.specs.declared.Refusal.{Refusal}
 use Rattle.answer.specs.declared.Refusal.the-variants.{ProgramLength, TableByte, Command, Operand, PortOrKind}
 use Rattle.answer.specs.declared.Refusal.the-variants.{SetTwice, Missing, MemoryLength, UnsoundImage}
 use Rattle.answer.specs.declared.Refusal.the-variants.{ReadingsLength, Reading, SinkSpace, Clock, NoRoom, TooDeep}
-use Rattle.answer.specs.declared.Refusal.the-variants.{TooEarly, TooLate, NotLower, WorkLength, Circular}
-use Rattle.answer.specs.declared.Refusal.the-variants.{FigureTooLarge, Withdrawn}
+use Rattle.answer.specs.declared.Refusal.the-variants.{TextForm, TextName, OutputSpace, TooEarly, TooLate, NotLower}
+use Rattle.answer.specs.declared.Refusal.the-variants.{WorkLength, Circular, FigureTooLarge, Withdrawn}
 
 abbrev pub refusalNumber : Refusal → ℕ
 refusalNumber (ProgramLength q) = 1
@@ -25,6 +25,9 @@ refusalNumber (SinkSpace q) = 12
 refusalNumber Clock = 13
 refusalNumber (NoRoom q) = 14
 refusalNumber (TooDeep q) = 15
+refusalNumber (TextForm q) = 16
+refusalNumber (TextName q) = 17
+refusalNumber (OutputSpace q) = 18
 refusalNumber (TooEarly q) = 19
 refusalNumber (TooLate q) = 20
 refusalNumber (NotLower q) = 21
@@ -49,6 +52,9 @@ refusalPlace (SinkSpace q) = q
 refusalPlace Clock = 0
 refusalPlace (NoRoom q) = q
 refusalPlace (TooDeep q) = q
+refusalPlace (TextForm q) = q
+refusalPlace (TextName q) = q
+refusalPlace (OutputSpace q) = q
 refusalPlace (TooEarly q) = q
 refusalPlace (TooLate q) = q
 refusalPlace (NotLower q) = q

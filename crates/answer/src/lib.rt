@@ -34,6 +34,12 @@ pub enum Refusal {
     NoRoom(usize),
     // 15 A new deployment would be too deep: its reactor.
     TooDeep(usize),
+    // 16 A word or bracket of a text stands where the form has no place for it: its first byte, or the text's length.
+    TextForm(usize),
+    // 17 A name of a text is unknown, unfit or repeated, or an operator has not as many operands as it takes: its word.
+    TextName(usize),
+    // 18 The output space is too small for the bytes: how many they are, or 0 where no program can be as large.
+    OutputSpace(usize),
     // 19 A React before all sources are supplied, or a Consume before the React.
     TooEarly(usize),
     // 20 A Supply or a second React after the React, a second AllocPoly or Keep.
@@ -82,6 +88,9 @@ impl Refusal {
             Refusal::Clock => 13,
             Refusal::NoRoom(_) => 14,
             Refusal::TooDeep(_) => 15,
+            Refusal::TextForm(_) => 16,
+            Refusal::TextName(_) => 17,
+            Refusal::OutputSpace(_) => 18,
             Refusal::TooEarly(_) => 19,
             Refusal::TooLate(_) => 20,
             Refusal::NotLower(_) => 21,
@@ -111,6 +120,9 @@ impl Refusal {
             Refusal::Clock => 0,
             Refusal::NoRoom(q) => q,
             Refusal::TooDeep(q) => q,
+            Refusal::TextForm(q) => q,
+            Refusal::TextName(q) => q,
+            Refusal::OutputSpace(q) => q,
             Refusal::TooEarly(q) => q,
             Refusal::TooLate(q) => q,
             Refusal::NotLower(q) => q,
