@@ -1,5 +1,6 @@
 pub mod Bytes
 pub mod Command
+pub mod Encode
 pub mod Location
 pub mod Kind
 pub mod Open
