@@ -17,3 +17,4 @@ pub mod Work
 pub mod RefusedLeaves
 pub mod FirstFault
 pub mod Previews
+pub mod Solved

@@ -13,3 +13,4 @@ pub mod Claim
 pub mod Work
 pub mod Open
 pub mod Cases
+pub mod Solved

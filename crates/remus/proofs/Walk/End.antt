@@ -18,7 +18,7 @@ use Rattle.remus.specs.Point.{_∈_, first, later}
 use Rattle.remus.proofs.Walk.Facts.{Facts}
 use Rattle.remus.proofs.Walk.MidTurn.{Deploys, own, cmd, Pends, KeepAt, Keepable, Done, Cause, Making}
 use Rattle.remus.proofs.Walk.Pile.{state, none-open, Entered, Behind, Inv}
-use Rattle.remus.proofs.Walk.StepsKeep.{run-out}
+use Rattle.remus.proofs.Walk.Top.{run-out}
 use Rattle.remus.proofs.Walk.Stores.{run-past}
 
 -- whether d has run

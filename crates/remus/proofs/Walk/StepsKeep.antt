@@ -26,15 +26,12 @@ use Rattle.remus.proofs.Walk.Pile.{frame, state, Open, first as top, la
 use Rattle.remus.proofs.Walk.Pile.{Entered, Behind, Between, behind-lower, stack, heights-forth, FrameOk, Piled}
 use Rattle.remus.proofs.Walk.Pile.{Inv, not-zero}
 use Rattle.remus.proofs.Walk.Top.{Onward, onward-self, onward, done-right, right-done, behind-on, behind-off}
-use Rattle.remus.proofs.Walk.Top.{lower-falls, lower-heights, top-frame, top-only, opens-off, next-entered}
+use Rattle.remus.proofs.Walk.Top.{lower-falls, lower-heights, top-frame, top-only, opens-on, opens-off, run-out}
+use Rattle.remus.proofs.Walk.Top.{next-entered, leave-forth, leave-back, call-forth, call-back}
 use Rattle.remus.proofs.Walk.Step.{Opens, calm}
 
 pub location-out : {d l o : ℕ} {ns : List Note} → location d l ∈ (run o ∷ ns) → location d l ∈ ns
 location-out (later z) = z
-
-pub run-out : {a o : ℕ} {ns : List Note} → run a ∈ (run o ∷ ns) → (a ≡ o) ⊎ (run a ∈ ns)
-run-out first = inl refl
-run-out (later z) = inr z
 
 higher : {u h : ℕ} {fs : List Frame} → u ≤ h → Falling u fs → Falling h fs
 higher l ground = ground
@@ -152,7 +149,8 @@ module _ (p : List ℕ) where
           record {
             mid = mid-turn-kept p (u .static) (v .mid)
                 (calm p {F = No-slot p} {G = Nothing p} (unchanged p (v .mid .good)) (λ n z. later z)
-                (λ d l z. location-out z) forth (λ a j b. inl (back a j b)) (behind-lower p m fs (run o ∷ ns))
+                (λ d l z. location-out z) (leave-forth p v e) (λ a j b. inl (leave-back p v e a j b))
+                (behind-lower p m fs (run o ∷ ns))
                 (λ a j z. absurd z) (λ a j z. absurd z) enter (λ d z. inl (entered d z))
                 (λ d z. absurd z) (λ d z. absurd z));
             piled = record {
@@ -167,23 +165,6 @@ module _ (p : List ℕ) where
             clock = v .clock;
           }
         where
-          left : {a j k : ℕ} → Open a k (frame o i ∷ fs) → j < k → Behind p m fs (run o ∷ ns) a j
-          left (top z y) l = inr (rw (← z) first, rw (← z) (omega arith))
-          left {k = k} (under z) l = inl (k, z, l)
-
-          forth : (a j : ℕ) → Behind p m (frame o i ∷ fs) ns a j → Behind p m fs (run o ∷ ns) a j
-          forth a j (inl b) = left (b .1) (b .2)
-          forth a j (inr b) = inr (later (b .0), b .1)
-
-          was : (a j : ℕ) → (a ≡ o) ⊎ (run a ∈ ns) → j < commandsIn p (reactor m a) → Behind p m (frame o i ∷ fs) ns a j
-          was a j (inl z) l =
-              inl (i, top (sym z) refl, let l₂ : j < commandsIn p (reactor m o) = rw z at l in omega arith)
-          was a j (inr z) l = inr (z, l)
-
-          back : (a j : ℕ) → Behind p m fs (run o ∷ ns) a j → Behind p m (frame o i ∷ fs) ns a j
-          back a j (inl b) = inl (b .0, under (b .1), b .2)
-          back a j (inr b) = was a j (run-out (b .0)) (b .1)
-
           enters : {d k : ℕ} → Open d k (frame o i ∷ fs) → Entered fs (run o ∷ ns) d
           enters (top z y) = inr (rw (← z) first)
           enters {k = k} (under z) = inl (k, z)
@@ -222,8 +203,9 @@ module _ (p : List ℕ) where
             record {
               mid = mid-turn-kept p (u .static) (v .mid)
                   (calm p {F = λ a y. This-slot p o i a y ⊎ ((a ≡ d) × (y < opening p m d))} {G = λ a. a ≡ d}
-                  (unchanged p (v .mid .good)) (λ n z. z) (λ a l z. z) forth back (behind-lower p m pile ns)
-                  scope done enter entered opens (λ a z. absurd z));
+                  (unchanged p (v .mid .good)) (λ n z. z) (λ a l z. z) (call-forth p v d (opening p m d))
+                  (call-back p v d (opening p m d)) (behind-lower p m pile ns) scope done enter entered opens
+                  (λ a z. absurd z));
               piled = record {
                 falling = on (in-below p t) (on above (lower-falls p (q₀ .falling)));
                 heights =
@@ -245,30 +227,6 @@ module _ (p : List ℕ) where
             deeper y =
                 let z : length fs + 1 + 1 ≡ suc (length fs) + 1 = omega arith in
                 subst (λ (n : ℕ). Depth p m d n) z (child j k y)
-
-            onto : {a n : ℕ} → Open a n (frame o i ∷ fs) → (l : ℕ) × Open a l pile × (n ≤ l)
-            onto (top z y) = (i + 1, under (top z refl), omega arith)
-            onto {n = n} (under z) = (n, under (under z), omega arith)
-
-            forth : (a y : ℕ) → Behind p m (frame o i ∷ fs) ns a y → Behind p m pile ns a y
-            forth a y (inl z) = let l = onto (z .1) in inl (l .0, l .1, omega (arith, l .2, z .2))
-            forth a y (inr z) = inr z
-
-            from : {a n : ℕ} (y : ℕ) → Open a n pile → y < n →
-                Behind p m (frame o i ∷ fs) ns a y ⊎ (This-slot p o i a y ⊎ ((a ≡ d) × (y < opening p m d)))
-            from y (top z s) l = inr (inr (sym z, omega arith))
-            from {n = n} y (under (under z)) l = inl (inl (n, under z, l))
-            from {a} y (under (top z s)) l = by (same? y i)
-              where
-                by : (y ≡ i) ⊎ (y ≢ i) →
-                    Behind p m (frame o i ∷ fs) ns a y ⊎ (This-slot p o i a y ⊎ ((a ≡ d) × (y < opening p m d)))
-                by (inl f) = inr (inl (sym z, f))
-                by (inr f) = inl (inl (i, top z refl, omega arith))
-
-            back : (a y : ℕ) → Behind p m pile ns a y →
-                Behind p m (frame o i ∷ fs) ns a y ⊎ (This-slot p o i a y ⊎ ((a ≡ d) × (y < opening p m d)))
-            back a y (inl z) = from y (z .1) (z .2)
-            back a y (inr z) = inl (inr z)
 
             -- D, where it is skipped, is right
             skipped : (y : ℕ) → y < opening p m d → (wired m d ≡ 0) ⊎ (wired m d ≡ 1) →
@@ -300,7 +258,7 @@ module _ (p : List ℕ) where
                 (skipped y (z .1) (v .mid .two d t) .1))
 
             enter : (a : ℕ) → Entered (frame o i ∷ fs) ns a → Entered pile ns a
-            enter a (inl z) = let l = onto (z .1) in inl (l .0, l .1)
+            enter a (inl z) = let l = opens-on p a (z .0) (z .1) in inl (l .0, under (l .1))
             enter a (inr z) = inr z
 
             entered : (a : ℕ) → Entered pile ns a → Entered (frame o i ∷ fs) ns a ⊎ (a ≡ d)

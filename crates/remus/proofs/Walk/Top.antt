@@ -1,19 +1,24 @@
--- The topmost deployment, what is behind and entered before and after its next command, and the step in
--- which no slot is written (`calm`).
-use Rattle.value.specs.Prelude.{ℕ, _+_, _≤_, _<_, _≡_, refl, sym, _∙_, _⊎_, inl, inr, _≢_, List, _∷_, length, arith}
+-- The topmost deployment, and what is behind and entered before and after its next command, as it leaves, and as
+-- another is opened on it.
+use Rattle.value.specs.Prelude.{ℕ, _+_, _≤_, _<_, _≡_, refl, sym, _∙_, _⊎_, inl, inr, ⊎-map, _≢_, List, _∷_}
+use Rattle.value.specs.Prelude.{length, arith}
 use Rattle.value.proofs.Tests.{same?}
-use Rattle.program.specs.Bytes.{reactors}
+use Rattle.program.specs.Bytes.{reactors, commandsIn}
 use Rattle.program.specs.Command.{Cmd, sequenceOf, D, allocMono, makePoly, supply, react, sink, allocPoly, cell, keep}
 use Rattle.program.specs.Command.{none, gives}
 use Rattle.image.specs.Memory.{reactor}
 use Rattle.image.specs.Sound.{Deployed, Depth}
-use Rattle.image.proofs.Memory.Changes.{Change, This-slot}
+use Rattle.image.proofs.Memory.Changes.{Change, This-slot, unchanged}
 use Rattle.image.proofs.Memory.Slots.{SlotRight}
 use Rattle.remus.specs.Walk.{Note, run, Frame}
-use Rattle.remus.specs.Point.{_∈_}
+use Rattle.remus.specs.Point.{_∈_, first, later}
 use Rattle.remus.proofs.Walk.MidTurn.{Done}
 use Rattle.remus.proofs.Walk.Pile.{frame, state, Open, first as top, later as under, Falling, on, falls, Entered}
 use Rattle.remus.proofs.Walk.Pile.{Behind, Heights, stack, FrameOk, Piled, Inv}
+
+pub run-out : {a o : ℕ} {ns : List Note} → run a ∈ (run o ∷ ns) → (a ≡ o) ⊎ (run a ∈ ns)
+run-out first = inl refl
+run-out (later z) = inr z
 
 -- deployments stay, with their reactors
 pub record Onward (p m m′ : List ℕ) : Type 0 where
@@ -150,3 +155,43 @@ module _ (p : List ℕ) where
         by : {h : ℕ} → Open d h (frame o (i + 1) ∷ fs) → Entered (frame o i ∷ fs) ns d
         by (top e z) = inl (i, top e refl)
         by {h} (under z) = inl (h, under z)
+
+  -- ---- what is behind as the topmost leaves, and as one is opened on it
+
+  module _ {w m : List ℕ} {ns : List Note} {o i : ℕ} {fs : List Frame} (v : Inv p w (state m (frame o i ∷ fs) ns)) where
+    module _ (e : i ≡ commandsIn p (reactor m o)) where
+      pub leave-forth : (a j : ℕ) → Behind p m (frame o i ∷ fs) ns a j → Behind p m fs (run o ∷ ns) a j
+      leave-forth a j (inr b) = inr (later (b .0), b .1)
+      leave-forth a j (inl b) = left (b .1) (b .2)
+        where
+          left : {k : ℕ} → Open a k (frame o i ∷ fs) → j < k → Behind p m fs (run o ∷ ns) a j
+          left (top z y) l = inr (rw (← z) first, rw (← z) (omega arith))
+          left {k} (under z) l = inl (k, z, l)
+
+      pub leave-back : (a j : ℕ) → Behind p m fs (run o ∷ ns) a j → Behind p m (frame o i ∷ fs) ns a j
+      leave-back a j (inl b) = inl (b .0, under (b .1), b .2)
+      leave-back a j (inr b) = was (run-out (b .0)) (b .1)
+        where
+          was : (a ≡ o) ⊎ (run a ∈ ns) → j < commandsIn p (reactor m a) → Behind p m (frame o i ∷ fs) ns a j
+          was (inl z) l =
+              inl (i, top (sym z) refl, let l₂ : j < commandsIn p (reactor m o) = rw z at l in omega arith)
+          was (inr z) l = inr (z, l)
+
+    -- d is opened, with command k next
+    module _ (d k : ℕ) where
+      pub call-forth : (a j : ℕ) → Behind p m (frame o i ∷ fs) ns a j
+          → Behind p m (frame d k ∷ frame o (i + 1) ∷ fs) ns a j
+      call-forth a j (inl b) = let l = opens-on a (b .0) (b .1) in inl (l .0, under (l .1), omega (arith, l .2, b .2))
+      call-forth a j (inr b) = inr b
+
+      pub call-back : (a j : ℕ) → Behind p m (frame d k ∷ frame o (i + 1) ∷ fs) ns a j
+          → Behind p m (frame o i ∷ fs) ns a j ⊎ (This-slot p o i a j ⊎ ((a ≡ d) × (j < k)))
+      call-back a j (inr b) = inl (inr b)
+      call-back a j (inl b) = by (b .1) (b .2)
+        where
+          by : {n : ℕ} → Open a n (frame d k ∷ frame o (i + 1) ∷ fs) → j < n
+              → Behind p m (frame o i ∷ fs) ns a j ⊎ (This-slot p o i a j ⊎ ((a ≡ d) × (j < k)))
+          by (top z y) l = inr (inr (sym z, omega arith))
+          by {n} (under z) l =
+              ⊎-map (λ x. x) inl
+              (just-behind (unchanged p (v .mid .good)) (v .piled) (λ x y. y) (λ x y. y) a j (inl (n, z, l)))

@@ -22,12 +22,12 @@ use Rattle.remus.specs.Point.{nothing}
 use Rattle.remus.proofs.Walk.Facts.{Facts}
 use Rattle.remus.proofs.Walk.MidTurn.{own, cmd, CellAt}
 use Rattle.remus.proofs.Walk.Pile.{frame, state, Open, first as top, later as under, no-note, Behind, Inv}
-use Rattle.remus.proofs.Walk.Top.{Onward, onward-self, onward-on, top-frame, not-behind}
+use Rattle.remus.proofs.Walk.Top.{Onward, onward-self, onward-on, top-frame, not-behind, leave-back}
 use Rattle.remus.proofs.Walk.Writes.{Writes, Gave}
 use Rattle.remus.proofs.Walk.Locations.{declared-in, not-cell}
 use Rattle.remus.proofs.Walk.Stores.{run-past}
 use Rattle.remus.proofs.Walk.Operands.{some-command}
-use Rattle.remus.proofs.Walk.StepsKeep.{run-out, opening-raw, opening-wired, NowWired, Ready, ready-kept}
+use Rattle.remus.proofs.Walk.StepsKeep.{opening-raw, opening-wired, NowWired, Ready, ready-kept}
 use Rattle.remus.proofs.Walk.StepsKeep.{leave-kept}
 use Rattle.remus.proofs.Walk.Outcome.{Growth, no-words, words, Stopping, Carried, Outcome, give-outcome}
 use Rattle.remus.proofs.Walk.Outcome.{supply-outcome, react-outcome, sink-outcome}
@@ -179,21 +179,11 @@ module _ (p : List ℕ) (u : Facts p) (rd : List ℕ) (legal : Legal p rd) where
           passed = record {
             wireds = λ d t q. q;
             back = λ d t q. (t, inl q);
-            newly = λ a j b. before (back a j b);
+            newly = λ a j b. before (leave-back p v e a j b);
             firm = λ a j b c n. same-self p;
             cells = λ a j x y c z. same-self p;
           };
         }
-      where
-        was : (a j : ℕ) → (a ≡ o) ⊎ (run a ∈ ns) → j < commandsIn p (reactor m a) → BehindIn p here a j
-        was a j (inl z) l =
-            let l₂ : j < commandsIn p (reactor m o) = rw z at l in
-            inl (i, top (sym z) refl, omega arith)
-        was a j (inr z) l = inr (z, l)
-
-        back : (a j : ℕ) → Behind p m fs (run o ∷ ns) a j → BehindIn p here a j
-        back a j (inl b) = inl (b .0, under (b .1), b .2)
-        back a j (inr b) = was a j (run-out (b .0)) (b .1)
 
     module _ (h : i < commandsIn p (reactor m o)) where
       abbrev m₁ : List ℕ
