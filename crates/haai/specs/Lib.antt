@@ -1,0 +1,14 @@
+pub mod Word
+pub mod Grammar
+pub mod Syntax
+pub mod Names
+pub mod Emit
+pub mod Meaning
+pub mod Compile
+pub mod Claim
+pub mod Open
+pub mod Contracts
+pub mod Places
+pub mod Tables
+pub mod Writing
+pub mod Cases
