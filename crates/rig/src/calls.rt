@@ -7,6 +7,7 @@ use crate::sinks::SINK_WORDS;
 use crate::sinks::least;
 use crate::sinks::sink_in;
 use figure::figure;
+use haai::compile;
 use image::words_legal;
 use machine::Answer;
 use machine::Refusal;
@@ -17,6 +18,7 @@ ghost use Rattle.rig.specs.Face.{turnBytes, previewBytes};
 ghost use Rattle.rig.specs.Contracts.{unfitOf};
 ghost use Rattle.load.specs.Check.{checkOf};
 ghost use Rattle.figure.specs.Figure.{figureOf};
+ghost use Rattle.haai.specs.Compile.{compileOf};
 
 // Check.
 #[no_mangle]
@@ -34,6 +36,16 @@ pub extern "C" fn remus_figure(program: &[u8]) -> u64
 {
     let f = figure(program);
     pack(f.number(), f.place())
+}
+
+// Compile. Text and output are bytes, so that nothing is copied.
+#[no_mangle]
+pub extern "C" fn remus_compile(text: &[u8], output: &mut [u8]) -> u64
+    ensures answer { λ r. ⌜ r ≡ oneNumber (compileOf (now (text .entry)) (now (output .entry)) .answer) ⌝ }
+    ensures output { λ _. ⌜ now (output .exit) ≡ compileOf (now (text .entry)) (now (output .entry)) .output ⌝ }
+{
+    let c = compile(text, output);
+    pack(c.number(), c.place())
 }
 
 // Start. It takes no readings and has no sinks.

@@ -1,6 +1,6 @@
 // The machine for a C caller, by exported functions on bytes and on words.
 //
-// 4.13 Each call is that of crate machine, or of figure. Rattle has no way to take bytes for words, so a
+// 4.13 Each call is that of crate machine, of figure or of haai. Rattle has no way to take bytes for words, so a
 // call on bytes copies them to a room of words and back (rooms); a call on words copies nothing (words).
 mod bytes;
 mod calls;
@@ -11,6 +11,7 @@ mod sinks;
 mod words;
 
 pub use calls::remus_check;
+pub use calls::remus_compile;
 pub use calls::remus_figure;
 pub use calls::remus_preview;
 pub use calls::remus_start;
