@@ -4,6 +4,8 @@
 // bytes of the program, in hexadecimal, or `=` for the program of the line before; from 3 on, where
 // there are any, words, as `n:` and the bytes of n words in hexadecimal, the words that are not
 // written being zero. A figure's line has `?` for the memory that it asks for, which is read as no words.
+// A text's line has the text where others have a program, and then `n!` and the n bytes of output space
+// after the call, of which the last ones, as long as they are as before, may be left out.
 use image::MOST_WORDS;
 use machine::Answer;
 
@@ -26,6 +28,9 @@ pub const WORK: u8 = 4;
 pub const WORK_AFTER: u8 = 7;
 
 pub const SINKS_LAST: u8 = 8;
+
+// A text's line has output space after the call.
+pub const OUTPUT_AFTER: u8 = 3;
 
 const FIELDS: usize = 9;
 
@@ -68,7 +73,7 @@ impl Line {
     pub fn step(self, b: u8, room: &mut [u8; ROOM]) -> Line {
         match b {
             b' ' => self.next_field(),
-            b':' => self.at_bytes(),
+            b':' | b'!' => self.at_bytes(),
             b'=' => self.repeat(),
             _ => self.digit(value_of(b), room),
         }

@@ -8,6 +8,7 @@ mod previews;
 mod primitives;
 mod programs;
 mod text;
+mod texts;
 mod tower;
 mod trial;
 mod turns;
@@ -21,5 +22,6 @@ fn main() {
     faults::print_all();
     previews::print_all();
     figures::print_all();
+    texts::print_all();
     vectors::run();
 }

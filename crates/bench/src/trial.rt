@@ -2,6 +2,7 @@
 use crate::line::Line;
 use crate::line::MEMORY;
 use crate::line::MEMORY_AFTER;
+use crate::line::OUTPUT_AFTER;
 use crate::line::READINGS;
 use crate::line::SINKS;
 use crate::line::SINKS_AFTER;
@@ -19,14 +20,23 @@ use program::Header;
 // Words for a line's readings, and for its sink space: a pair more than the most globals have.
 const FEW_WORDS: usize = 2 * (Header::MOST_GLOBALS as usize + 1);
 
-// What the vectors of a file are of.
-pub enum Kind {
+// Bytes for a text's output space: some more than any text needs.
+const MOST_OUTPUT: usize = 42000;
+
+// A call on a program.
+pub enum Call {
     Check,
     Start,
     Image,
     Turn,
     Preview,
     Figure,
+}
+
+// What the vectors of a file are of: such a call, or texts that are compiled.
+pub enum Kind {
+    Program(Call),
+    Text,
 }
 
 // Whether these are all the words of a field of the line.
@@ -78,9 +88,49 @@ fn preview_agrees(
     line.says(answer) & words & sunk
 }
 
-// A vector of any kind, on slices that are as long as the line's.
+// What output space holds before a text is compiled.
+const BEFORE: u8 = 238;
+
+// Byte i of output space after a call: one of these, or that of before.
+fn due(bytes: &[u8], i: usize) -> u8 {
+    if i < bytes.len() { bytes[i] } else { BEFORE }
+}
+
+// Whether output space has these bytes first, and then those of before.
+fn same_bytes(output: &[u8], bytes: &[u8]) -> bool {
+    let mut i = 0;
+    while i < output.len() {
+        if output[i] != due(bytes, i) {
+            return false;
+        }
+        i += 1;
+    }
+    true
+}
+
+// A text's number and place, and every byte of output space after it.
+fn text_agrees_on(line: Line, room: &[u8], output: &mut [u8]) -> bool {
+    let answer = haai::compile(line.program(room), output);
+    line.says(answer) & same_bytes(output, line.words(OUTPUT_AFTER, room))
+}
+
+// The same in a part of a space.
+fn text_agrees_within(line: Line, room: &[u8], output: &mut [u8]) -> bool {
+    let n = line.count(OUTPUT_AFTER);
+    if output.len() < n {
+        return false;
+    }
+    text_agrees_on(line, room, &mut output[..n])
+}
+
+fn text_agrees(line: Line, room: &[u8]) -> bool {
+    let mut output = [BEFORE; MOST_OUTPUT];
+    text_agrees_within(line, room, &mut output)
+}
+
+// A vector of a call, on slices that are as long as the line's.
 fn agrees_on(
-    kind: Kind,
+    call: Call,
     line: Line,
     room: &[u8],
     memory: &mut [u32],
@@ -91,19 +141,19 @@ fn agrees_on(
     fill(memory, line.words(MEMORY, room));
     fill(readings, line.words(READINGS, room));
     fill(sinks, line.words(SINKS, room));
-    match kind {
-        Kind::Check => line.says(machine::check(line.program(room))),
-        Kind::Start => start_agrees(line, room, memory),
-        Kind::Image => image_agrees(line, line.program(room), memory),
-        Kind::Turn => turn_agrees(line, room, memory, readings, sinks),
-        Kind::Preview => preview_agrees(line, room, memory, work, readings, sinks),
-        Kind::Figure => line.says(figure::figure(line.program(room))),
+    match call {
+        Call::Check => line.says(machine::check(line.program(room))),
+        Call::Start => start_agrees(line, room, memory),
+        Call::Image => image_agrees(line, line.program(room), memory),
+        Call::Turn => turn_agrees(line, room, memory, readings, sinks),
+        Call::Preview => preview_agrees(line, room, memory, work, readings, sinks),
+        Call::Figure => line.says(figure::figure(line.program(room))),
     }
 }
 
 // The same in parts of four spaces.
 fn agrees_within(
-    kind: Kind,
+    call: Call,
     line: Line,
     room: &[u8],
     memory: &mut [u32],
@@ -128,7 +178,7 @@ fn agrees_within(
         return false;
     }
     agrees_on(
-        kind,
+        call,
         line,
         room,
         &mut memory[..n],
@@ -138,14 +188,14 @@ fn agrees_within(
     )
 }
 
-// Whether the proved code gives what the line says. A word more than memory may have can be tried.
-pub fn agrees(kind: Kind, line: Line, room: &[u8]) -> bool {
+// A word more than memory may have can be tried.
+fn call_agrees(call: Call, line: Line, room: &[u8]) -> bool {
     let mut memory = [0u32; MOST_WORDS + 1];
     let mut work = [0u32; MOST_WORDS + 1];
     let mut readings = [0u32; FEW_WORDS];
     let mut sinks = [0u32; FEW_WORDS];
     agrees_within(
-        kind,
+        call,
         line,
         room,
         &mut memory,
@@ -153,4 +203,12 @@ pub fn agrees(kind: Kind, line: Line, room: &[u8]) -> bool {
         &mut readings,
         &mut sinks,
     )
+}
+
+// Whether the proved code gives what the line says.
+pub fn agrees(kind: Kind, line: Line, room: &[u8]) -> bool {
+    match kind {
+        Kind::Program(call) => call_agrees(call, line, room),
+        Kind::Text => text_agrees(line, room),
+    }
 }

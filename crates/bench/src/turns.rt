@@ -72,12 +72,22 @@ pub(crate) fn put_outcome(answer: Answer, memory: &[u32], sinks: &[u32]) {
     }
 }
 
-// One turn, with space for one sink that is not zero before it, and the line of it.
-pub(crate) fn put_turn(name: &[u8], program: &[u8], memory: &mut [u32], readings: &[u32]) {
-    let mut sinks = [77u32; 2];
+// One turn, and the line of it.
+pub(crate) fn put_turn_into(
+    name: &[u8],
+    program: &[u8],
+    memory: &mut [u32],
+    readings: &[u32],
+    sinks: &mut [u32],
+) {
     put_asked(name, b", turn ", memory, readings);
-    let answer = turn(program, memory, readings, &mut sinks);
-    put_outcome(answer, memory, &sinks);
+    let answer = turn(program, memory, readings, sinks);
+    put_outcome(answer, memory, sinks);
+}
+
+// With space for one sink that is not zero before it.
+pub(crate) fn put_turn(name: &[u8], program: &[u8], memory: &mut [u32], readings: &[u32]) {
+    put_turn_into(name, program, memory, readings, &mut [77u32; 2]);
 }
 
 fn clock(memory: &mut [u32]) {

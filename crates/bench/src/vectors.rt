@@ -4,6 +4,7 @@ use crate::line::Line;
 use crate::line::ROOM;
 use crate::text::put;
 use crate::text::put_decimal;
+use crate::trial::Call;
 use crate::trial::Kind;
 use crate::trial::agrees;
 
@@ -144,10 +145,11 @@ fn run_file(kind: Kind, label: &[u8], argument: usize) {
 }
 
 pub fn run() {
-    run_file(Kind::Check, b"check ", 1);
-    run_file(Kind::Start, b"start ", 2);
-    run_file(Kind::Image, b"image ", 3);
-    run_file(Kind::Turn, b"turn ", 4);
-    run_file(Kind::Preview, b"preview ", 5);
-    run_file(Kind::Figure, b"figure ", 6);
+    run_file(Kind::Program(Call::Check), b"check ", 1);
+    run_file(Kind::Program(Call::Start), b"start ", 2);
+    run_file(Kind::Program(Call::Image), b"image ", 3);
+    run_file(Kind::Program(Call::Turn), b"turn ", 4);
+    run_file(Kind::Program(Call::Preview), b"preview ", 5);
+    run_file(Kind::Program(Call::Figure), b"figure ", 6);
+    run_file(Kind::Text, b"compile ", 7);
 }
