@@ -1,4 +1,5 @@
-/* rig.c: a program on the Remus machine: a check, a figure, a start, turns on bytes and on words, previews, refusals.
+/* rig.c: programs on the Remus machine: a check, a figure, a start, turns on bytes and on words, previews, refusals, and
+ * one that is made of a text.
  *
  *     cc -Ibuild examples/rig.c build/libremus.a
  *
@@ -51,6 +52,11 @@ static const uint8_t toggle[] = {
     8, 0, 15, 0, 0, 0, 0, 0,  /* 16 Sink 0: location 15 */
 };
 
+/* The average of three readings, in Haai. */
+static const char average[] = "(source a) (source b) (source c)\n"
+                              "(defr (average x y z) (/ (+ (+ x y) z) 3))\n"
+                              "(defr (main) (average a b c))\n";
+
 /* What each refusal means, and what its place is. No call gives another number. */
 static const struct {
     const char *meaning, *place;
@@ -70,6 +76,9 @@ static const struct {
     [REMUS_CLOCK] = {"no further turn can be counted", "place"},
     [REMUS_NO_ROOM] = {"too few words are left for a new deployment", "reactor"},
     [REMUS_TOO_DEEP] = {"a new deployment would be too deep", "reactor"},
+    [REMUS_TEXT_FORM] = {"a word of the text stands where it cannot", "byte"},
+    [REMUS_TEXT_NAME] = {"a name of the text is unknown, unfit or repeated, or a count of operands is wrong", "byte"},
+    [REMUS_OUTPUT_SPACE] = {"the output space is too short", "bytes needed"},
     [REMUS_TOO_EARLY] = {"a React or a Consume comes too early", "byte"},
     [REMUS_TOO_LATE] = {"a command comes too late, or for the second time", "byte"},
     [REMUS_NOT_LOWER] = {"an AllocMono names a reactor that is not lower", "byte"},
@@ -226,6 +235,44 @@ static void run_on_words(size_t words) {
     }
 }
 
+/* The bytes of a text's program, and 0 if there is none. */
+static size_t compile(const char *text, uint8_t *program, size_t program_len) {
+    printf("compile: ");
+    uint64_t answer = remus_compile((const uint8_t *)text, strlen(text), program, program_len);
+    if (refused(answer)) {
+        return 0;
+    }
+    printf("%" PRIu32 " bytes\n", remus_place(answer));
+    return remus_place(answer);
+}
+
+/* Two turns of the average, the second with a reading missing; and a text that lacks a bracket. */
+static void run_text(void) {
+    static uint8_t program[REMUS_MAX_COMPILED];
+    static uint32_t memory[REMUS_MAX_WORDS];
+    uint32_t sinks[REMUS_PAIR_WORDS], readings[] = {REMUS_NUMBER, 10, REMUS_NUMBER, 20, REMUS_NUMBER, 30};
+    size_t len = compile(average, program, sizeof program);
+    size_t words = remus_place(remus_figure(program, len));
+    if (refused(remus_start_words(program, len, memory, words))) {
+        return;
+    }
+    for (int i = 1; i <= 2; i++) {
+        if (refused(remus_turn_words(program, len, memory, words, readings, sizeof readings / sizeof readings[0], sinks,
+                                     REMUS_PAIR_WORDS))) {
+            return;
+        }
+        printf("average, turn %d: sink", i);
+        if (sinks[0] == REMUS_BLANK) {
+            printf(" blank\n");
+        } else {
+            printf(" %" PRId32 "\n", remus_signed(sinks[1]));
+        }
+        readings[2] = REMUS_BLANK;
+        readings[3] = 0;
+    }
+    compile("(defr (main) (+ 1 2)", program, sizeof program);
+}
+
 int main(void) {
     check();
     size_t words = figure();
@@ -235,5 +282,6 @@ int main(void) {
     run(words);
     run_short(words);
     run_on_words(words);
+    run_text();
     return 0;
 }

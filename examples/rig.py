@@ -11,6 +11,7 @@ import sys
 BLANK, NUMBER, TRUTH = 0, 1, 2  # marks of a value
 WORD, PAIR = 4, 8  # bytes of a word, and of a value: mark and content
 MOST_SINKS = 7  # of any program
+MOST_COMPILED = 41639  # bytes of a program that is made of a text
 
 # What each refusal means, and what its place is. No call gives another number.
 WHY = {
@@ -29,6 +30,9 @@ WHY = {
     13: ("no further turn can be counted", "place"),
     14: ("too few words are left for a new deployment", "reactor"),
     15: ("a new deployment would be too deep", "reactor"),
+    16: ("a word of the text stands where it cannot", "byte"),
+    17: ("a name of the text is unknown, unfit or repeated, or a count of operands is wrong", "byte"),
+    18: ("the output space is too short", "bytes needed"),
     19: ("a React or a Consume comes too early", "byte"),
     20: ("a command comes too late, or for the second time", "byte"),
     21: ("an AllocMono names a reactor that is not lower", "byte"),
@@ -73,12 +77,19 @@ def load(path):
     """The library, with the types of its calls: a slice is a pointer and a length."""
     lib = ctypes.CDLL(str(path))
     one = [ctypes.c_void_p, ctypes.c_size_t]
-    on_bytes = {"check": 1, "figure": 1, "start": 2, "turn": 4, "preview": 5}
+    on_bytes = {"compile": 2, "check": 1, "figure": 1, "start": 2, "turn": 4, "preview": 5}
     on_words = {"start_words": 2, "turn_words": 4, "preview_words": 5}
     for name, slices in {**on_bytes, **on_words}.items():
         call = getattr(lib, "remus_" + name)
         call.argtypes, call.restype = slices * one, ctypes.c_uint64
     return lib
+
+
+def compiled(lib, source):
+    """The program of a text in Haai."""
+    output = ctypes.create_string_buffer(MOST_COMPILED)
+    length = place_of(lib.remus_compile(source, len(source), output, len(output)))
+    return output.raw[:length]
 
 
 class Rules:
@@ -137,6 +148,13 @@ TOGGLE = b"".join(
         command(7, 0, 0, 11) + command(8, 0, 15),  # 15 its sink; Sink
     ]
 )
+
+
+# The average of three readings, in Haai.
+AVERAGE = b"""(source a) (source b) (source c)
+(defr (average x y z) (/ (+ (+ x y) z) 3))
+(defr (main) (average a b c))
+"""
 
 
 def text(value):
@@ -202,6 +220,20 @@ def run_on_words(lib, words):
         print(f"on words, turn {turn}: sink {sinks[1]}, {place_of(answer)} words in use")
 
 
+def run_text(lib):
+    """Two turns of the average, the second with a reading missing; and a text that lacks a bracket."""
+    program = compiled(lib, AVERAGE)
+    print(f"compile: {len(program)} bytes")
+    rules = Rules(lib, program, place_of(lib.remus_figure(program, len(program))))
+    rules.start()
+    for turn, readings in enumerate([(10, 20, 30), (10, None, 30)], 1):
+        print(f"average, turn {turn}: sink {text(rules.turn(readings)[0][0])}")
+    try:
+        compiled(lib, b"(defr (main) (+ 1 2)")
+    except Refused as why:
+        print(f"compile: {why}")
+
+
 def main():
     """Prints what rig.c prints."""
     built = pathlib.Path(__file__).resolve().parent.parent / "build" / "libremus.so"
@@ -212,6 +244,7 @@ def main():
     run(lib, words)
     run_short(lib, words)
     run_on_words(lib, words)
+    run_text(lib)
 
 
 if __name__ == "__main__":

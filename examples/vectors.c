@@ -7,6 +7,7 @@
  *
  *     NUMBER PLACE PROGRAM                                            check
  *     NUMBER PLACE PROGRAM ?                                          figure, which asks for memory
+ *     NUMBER PLACE TEXT LENGTH!AFTER                                  compile: so many bytes of output space after it
  *     NUMBER PLACE PROGRAM MEMORY                                     image: 0 0 if sound, else 9 and the place
  *     NUMBER PLACE PROGRAM MEMORY AFTER                               start
  *     NUMBER PLACE PROGRAM MEMORY AFTER READINGS SINKS AFTER          turn
@@ -17,12 +18,15 @@
  *     start PROGRAM MEMORY -> NUMBER PLACE AFTER
  *     turn PROGRAM MEMORY READINGS SINKS -> NUMBER PLACE AFTER AFTER
  *     preview PROGRAM MEMORY WORK READINGS SINKS -> NUMBER PLACE AFTER AFTER
+ *     compile TEXT LENGTH -> NUMBER PLACE AFTER
  *
  * A program is its bytes in hexadecimal, `-` if it has none, `=` if it is the program of the line before. Words are
- * `N:` and the bytes of N words in hexadecimal, low byte first; what is not written is zero.
+ * `N:` and the bytes of N words in hexadecimal, low byte first; what is not written is zero. A text is its bytes, and
+ * output space is ee before the call; what is not written of it is ee after it.
  *
  * Each line is tried on bytes, with every slice at each of four addresses in a row and with 0 to 3 bytes past its last
- * word, and then on words; a turn is tried as a preview too, and a figure by turns in so many words. Number and place
+ * word, and then on words; a turn is tried as a preview too, a figure by turns in so many words, and what a text becomes
+ * by a check. Number and place
  * have to be the line's, and so has every word; the bytes past the last word and those around each slice have to be as
  * before. It stops at the first line that differs. */
 #include <remus.h>
@@ -35,11 +39,12 @@ enum {
     MOST_FIELDS = 11,    /* of a line */
     MOST_LINE = 1 << 20, /* bytes of a line */
     GUARD = 16,          /* bytes on each side of a slice */
-    FILLED = 0xA0        /* plus the number of bytes past the last word: what these and the guards hold */
+    FILLED = 0xA0,       /* plus the number of bytes past the last word: what these and the guards hold */
+    UNWRITTEN = 0xEE     /* what output space holds before a text is compiled */
 };
 
-enum kind { CHECK, IMAGE, START, TURN, PREVIEW, FIGURE, KINDS };
-static const char *const names[KINDS] = {"check", "image", "start", "turn", "preview", "figure"};
+enum kind { CHECK, IMAGE, START, TURN, PREVIEW, FIGURE, COMPILE, KINDS };
+static const char *const names[KINDS] = {"check", "image", "start", "turn", "preview", "figure", "compile"};
 
 /* Bytes that a line gives. */
 struct given {
@@ -47,6 +52,7 @@ struct given {
     uint8_t bytes[MOST_WORDS * REMUS_WORD_BYTES];
 };
 
+/* Of a compile, `program` is the text and `work` the output space. */
 static struct vector {
     enum kind kind;
     uint32_t number, place;
@@ -132,6 +138,19 @@ static int read_words(char *field, struct given *given) {
     return read_bytes(bytes, given->bytes, given->len, &written);
 }
 
+/* Output space: so many bytes, of which the written ones are given. */
+static int read_output(const char *length, const char *bytes) {
+    uint32_t count;
+    size_t written;
+    if (!read_number(length, &count) || count > sizeof vector.work.bytes) {
+        return 0;
+    }
+    vector.work.len = vector.work_after.len = count;
+    memset(vector.work.bytes, UNWRITTEN, count);
+    memset(vector.work_after.bytes, UNWRITTEN, count);
+    return read_bytes(strcmp(bytes, "-") == 0 ? "" : bytes, vector.work_after.bytes, count, &written);
+}
+
 /* Cuts a line at its spaces. How many fields it has, and 0 if there are too many. */
 static size_t split(char *line, char *fields[MOST_FIELDS]) {
     size_t n = 0;
@@ -161,6 +180,7 @@ static size_t reorder(char *fields[MOST_FIELDS], size_t n) {
         {"start", 7, 5, {4, 5, 1, 2, 6}},
         {"turn", 10, 8, {6, 7, 1, 2, 8, 3, 4, 9}},
         {"preview", 11, 9, {7, 8, 1, 2, 3, 4, 5, 9, 10}},
+        {"compile", 7, 5, {4, 5, 1, 2, 6}},
     };
     for (size_t f = 0; f < sizeof forms / sizeof forms[0]; f++) {
         if (n == forms[f].fields && strcmp(fields[0], forms[f].call) == 0) {
@@ -189,10 +209,25 @@ static void ask_by_turn(void) {
 /* Whether a field stands for the memory that a figure asks for: in the second form the call's name is put there. */
 static int asks(const char *field) { return strcmp(field, "?") == 0 || strcmp(field, names[FIGURE]) == 0; }
 
+/* Output space in the first form, `LENGTH!AFTER`, as two fields. */
+static size_t part_output(char *fields[MOST_FIELDS], size_t n) {
+    char *bytes = n == 4 ? strchr(fields[3], '!') : NULL;
+    if (bytes == NULL) {
+        return n;
+    }
+    *bytes++ = '\0';
+    fields[4] = bytes;
+    return 5;
+}
+
 /* Whether there is a kind of line with these n fields; if so, it is the vector's now. */
 static int read_kind(char *fields[MOST_FIELDS], size_t n) {
     if (n == 4 && asks(fields[3])) {
         vector.kind = FIGURE;
+        return 1;
+    }
+    if (n == 5 && strchr(fields[3], ':') == NULL) {
+        vector.kind = COMPILE;
         return 1;
     }
     for (int kind = 0; kind < FIGURE; kind++) {
@@ -212,7 +247,7 @@ static int read_kind(char *fields[MOST_FIELDS], size_t n) {
 static int read_line(char *line) {
     char *fields[MOST_FIELDS] = {NULL};
     size_t n = split(line, fields);
-    n = reorder(fields, n);
+    n = part_output(fields, reorder(fields, n));
     if (!read_kind(fields, n) || !read_number(fields[0], &vector.number) || !read_number(fields[1], &vector.place) ||
         !read_program(fields[2], &vector.program)) {
         return 0;
@@ -223,6 +258,9 @@ static int read_line(char *line) {
         if (!read_words(fields[3 + i], slices[vector.kind][i])) {
             return 0;
         }
+    }
+    if (vector.kind == COMPILE && !read_output(fields[3], fields[4])) {
+        return 0;
     }
     if (vector.kind == IMAGE) {
         ask_by_turn();
@@ -260,8 +298,10 @@ static uint64_t call_on_bytes(size_t address, size_t spare) {
     lend(&memory, &vector.memory, address + 1, spare);
     lend(&readings, &vector.readings, address + 2, spare + 1);
     lend(&sinks, &vector.sinks, address + 3, spare + 2);
-    lend(&work, &vector.work, address, spare + 3);
+    lend(&work, &vector.work, address, vector.kind == COMPILE ? 0 : spare + 3);
     switch (vector.kind) {
+    case COMPILE:
+        return remus_compile(program.at, program.len, work.at, work.len);
     case CHECK:
         return remus_check(program.at, program.len);
     case FIGURE:
@@ -304,6 +344,8 @@ static uint64_t call_on_words(void) {
         answer = remus_check(program.at, program.len);
     } else if (vector.kind == FIGURE) {
         answer = remus_figure(program.at, program.len);
+    } else if (vector.kind == COMPILE) {
+        return remus_compile(program.at, program.len, work.at, work.len);
     } else if (vector.kind == START) {
         answer = remus_start_words(program.at, program.len, m, memory.len / REMUS_WORD_BYTES);
     } else if (vector.kind == PREVIEW) {
@@ -398,6 +440,16 @@ static int try_turns(void) {
     return remus_number(answer) == REMUS_OK;
 }
 
+/* Whether the check accepts what the text has become. */
+static int try_check(void) {
+    uint64_t answer = remus_check(work.at, vector.place);
+    if (remus_number(answer) != REMUS_OK) {
+        fprintf(stderr, "%s:%lu: what is compiled is refused: %lu, %lu\n", file_name, line_number,
+                (unsigned long)remus_number(answer), (unsigned long)remus_place(answer));
+    }
+    return remus_number(answer) == REMUS_OK;
+}
+
 /* Whether the vector agrees; then it is counted by its kind. */
 static int try_vector(unsigned long agreed[KINDS]) {
     if (!try_calls()) {
@@ -406,6 +458,9 @@ static int try_vector(unsigned long agreed[KINDS]) {
     agreed[vector.kind]++;
     if (vector.kind == FIGURE && vector.number == REMUS_OK) {
         return try_turns();
+    }
+    if (vector.kind == COMPILE && vector.number == REMUS_OK) {
+        return try_check();
     }
     if (vector.kind != TURN) {
         return 1;

@@ -2,13 +2,15 @@
  *
  * A program is bytecode, a rule set of up to 65,535 bytes. It runs in turns: each turn takes readings and gives sinks.
  *
+ *     remus_compile  makes a program of a text in the language Haai
  *     remus_check    says whether a program is well formed
  *     remus_figure   says how many words of memory are enough for a program
  *     remus_start    makes memory ready for a program's first turn
  *     remus_turn     runs one turn
  *     remus_preview  shows what a turn would do, and leaves memory as it is
  *
- * The caller lends the program, the memory, the readings and the space for the sinks, and to a preview a work memory.
+ * The caller lends the program, the memory, the readings and the space for the sinks, and to a preview a work memory; to
+ * remus_compile a text and the space for the program.
  * The library has no heap and no data of its own and keeps nothing between calls, so it is reentrant: calls may run at
  * the same time if what one of them may write is lent to no other. It needs memcpy, memmove and memset, and nothing
  * else. No bytes have to be validated before a call: each call tests all that it is lent, and returns whatever it
@@ -42,9 +44,9 @@
  * Only the machine writes memory. Between calls it may be stored, moved and brought back; another program needs a new
  * start.
  *
- * Stack. A figure takes 9 KB, a turn or a preview on words 2 to 8 KB, and up to 22 KB if deployments nest 64 deep
- * (measured on x86-64, not proved). The calls on bytes work on a copy of memory, which they have on the stack too: up
- * to 64 KB more.
+ * Stack. A compile takes 4 KB, a figure 9 KB, a turn or a preview on words 2 to 8 KB, and up to 22 KB if deployments
+ * nest 64 deep (measured on x86-64, not proved). The calls on bytes work on a copy of memory, which they have on the
+ * stack too: up to 64 KB more.
  */
 #ifndef REMUS_H
 #define REMUS_H
@@ -57,6 +59,7 @@ extern "C" {
 #endif
 
 #define REMUS_MAX_PROGRAM 65535    /* bytes of a program */
+#define REMUS_MAX_COMPILED 41639   /* bytes of a program that is made of a text: so much output space is always enough */
 #define REMUS_MAX_SHAPES 32        /* of a program */
 #define REMUS_MAX_REACTORS 64      /* of a program; they count from 0 */
 #define REMUS_MAX_GLOBALS 31       /* readings of a turn, in pairs: the time is not among them */
@@ -75,10 +78,12 @@ extern "C" {
  *
  * Of several faults the first is told. The program's come first: header, tables, then each reactor's commands in order
  * and 7 at its end, with 1 tested before each of the three; of one command 3, 25, 4, 5, and then 6, 19, 20 or 21. Then
- * come 8, 22 and 9 to 13 in this order, and 14 and 15 as the turn runs; for a figure, 23 and 24. */
+ * come 8, 22 and 9 to 13 in this order, and 14 and 15 as the turn runs; for a figure, 23 and 24. A text has no program to
+ * test: of 16, 17 and 18 each is tested over the whole text before the next. */
 enum remus_numbers {
-    /* Done. Place: of a check, the size of main in words; of a figure, the words of memory that are enough; of a start
-     * or a turn, the words of memory now in use; of a preview, those of work memory. */
+    /* Done. Place: of a compile, the bytes of the program; of a check, the size of main in words; of a figure, the words
+     * of memory that are enough; of a start or a turn, the words of memory now in use; of a preview, those of work
+     * memory. */
     REMUS_OK = 0,
 
     /* Faults of the program, which every call tests. */
@@ -109,6 +114,19 @@ enum remus_numbers {
     REMUS_NOT_LOWER = 21,
     /* The command is primitive 4, the remainder, which is withdrawn. Place: the command. */
     REMUS_WITHDRAWN = 25,
+
+    /* Faults of a text, which remus_compile alone tests. Bytes of the text count from 0. */
+
+    /* A word or bracket stands where the form has no place for it. Place: its first byte; the text's length if the text
+     * ends too soon. */
+    REMUS_TEXT_FORM = 16,
+    /* A name is unknown or cannot stand there, is given a second time or is taken; an operator has not as many operands
+     * as it takes, or has several sinks; or main has parameters. Place: the lowest such word's first byte; for a count
+     * of operands the operator's, for main its name's. */
+    REMUS_TEXT_NAME = 17,
+    /* The output space is too short. Place: the bytes that are needed; 0 if a definition has more commands than a
+     * reactor can have, so that no space is enough. */
+    REMUS_OUTPUT_SPACE = 18,
 
     /* Why a program has no figure, which remus_figure alone tests: it can be started and run all the same. */
 
@@ -159,6 +177,11 @@ enum remus_marks {
     REMUS_NUMBER = 1, /* its content is a signed number, in two's complement */
     REMUS_TRUTH = 2   /* its content is 0 for false, 1 for true */
 };
+
+/* Makes a program of a text, and writes it to the output space from its first byte on; bytes past it are kept. What it
+ * writes, remus_check accepts, and the sinks of a completed turn are what main's expressions mean: docs/HAAI.md has the
+ * language. A text may have any bytes and any length. Gives 0 and the bytes of the program, or 16, 17 or 18. */
+uint64_t remus_compile(const uint8_t *text, size_t text_len, uint8_t *output, size_t output_len);
 
 /* Tests a program. Gives 0 and the size of main in words, or the program's fault: 1 to 7, 19 to 21, 25. */
 uint64_t remus_check(const uint8_t *program, size_t program_len);
