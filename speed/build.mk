@@ -10,7 +10,7 @@ SPEED_COMMON = $(patsubst %,build/speed/%.o,work programs measure table baseline
 build/speed/%.o: speed/%.c $(wildcard speed/*.h) include/remus.h
 	$(SPEED_CC) -c $< -o $@
 
-build/speed/speed: build/speed/speed.o build/speed/stack.o $(SPEED_COMMON)
+build/speed/speed: build/speed/speed.o build/speed/stack.o build/speed/texts.o $(SPEED_COMMON)
 	@gcc $^ -o $@
 
 build/speed/others: $(patsubst %,build/speed/%.o,others rules_c rules_duktape lua luajit) $(SPEED_COMMON)

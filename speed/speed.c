@@ -4,6 +4,7 @@
 #include "measure.h"
 #include "stack.h"
 #include "table.h"
+#include "texts.h"
 #include "work.h"
 
 enum { LEFT, RIGHT, MOST = 64 };
@@ -204,6 +205,55 @@ static void figure_table(void) {
     }
 }
 
+/* ---- texts: rules, the largest program, and texts that are refused, each kind in two lengths ---- */
+
+static text texts[16];
+static contest *of_text[16];
+static int text_count;
+
+static text *new_text(const char *name) {
+    text *o = &texts[text_count];
+    contest *q = of_text[text_count++] = &contests[contest_count++];
+    o->name = name;
+    *q = (contest){.sides = 1, .call = {compiles}, .on = {o}};
+    return o;
+}
+
+static void add_texts(void) {
+    static const struct {
+        const char *name;
+        void (*write)(text *, size_t);
+    } kinds[] = {
+        {"spaces", write_spaces},
+        {"bytes by chance", write_chance},
+        {"a sum of numbers", write_numbers},
+        {"a sum of unknown names", write_names},
+    };
+    write_average(new_text("average"));
+    write_health(new_text("health"));
+    write_largest(new_text("a large program"));
+    for (size_t k = 0; k < sizeof kinds / sizeof *kinds; k++) {
+        kinds[k].write(new_text(kinds[k].name), MOST_TEXT / 2);
+        kinds[k].write(new_text(kinds[k].name), MOST_TEXT);
+    }
+}
+
+static void text_table(void) {
+    table("Texts", "text | bytes | answer | place | ns | a unit");
+    for (int k = 0; k < text_count; k++) {
+        const text *o = &texts[k];
+        double ns = typical(of_text[k], LEFT);
+        uint64_t answer = remus_compile(o->b, o->n, texts[k].output, sizeof o->output);
+        row(o->name);
+        cell_count(o->n);
+        cell_count(remus_number(answer));
+        cell_count(remus_place(answer));
+        cell_ns(ns);
+        cell_rate(ns / (double)o->n, "byte");
+        end_row();
+    }
+}
+
 static void compare_all(void) {
     for (int k = 0; k < work_count; k++) compare(works[k]);
 }
@@ -214,12 +264,14 @@ int main(int argc, char **argv) {
     add_growth();
     add_faces();
     add_figures();
+    add_texts();
     measure(contests, contest_count, compare_all);
     say_how();
     part_table();
     growth_table();
     face_table();
     figure_table();
+    text_table();
     stack_tables();
     return 0;
 }

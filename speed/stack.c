@@ -3,6 +3,7 @@
 #define _GNU_SOURCE
 #include "stack.h"
 #include "table.h"
+#include "texts.h"
 #include "work.h"
 #include <stdio.h>
 #include <stdlib.h>
@@ -37,6 +38,10 @@ static void start_bytes(void) {
 static void check(void) { answer = remus_check(on->program.b, on->program.n); }
 
 static void figure(void) { answer = remus_figure(on->program.b, on->program.n); }
+
+static text source;
+
+static void compile(void) { answer = remus_compile(source.b, source.n, source.output, sizeof source.output); }
 
 static size_t touched(void (*call)(void)) {
     memset(area, PAINT, SIZE);
@@ -117,12 +122,15 @@ static void bytes_table(void) {
 }
 
 static void program_table(void) {
-    table("Stack, of a program alone", "call | bytes");
+    table("Stack, of a program or a text alone", "call | bytes");
     make_wide(&on->program, 64, 100);
+    write_largest(&source);
     check();
     figure();
+    compile();
     row_of("check", stack_of(check));
     row_of("figure", stack_of(figure));
+    row_of("compile", stack_of(compile));
 }
 
 void stack_tables(void) {
