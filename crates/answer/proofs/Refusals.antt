@@ -1,14 +1,13 @@
 -- Refusals by number and place: `refusals_apart`, and that 0 is no refusal's number.
-use Rattle.value.specs.Prelude.{ℕ, ◌≤◌, ◌≡◌, refl, sym, ◌∙◌, ap₂, subst, inl, inr, arith}
+use Rattle.value.specs.Prelude.{ℕ, ◌≤◌, ◌≡◌, refl, sym, ◌∙◌, ap₂, subst, arith}
 use Rattle.value.specs.Test.{pick, ◌=?◌}
-use Rattle.answer.specs.Answer.{refusal_number, refusal_place, RefusalMoved, RefusalsApart}
+use Rattle.answer.specs.Answer.{refusal_number, refusal_place, RefusalsApart}
 use Rattle.answer.specs.declared.Refusal.{Refusal}
 use Rattle.answer.specs.declared.Refusal.TheVariants.{ProgramLength, TableByte, Command, Operand, PortOrKind}
 use Rattle.answer.specs.declared.Refusal.TheVariants.{SetTwice, Missing, MemoryLength, UnsoundImage}
 use Rattle.answer.specs.declared.Refusal.TheVariants.{ReadingsLength, Reading, SinkSpace, Clock, NoRoom, TooDeep}
-use Rattle.answer.specs.declared.Refusal.TheVariants.{TextForm, TextName, OutputSpace, TooEarly, TooLate}
-use Rattle.answer.specs.declared.Refusal.TheVariants.{NotLower, WorkLength, Circular, FigureTooLarge, Withdrawn}
-use Rattle.answer.specs.declared.Refusal.TheVariants.{GlobalsDiffer, JoinTooLarge}
+use Rattle.answer.specs.declared.Refusal.TheVariants.{TextForm, TextName, OutputSpace, TooEarly, TooLate, NotLower}
+use Rattle.answer.specs.declared.Refusal.TheVariants.{WorkLength, Circular, FigureTooLarge, Withdrawn}
 
 -- the refusal of number n at place q
 unfoldable at : ℕ → ℕ → Refusal
@@ -37,9 +36,7 @@ at n q =
     (pick (n =? 22) (WorkLength q)
     (pick (n =? 23) (Circular q)
     (pick (n =? 24) FigureTooLarge
-    (pick (n =? 25) (Withdrawn q)
-    (pick (n =? 26) GlobalsDiffer
-    JoinTooLarge)))))))))))))))))))))))))
+    (Withdrawn q))))))))))))))))))))))))
 
 known_by : (w : Refusal) → at (refusal_number w) (refusal_place w) ≡ w
 unfolding at pick ◌=?◌
@@ -68,40 +65,9 @@ known_by (WorkLength q) = refl
 known_by (Circular q) = refl
 known_by FigureTooLarge = refl
 known_by (Withdrawn q) = refl
-known_by GlobalsDiffer = refl
-known_by JoinTooLarge = refl
 
 pub refusals_apart : RefusalsApart
 refusals_apart v w n q = sym (known_by v) ∙ ap₂ at n q ∙ known_by w
-
-pub refusal_moved : RefusalMoved
-refusal_moved q (ProgramLength o) = (refl, inl refl)
-refusal_moved q (TableByte o) = (refl, inl refl)
-refusal_moved q (Command o) = (refl, inl refl)
-refusal_moved q (Operand o) = (refl, inl refl)
-refusal_moved q (PortOrKind o) = (refl, inl refl)
-refusal_moved q (SetTwice o) = (refl, inl refl)
-refusal_moved q (Missing o) = (refl, inl refl)
-refusal_moved q (MemoryLength o) = (refl, inl refl)
-refusal_moved q (UnsoundImage o) = (refl, inl refl)
-refusal_moved q (ReadingsLength o) = (refl, inl refl)
-refusal_moved q (Reading o) = (refl, inl refl)
-refusal_moved q (SinkSpace o) = (refl, inl refl)
-refusal_moved q Clock = (refl, inr (refl, refl))
-refusal_moved q (NoRoom o) = (refl, inl refl)
-refusal_moved q (TooDeep o) = (refl, inl refl)
-refusal_moved q (TextForm o) = (refl, inl refl)
-refusal_moved q (TextName o) = (refl, inl refl)
-refusal_moved q (OutputSpace o) = (refl, inl refl)
-refusal_moved q (TooEarly o) = (refl, inl refl)
-refusal_moved q (TooLate o) = (refl, inl refl)
-refusal_moved q (NotLower o) = (refl, inl refl)
-refusal_moved q (WorkLength o) = (refl, inl refl)
-refusal_moved q (Circular o) = (refl, inl refl)
-refusal_moved q FigureTooLarge = (refl, inr (refl, refl))
-refusal_moved q (Withdrawn o) = (refl, inl refl)
-refusal_moved q GlobalsDiffer = (refl, inr (refl, refl))
-refusal_moved q JoinTooLarge = (refl, inr (refl, refl))
 
 -- P holds of the refusal with number n and place q
 abbrev pub Told : (Refusal → Type 0) → ℕ → ℕ → Type 0
@@ -136,5 +102,3 @@ refusal_counts (WorkLength q) = omega arith
 refusal_counts (Circular q) = omega arith
 refusal_counts FigureTooLarge = omega arith
 refusal_counts (Withdrawn q) = omega arith
-refusal_counts GlobalsDiffer = omega arith
-refusal_counts JoinTooLarge = omega arith

@@ -1,14 +1,13 @@
 -- 5.7 The number and the place of an answer.
-use Rattle.value.specs.Prelude.{ℕ, ◌≡◌, ◌⊎◌}
+use Rattle.value.specs.Prelude.{ℕ, ◌≡◌}
 use Rattle.answer.specs.declared.Answer.{Answer}
 use Rattle.answer.specs.declared.Answer.TheVariants.{Done, Refused}
 use Rattle.answer.specs.declared.Refusal.{Refusal}
 use Rattle.answer.specs.declared.Refusal.TheVariants.{ProgramLength, TableByte, Command, Operand, PortOrKind}
 use Rattle.answer.specs.declared.Refusal.TheVariants.{SetTwice, Missing, MemoryLength, UnsoundImage}
 use Rattle.answer.specs.declared.Refusal.TheVariants.{ReadingsLength, Reading, SinkSpace, Clock, NoRoom, TooDeep}
-use Rattle.answer.specs.declared.Refusal.TheVariants.{TextForm, TextName, OutputSpace, TooEarly, TooLate}
-use Rattle.answer.specs.declared.Refusal.TheVariants.{NotLower, WorkLength, Circular, FigureTooLarge, Withdrawn}
-use Rattle.answer.specs.declared.Refusal.TheVariants.{GlobalsDiffer, JoinTooLarge}
+use Rattle.answer.specs.declared.Refusal.TheVariants.{TextForm, TextName, OutputSpace, TooEarly, TooLate, NotLower}
+use Rattle.answer.specs.declared.Refusal.TheVariants.{WorkLength, Circular, FigureTooLarge, Withdrawn}
 
 abbrev pub refusal_number : Refusal → ℕ
 refusal_number (ProgramLength q) = 1
@@ -36,8 +35,6 @@ refusal_number (WorkLength q) = 22
 refusal_number (Circular q) = 23
 refusal_number FigureTooLarge = 24
 refusal_number (Withdrawn q) = 25
-refusal_number GlobalsDiffer = 26
-refusal_number JoinTooLarge = 27
 
 abbrev pub refusal_place : Refusal → ℕ
 refusal_place (ProgramLength q) = q
@@ -65,43 +62,6 @@ refusal_place (WorkLength q) = q
 refusal_place (Circular q) = q
 refusal_place FigureTooLarge = 0
 refusal_place (Withdrawn q) = q
-refusal_place GlobalsDiffer = 0
-refusal_place JoinTooLarge = 0
-
--- the same refusal at place q; one whose place is always 0 stays
-abbrev pub refusal_at : ℕ → Refusal → Refusal
-refusal_at q (ProgramLength o) = ProgramLength q
-refusal_at q (TableByte o) = TableByte q
-refusal_at q (Command o) = Command q
-refusal_at q (Operand o) = Operand q
-refusal_at q (PortOrKind o) = PortOrKind q
-refusal_at q (SetTwice o) = SetTwice q
-refusal_at q (Missing o) = Missing q
-refusal_at q (MemoryLength o) = MemoryLength q
-refusal_at q (UnsoundImage o) = UnsoundImage q
-refusal_at q (ReadingsLength o) = ReadingsLength q
-refusal_at q (Reading o) = Reading q
-refusal_at q (SinkSpace o) = SinkSpace q
-refusal_at q Clock = Clock
-refusal_at q (NoRoom o) = NoRoom q
-refusal_at q (TooDeep o) = TooDeep q
-refusal_at q (TextForm o) = TextForm q
-refusal_at q (TextName o) = TextName q
-refusal_at q (OutputSpace o) = OutputSpace q
-refusal_at q (TooEarly o) = TooEarly q
-refusal_at q (TooLate o) = TooLate q
-refusal_at q (NotLower o) = NotLower q
-refusal_at q (WorkLength o) = WorkLength q
-refusal_at q (Circular o) = Circular q
-refusal_at q FigureTooLarge = FigureTooLarge
-refusal_at q (Withdrawn o) = Withdrawn q
-refusal_at q GlobalsDiffer = GlobalsDiffer
-refusal_at q JoinTooLarge = JoinTooLarge
-
--- its number stays, and its place is q unless it stays whole: `refusal_moved` in proofs/Refusals.antt
-abbrev pub RefusalMoved : Type 0
-RefusalMoved = (q : ℕ) (w : Refusal) → (refusal_number (refusal_at q w) ≡ refusal_number w)
-    × ((refusal_place (refusal_at q w) ≡ q) ⊎ ((refusal_at q w ≡ w) × (refusal_place w ≡ 0)))
 
 -- of an answer: 0 and the size that the call is asked for, or the refusal's
 abbrev pub number_of : Answer → ℕ

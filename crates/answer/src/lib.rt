@@ -1,8 +1,8 @@
 // 5.7 What a call answers: a number and a place. This is the one page of numbers.
 ghost use Rattle.value.specs.Prelude.{◌≡◌};
-ghost use Rattle.answer.specs.Answer.{number_of, place_of, refusal_number, refusal_place, refusal_at};
+ghost use Rattle.answer.specs.Answer.{number_of, place_of, refusal_number, refusal_place};
 
-// 5.11 to 5.37 Why a call is refused, by rising numbers; each case has its place.
+// 5.11 to 5.35 Why a call is refused, by rising numbers; each case has its place.
 #[derive(Drop)]
 pub enum Refusal {
     // 1 The program's length is not what its counts call for: its bytes.
@@ -55,10 +55,6 @@ pub enum Refusal {
     FigureTooLarge,
     // 25 A primitive that is withdrawn.
     Withdrawn(usize),
-    // 26 Two programs that are to be joined declare different globals: 0.
-    GlobalsDiffer,
-    // 27 The joined program would pass a limit of programs: 0.
-    JoinTooLarge,
 }
 
 // Whether all is well, or what is against it.
@@ -105,8 +101,6 @@ impl Refusal {
             Refusal::Circular(_) => 23,
             Refusal::FigureTooLarge => 24,
             Refusal::Withdrawn(_) => 25,
-            Refusal::GlobalsDiffer => 26,
-            Refusal::JoinTooLarge => 27,
         }
     }
 
@@ -139,43 +133,6 @@ impl Refusal {
             Refusal::Circular(q) => q,
             Refusal::FigureTooLarge => 0,
             Refusal::Withdrawn(q) => q,
-            Refusal::GlobalsDiffer => 0,
-            Refusal::JoinTooLarge => 0,
-        }
-    }
-
-    // The same refusal at another place; one whose place is always 0 stays.
-    pub fn at(self, q: usize) -> Refusal
-        ensures { result ≡ refusal_at q self }
-    {
-        match self {
-            Refusal::ProgramLength(_) => Refusal::ProgramLength(q),
-            Refusal::TableByte(_) => Refusal::TableByte(q),
-            Refusal::Command(_) => Refusal::Command(q),
-            Refusal::Operand(_) => Refusal::Operand(q),
-            Refusal::PortOrKind(_) => Refusal::PortOrKind(q),
-            Refusal::SetTwice(_) => Refusal::SetTwice(q),
-            Refusal::Missing(_) => Refusal::Missing(q),
-            Refusal::MemoryLength(_) => Refusal::MemoryLength(q),
-            Refusal::UnsoundImage(_) => Refusal::UnsoundImage(q),
-            Refusal::ReadingsLength(_) => Refusal::ReadingsLength(q),
-            Refusal::Reading(_) => Refusal::Reading(q),
-            Refusal::SinkSpace(_) => Refusal::SinkSpace(q),
-            Refusal::Clock => Refusal::Clock,
-            Refusal::NoRoom(_) => Refusal::NoRoom(q),
-            Refusal::TooDeep(_) => Refusal::TooDeep(q),
-            Refusal::TextForm(_) => Refusal::TextForm(q),
-            Refusal::TextName(_) => Refusal::TextName(q),
-            Refusal::OutputSpace(_) => Refusal::OutputSpace(q),
-            Refusal::TooEarly(_) => Refusal::TooEarly(q),
-            Refusal::TooLate(_) => Refusal::TooLate(q),
-            Refusal::NotLower(_) => Refusal::NotLower(q),
-            Refusal::WorkLength(_) => Refusal::WorkLength(q),
-            Refusal::Circular(_) => Refusal::Circular(q),
-            Refusal::FigureTooLarge => Refusal::FigureTooLarge,
-            Refusal::Withdrawn(_) => Refusal::Withdrawn(q),
-            Refusal::GlobalsDiffer => Refusal::GlobalsDiffer,
-            Refusal::JoinTooLarge => Refusal::JoinTooLarge,
         }
     }
 }

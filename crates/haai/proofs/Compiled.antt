@@ -1,18 +1,18 @@
 -- The call by what is found of a text: the ladder of its answers, and that tables and code are the whole.
 use Rattle.value.specs.Prelude.{ℕ, ◌+◌, ◌*◌, ◌≤◌, ◌<◌, ◌≡◌, refl, sym, ◌∙◌, ap, true, false, List, ◌++◌, length, arith}
+use Rattle.value.specs.Test.{◌≤?◌, ◌=?◌}
 use Rattle.value.proofs.Tests.{goes, stops, eq!, eq×, le!, le×}
 use lib.ListN.{length-append}
-use Rattle.value.specs.Patch.{patch}
-use Rattle.value.proofs.Patch.{patch-length}
+use Rattle.image.specs.Memory.{patch}
+use Rattle.image.proofs.Memory.Patch.{patch-length}
 use Rattle.answer.specs.declared.Answer.TheVariants.{Done, Refused}
 use Rattle.answer.specs.declared.Refusal.TheVariants.{TextForm, TextName, OutputSpace}
 use Rattle.haai.specs.Grammar.{Formed, items, fault, form_of}
-use Rattle.haai.specs.Names.{Known, fault_of, text_of}
+use Rattle.haai.specs.Names.{Known, nothing, learn_all, fault_of, text_of}
 use Rattle.haai.specs.Syntax.{Text}
 use Rattle.haai.specs.Emit.{code_of, program_of, within_limits}
-use Rattle.answer.specs.Output.{refused, written, both}
-use Rattle.haai.specs.Compile.{by_limits, by_names, by_form, compile_of}
-use Rattle.haai.specs.Clauses.{check_of}
+use Rattle.haai.specs.Compile.{Compilation, refused, written, by_names, by_form, compile_of}
+use Rattle.haai.specs.Clauses.{check_of, compiled}
 use Rattle.haai.specs.Tables.{items_of, known_by, rows_fit, rows_length}
 use Rattle.haai.specs.Writing.{tables_of, Clean, Writable}
 use Rattle.haai.specs.declared.Found.{Found}
@@ -30,52 +30,52 @@ module _ (t out : List ℕ) where
   form_is_right (fault q) e = let z : ◌≡◌ {A = ℕ} 0 1 = cc in absurd (omega arith)
 
   form_is_wrong : (f : Formed) (q : ℕ) → check_of f ≡ Wrong q
-      → by_form (length t) out f ≡ both (Refused (TextForm q)) out
-  unfolding check_of by_form refused both
+      → by_form (length t) out f ≡ compiled (Refused (TextForm q)) out
+  unfolding check_of by_form refused compiled
   form_is_wrong (items is) q e = let z : ◌≡◌ {A = ℕ} 0 1 = cc in absurd (omega arith)
-  form_is_wrong (fault p) q e = let z : p ≡ q = cc in ap (λ (x : ℕ). both (Refused (TextForm x)) out) z
+  form_is_wrong (fault p) q e = let z : p ≡ q = cc in ap (λ (x : ℕ). compiled (Refused (TextForm x)) out) z
 
   pub right_goes : check_of (form_of t) ≡ Right → by_names (length t) out (known_by (length t) (form_of t)) ≡ compile_of t out
   unfolding compile_of
   right_goes e = sym (form_is_right (form_of t) e)
 
-  pub wrong_stops : (q : ℕ) → check_of (form_of t) ≡ Wrong q → both (Refused (TextForm q)) out ≡ compile_of t out
+  pub wrong_stops : (q : ℕ) → check_of (form_of t) ≡ Wrong q → compiled (Refused (TextForm q)) out ≡ compile_of t out
   unfolding compile_of
   wrong_stops q e = sym (form_is_wrong (form_of t) q e)
 
 -- ---- 17
 
 module _ (n : ℕ) (out : List ℕ) (k : Known) where
-  pub clean_goes : fault_of k ≡ n → by_limits out (text_of k) ≡ by_names n out k
+  pub clean_goes : fault_of k ≡ n → written out (text_of k) ≡ by_names n out k
   unfolding by_names
   clean_goes e = goes _ _ (eq! e) refl
 
-  pub fault_stops : (q : ℕ) → q ≡ fault_of k → (q ≡ n → ⊥) → both (Refused (TextName q)) out ≡ by_names n out k
-  unfolding by_names refused both
+  pub fault_stops : (q : ℕ) → q ≡ fault_of k → (q ≡ n → ⊥) → compiled (Refused (TextName q)) out ≡ by_names n out k
+  unfolding by_names refused compiled
   fault_stops q e d =
       ap (λ (x : ℕ). refused out (TextName x)) e ∙ stops _ (eq× (λ z. d (e ∙ z))) refl
 
 -- ---- 18
 
 module _ (out : List ℕ) (x : Text) where
-  pub limit_stops : within_limits x.definitions ≡ false → both (Refused (OutputSpace 0)) out ≡ by_limits out x
-  unfolding by_limits refused both
+  pub limit_stops : within_limits x.definitions ≡ false → compiled (Refused (OutputSpace 0)) out ≡ written out x
+  unfolding written refused compiled
   limit_stops e = stops _ e refl
 
   module _ (limits : within_limits x.definitions ≡ true) (n : ℕ) (whole : n ≡ length (program_of x)) where
-    pub space_stops : length out < n → both (Refused (OutputSpace n)) out ≡ by_limits out x
-    unfolding by_limits written refused both
+    pub space_stops : length out < n → compiled (Refused (OutputSpace n)) out ≡ written out x
+    unfolding written refused compiled
     space_stops l =
         let short : length out < length (program_of x) = omega arith in
         ap (λ (k : ℕ). refused out (OutputSpace k)) whole ∙ goes _ _ limits (stops _ (le× short) refl)
 
     pub written_whole : n ≤ length out → (new : List ℕ) → new ≡ patch out 0 (program_of x)
-        → both (Done n) new ≡ by_limits out x
-    unfolding by_limits written both
+        → compiled (Done n) new ≡ written out x
+    unfolding written compiled
     written_whole l new e =
         let room : length (program_of x) ≤ length out = omega arith in
-        ap (λ (k : ℕ). both (Done k) new) whole
-        ∙ ap (λ (o : List ℕ). both (Done (length (program_of x))) o) e
+        ap (λ (k : ℕ). compiled (Done k) new) whole
+        ∙ ap (λ (o : List ℕ). compiled (Done (length (program_of x))) o) e
         ∙ goes _ _ limits (goes _ _ (le! room) refl)
 
 -- ---- a text without fault, by what is found of it

@@ -11,8 +11,7 @@ use Rattle.program.specs.Location.{sink_count, sink_loc}
 use Rattle.answer.specs.Answer.{number_of}
 use Rattle.answer.specs.declared.Answer.TheVariants.{Done}
 use Rattle.load.specs.Check.{IsAccepted}
-use Rattle.value.specs.Patch.{patch}
-use Rattle.image.specs.Memory.{most_words, main_at, value_at}
+use Rattle.image.specs.Memory.{most_words, main_at, value_at, patch}
 use Rattle.image.specs.Sound.{SoundImage}
 use Rattle.image.specs.Start.{start_of}
 use Rattle.image.proofs.Memory.Changes.{value_mark, value_content}

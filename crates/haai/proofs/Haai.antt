@@ -5,13 +5,12 @@ use lib.Seq.{take-append_seam}
 use Rattle.value.specs.Test.{◌≤?◌, ◌=?◌}
 use Rattle.value.proofs.Tests.{eq?}
 use Rattle.answer.specs.declared.Answer.TheVariants.{Done}
-use Rattle.value.specs.Patch.{patch}
+use Rattle.image.specs.Memory.{patch}
 use Rattle.haai.specs.Grammar.{Formed, items, fault, form_of}
 use Rattle.haai.specs.Syntax.{Text}
 use Rattle.haai.specs.Names.{nothing, learn_all, fault_of, text_of}
 use Rattle.haai.specs.Emit.{program_of, within_limits}
-use Rattle.answer.specs.Output.{Output, refused, written}
-use Rattle.haai.specs.Compile.{by_limits, by_names, by_form, compile_of, tree_by, tree_of}
+use Rattle.haai.specs.Compile.{Compilation, refused, written, by_names, by_form, compile_of, tree_by, tree_of}
 use Rattle.haai.specs.Claim.{bytes_for, AlwaysAccepted, AlwaysFaithful}
 use Rattle.haai.proofs.Formed.{WellFormed, Bounded}
 use Rattle.haai.proofs.Fitting.{guard_any}
@@ -25,16 +24,16 @@ use Rattle.haai.proofs.Faithful.{from_start}
 abbrev Right : Text → Type 0
 Right x = WellFormed x.definitions x.sources × Bounded x
 
-record Whole (x : Text) (n : ℕ) (c : Output) : Type 0 where
+record Whole (x : Text) (n : ℕ) (c : Compilation) : Type 0 where
   right : Right x
   bytes : take n c.output ≡ program_of x
 
-abbrev Accepts : Text → ℕ → Output → Type 0
+abbrev Accepts : Text → ℕ → Compilation → Type 0
 Accepts x n c = c.answer ≡ Done n → Whole x n c
 
 module _ (out : List ℕ) (n : ℕ) where
-  by_space : (x : Text) → (within_limits x.definitions ≡ true → Right x) → Accepts x n (by_limits out x)
-  unfolding by_limits written refused patch
+  by_space : (x : Text) → (within_limits x.definitions ≡ true → Right x) → Accepts x n (written out x)
+  unfolding written refused patch
   by_space x right =
       let p = program_of x in
       guard_any (Accepts x n) (within_limits x.definitions) _ _

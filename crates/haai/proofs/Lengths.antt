@@ -6,7 +6,7 @@ use lib.ListN.{length-set}
 use Rattle.program.specs.Command.{Cmd}
 use Rattle.program.specs.Encode.{encode}
 use Rattle.program.proofs.Encode.{length-encode}
-use Rattle.value.proofs.Patch.{patch-length}
+use Rattle.image.proofs.Memory.Patch.{patch-length}
 use Rattle.haai.specs.Writing.{put_command, put_commands, Added, added, add_give, add_meant, add_call, add_applied}
 use Rattle.haai.specs.Writing.{add_sinks, add_operand, add_constant, add_apply, adds}
 use Rattle.haai.specs.declared.Cursor.{Cursor}

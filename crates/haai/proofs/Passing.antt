@@ -3,7 +3,7 @@
 use Rattle.value.specs.Prelude.{ℕ, ◌+◌, ◌≤◌, ◌<◌, ◌≡◌, refl, sym, ◌∙◌, ap, subst, List, length, arith}
 use Rattle.value.specs.Test.{◌=?◌}
 use Rattle.value.proofs.Tests.{both?, le?}
-use Rattle.value.specs.Patch.{patch}
+use Rattle.image.specs.Memory.{patch}
 use Rattle.haai.specs.Word.{word_start, word_end, bytes_of, class_of}
 use Rattle.haai.specs.Grammar.{begin, step_of, whole, form_of}
 use Rattle.haai.specs.Clauses.{check_of}

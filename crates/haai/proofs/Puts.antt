@@ -1,28 +1,109 @@
 -- Bytes put one by one, or stretch after stretch, are one stretch; rows and commands put in a loop are all of them.
-use Rattle.value.specs.Prelude.{ℕ, zero, suc, ◌+◌, ◌-◌, ◌*◌, ◌≤◌, ◌<◌, ◌≡◌, refl, sym, ◌∙◌, ap, ap₂, ⊎_elim, List, []}
-use Rattle.value.specs.Prelude.{◌∷◌, ◌++◌, length, get_or, replicate, arith}
+use Rattle.value.specs.Prelude.{ℕ, zero, suc, ◌+◌, ◌-◌, ◌*◌, ◌/◌, ◌%◌, ◌≤◌, ◌<◌, ◌≡◌, refl, sym, ◌∙◌, ap, ap₂, ⊎_elim}
+use Rattle.value.specs.Prelude.{List, [], ◌∷◌, ◌++◌, append_assoc, length, get_or, set, take, drop, replicate, arith}
 use native.Mathlib.Numerals.{add-one}
-use lib.ListN.{length-append, length-replicate}
+use lib.ListN.{take-append-drop, length-set, length-append, length-replicate}
+use lib.Seq.{take-suc-set, drop-set-lt}
 use Rattle.value.specs.Test.{pick, ◌≤?◌}
-use Rattle.value.proofs.Tests.{below, yes, no, lt!, lt×}
+use Rattle.value.proofs.Tests.{below, yes, no, le!, le×, lt!, lt×}
 use Rattle.program.specs.Bytes.{byte}
 use Rattle.program.specs.Command.{Cmd, gives, supply, react, sink, consume}
-use Rattle.program.specs.Encode.{eight, put_eight, encode, encode_give}
-use Rattle.program.proofs.Writes.{eight_put, eight_length}
-use Rattle.value.specs.Patch.{patch, rows}
-use Rattle.value.proofs.Patch.{patch-length, patch_on}
+use Rattle.program.specs.Encode.{eight, encode, encode_give}
+use Rattle.image.specs.Memory.{patch}
+use Rattle.image.proofs.Memory.Patch.{patch-length}
 use Rattle.haai.specs.Emit.{supplies, sinks_from, header_bytes}
 use Rattle.haai.specs.Tables.{sinks_from as sinks_row, declared_from, running_from}
-use Rattle.haai.specs.Writing.{put_command, put_commands, place_r, deployment_loc, row_of, call_r, added, few, first_at}
-use Rattle.haai.specs.Writing.{shapes_by, entries_by, tables_of}
+use Rattle.haai.specs.Writing.{put_eight, put_command, put_commands, place_r, deployment_loc, row_of, call_r, added, few}
+use Rattle.haai.specs.Writing.{first_at, shapes_by, entries_by, tables_of}
 use Rattle.haai.specs.declared.Cursor.{Cursor}
 
--- shapes and entries as rows
+-- ---- stretches
+
+pub patch_nothing : (m : List ℕ) (i : ℕ) → patch m i [] ≡ m
+unfolding patch
+patch_nothing m i = let e : i + 0 ≡ i = omega arith in rw e (take-append-drop i m)
+
+-- a byte, and then a stretch right after it
+pub patch_more : (m : List ℕ) (i j w : ℕ) (ws : List ℕ) → i < length m → j ≡ i + 1 →
+    patch (set m i w) j ws ≡ patch m i (w ∷ ws)
+unfolding patch
+patch_more m i j w ws h e =
+    let f : j ≡ suc i = omega arith in
+    let g : j + length ws ≡ i + suc (length ws) = omega arith in
+    ap₂ (λ (xs ys : List ℕ). xs ++ (ws ++ ys)) (ap (λ (k : ℕ). take k (set m i w)) f ∙ take-suc-set m i w h)
+    (drop-set-lt (j + length ws) m i w (omega arith) ∙ ap (λ (k : ℕ). drop k m) g)
+    ∙ append_assoc (take i m) (w ∷ []) (ws ++ drop (i + suc (length ws)) m)
+
+pub patch_on : (m : List ℕ) (i : ℕ) (xs : List ℕ) (j : ℕ) (ys : List ℕ) → i + length xs ≤ length m →
+    j ≡ i + length xs → patch (patch m i xs) j ys ≡ patch m i (xs ++ ys)
+patch_on m i [] j ys h e =
+    let f : j ≡ i = omega arith in ap₂ (λ (x : List ℕ) (k : ℕ). patch x k ys) (patch_nothing m i) f
+patch_on m i (x ∷ xs) j ys h e =
+    ap (λ (n : List ℕ). patch n j ys) (sym (patch_more m i (i + 1) x xs (omega arith) refl))
+    ∙ patch_on (set m i x) (i + 1) xs j ys (rw length-set (omega arith)) (omega arith)
+    ∙ patch_more m i (i + 1) x (xs ++ ys) (omega arith) refl
+
+pub patch_four : (m : List ℕ) (i a b c d : ℕ) → i + 4 ≤ length m →
+    set (set (set (set m i a) (i + 1) b) (i + 2) c) (i + 3) d ≡ patch m i (a ∷ b ∷ c ∷ d ∷ [])
+patch_four m i a b c d h =
+    sym (patch_nothing _ (i + 4))
+    ∙ patch_more (set (set (set m i a) (i + 1) b) (i + 2) c) (i + 3) (i + 4) d []
+    (rw (length-set, length-set, length-set) (omega arith)) (omega arith)
+    ∙ patch_more (set (set m i a) (i + 1) b) (i + 2) (i + 3) c (d ∷ []) (rw (length-set, length-set) (omega arith))
+    (omega arith)
+    ∙ patch_more (set m i a) (i + 1) (i + 2) b (c ∷ d ∷ []) (rw length-set (omega arith)) (omega arith)
+    ∙ patch_more m i (i + 1) a (b ∷ c ∷ d ∷ []) (omega arith) refl
+
+-- ---- rows put one after the other
+
+unfoldable pub rows : (ℕ → List ℕ) → ℕ → ℕ → List ℕ
+rows r j zero = []
+rows r j (suc n) = r j ++ rows r (j + 1) n
+
+-- the rows before j are in `out`, and the others follow from byte p on
+pub record Rowing (r : ℕ → List ℕ) (n at : ℕ) (old out : List ℕ) (j p : ℕ) : Type 0 where
+  pub rest : patch out p (rows r j (n - j)) ≡ patch old at (rows r 0 n)
+  pub within : j ≤ n
+  pub long : length out ≡ length old
+
+module _ (r : ℕ → List ℕ) (n at : ℕ) (old : List ℕ) where
+  pub rowing_begins : (p : ℕ) → p ≡ at → Rowing r n at old old 0 p
+  rowing_begins p e =
+      let f : n - 0 ≡ n = omega arith in
+      record { rest = rw (e, f); within = omega arith; long = refl }
+
+  pub rowing_goes : (out new : List ℕ) (j p q : ℕ) → Rowing r n at old out j p → j < n → q ≡ p + length (r j) →
+      q ≤ length old → new ≡ patch out p (r j) → Rowing r n at old new (j + 1) q
+  unfolding rows
+  rowing_goes out new j p q f h e room m =
+      let s : n - j ≡ suc (n - (j + 1)) = omega arith in
+      let w : p + length (r j) ≤ length out = omega (arith, f.long) in
+      record {
+        rest =
+            ap (λ (x : List ℕ). patch x q (rows r (j + 1) (n - (j + 1)))) m
+            ∙ patch_on out p (r j) q (rows r (j + 1) (n - (j + 1))) w e
+            ∙ ap (λ (k : ℕ). patch out p (rows r j k)) (sym s) ∙ f.rest;
+        within = omega arith;
+        long = ap length m ∙ patch-length out p (r j) w ∙ f.long;
+      }
+
+  pub rowing_ends : (out : List ℕ) (j p : ℕ) → Rowing r n at old out j p → n ≤ j → out ≡ patch old at (rows r 0 n)
+  unfolding rows
+  rowing_ends out j p f h =
+      let s : n - j ≡ 0 = omega arith in
+      sym (patch_nothing out p) ∙ ap (λ (k : ℕ). patch out p (rows r j k)) (sym s) ∙ f.rest
+
+-- zeros, shapes and entries as rows
 unfoldable pub shape_row : List ℕ → ℕ → List ℕ
 shape_row tb j = byte tb j ∷ byte tb (sinks_row + j) ∷ replicate 14 0
 
 unfoldable pub entry_row : List ℕ → ℕ → List ℕ
 entry_row tb j = j ∷ byte tb (declared_from + j) ∷ byte tb (running_from + j) ∷ 0 ∷ []
+
+pub zero_rows : (j n : ℕ) → rows (λ _. 0 ∷ []) j n ≡ replicate n 0
+unfolding rows
+zero_rows j zero = refl
+zero_rows j (suc n) = ap (λ (l : List ℕ). 0 ∷ l) (zero_rows (j + 1) n)
 
 module _ (tb : List ℕ) where
   pub shape_rows : (j n : ℕ) → rows (shape_row tb) j n ≡ shapes_by tb j n
@@ -48,9 +129,33 @@ module _ (tb : List ℕ) where
 -- ---- commands
 
 module _ (out : List ℕ) (at code x a b v : ℕ) where
+  pub eight_put : at + 8 ≤ length out → put_eight out at code x a b v ≡ patch out at (eight code x a b v)
+  unfolding put_eight
+  eight_put h = sym (yes _ (le! h) refl)
+
+  pub eight_unput : length out < at + 8 → put_eight out at code x a b v ≡ out
+  unfolding put_eight
+  eight_unput h = sym (no _ (le× h) refl)
+
+  pub eight_length : length (put_eight out at code x a b v) ≡ length out
+  unfolding eight
+  eight_length =
+      ⊎_elim (λ h. ap length (eight_unput h))
+      (λ h. ap length (eight_put h) ∙ patch-length out at (eight code x a b v) h) (below (length out) (at + 8))
+
   pub eight_is : (c : Cmd) → eight code x a b v ≡ encode c → put_eight out at code x a b v ≡ put_command out at c
   unfolding put_eight put_command
   eight_is c e = ap (λ (l : List ℕ). pick (at + 8 ≤? length out) (patch out at l) out) e
+
+  -- four bytes and four bytes
+  pub eight_parts : (mid new : List ℕ) → at + 8 ≤ length out → mid ≡ patch out at (code ∷ x ∷ a ∷ b ∷ []) →
+      new ≡ patch mid (at + 4) (v % 256 ∷ v / 256 % 256 ∷ v / 65536 % 256 ∷ v / 16777216 % 256 ∷ []) →
+      new ≡ put_eight out at code x a b v
+  unfolding eight
+  eight_parts mid new h e f =
+      let four = v % 256 ∷ v / 256 % 256 ∷ v / 65536 % 256 ∷ v / 16777216 % 256 ∷ [] in
+      f ∙ ap (λ (m : List ℕ). patch m (at + 4) four) e
+      ∙ patch_on out at (code ∷ x ∷ a ∷ b ∷ []) (at + 4) four (omega arith) refl ∙ sym (eight_put h)
 
 -- a shape is two commands' bytes
 pub shape_put : (tb : List ℕ) (j : ℕ) (out mid new : List ℕ) (p x y : ℕ) → p + 16 ≤ length out → x ≡ byte tb j →

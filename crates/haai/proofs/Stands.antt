@@ -6,10 +6,8 @@ use Rattle.value.proofs.Tests.{below, le!, yes}
 use Rattle.program.specs.Command.{Cmd}
 use Rattle.program.specs.Encode.{encode, encode_all}
 use Rattle.program.proofs.Encode.{length-encode}
-use Rattle.value.specs.Patch.{patch}
-use Rattle.image.specs.Memory.{word}
-use Rattle.value.proofs.Patch.{patch-length}
-use Rattle.image.proofs.Memory.Patch.{patch_below, patch_inside, patch_above}
+use Rattle.image.specs.Memory.{word, patch}
+use Rattle.image.proofs.Memory.Patch.{patch_below, patch_inside, patch_above, patch-length}
 use lib.ListN.{length-append, get_or-append}
 use lib.Seq.{get_or-append-add, ext_get_or}
 use Rattle.haai.specs.Writing.{put_command, put_commands, row_of}

@@ -2,7 +2,7 @@
 use Rattle.value.specs.Prelude.{ℕ, suc, ◌+◌, ◌*◌, ◌≤◌, ◌<◌, ◌≡◌, refl, ◌∙◌, ap, ap₂, true, List, [], ◌∷◌, ◌++◌}
 use Rattle.value.specs.Prelude.{append_assoc, length, replicate, arith}
 use lib.ListN.{length-append, length-replicate}
-use Rattle.value.specs.Patch.{patch}
+use Rattle.image.specs.Memory.{patch}
 use Rattle.haai.specs.Syntax.{Definition, Text}
 use Rattle.haai.specs.Emit.{declared, running, shape_bytes, shapes_of, entries_from, code_of, header_bytes, program_of}
 use Rattle.haai.specs.Emit.{within_limits}
@@ -12,8 +12,7 @@ use Rattle.haai.proofs.Formed.{nth}
 use Rattle.haai.proofs.Forming.{limits}
 use Rattle.haai.proofs.Counts.{counted_exact}
 use Rattle.haai.proofs.Sizes.{RowsFrom, first_row, next_rows, from_first}
-use Rattle.value.proofs.Patch.{patch_on}
-use Rattle.haai.proofs.Puts.{length_shapes, length_entries}
+use Rattle.haai.proofs.Puts.{length_shapes, length_entries, patch_on}
 
 -- each definition is within the limits
 abbrev Within : List Definition → Type 0

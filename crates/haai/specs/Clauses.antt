@@ -2,8 +2,10 @@
 use Rattle.value.specs.Prelude.{ℕ, ◌+◌, ◌-◌, ◌<◌, Bool, not, List, length}
 use Rattle.value.specs.Test.{pick, guard, sweep, ◌<?◌, ◌=?◌, ◌or◌}
 use Rattle.program.specs.Bytes.{byte}
+use Rattle.answer.specs.declared.Answer.{Answer}
 use Rattle.haai.specs.Word.{ends_word, is_letter, is_digit, minus_byte, has_minus, is_name, among, position, taken_words}
 use Rattle.haai.specs.Grammar.{most_brackets, deepened, whole, Formed, items, fault}
+use Rattle.haai.specs.Compile.{Compilation}
 use Rattle.haai.specs.declared.Class.{Class}
 use Rattle.haai.specs.declared.Class.TheVariants.{Taken, Name, Other}
 use Rattle.haai.specs.declared.FormCheck.{FormCheck}
@@ -58,3 +60,9 @@ check_of (fault q) = Wrong q
 -- the text of n bytes ends
 unfoldable pub check_end : ℕ → Reading → FormCheck
 check_end n s = pick (whole s) Right (Wrong n)
+
+-- ---- the call
+
+-- an answer, with the output space then
+unfoldable pub compiled : Answer → List ℕ → Compilation
+compiled a out = record { answer = a; output = out }

@@ -1,22 +1,37 @@
 -- 8.12 The call: a text to bytecode.
 use Rattle.value.specs.Prelude.{ℕ, List, [], length}
-use Rattle.value.specs.Test.{◌=?◌, guard}
-use Rattle.answer.specs.Output.{Output, refused, written}
+use Rattle.value.specs.Test.{◌≤?◌, ◌=?◌, guard}
+use Rattle.image.specs.Memory.{patch}
+use Rattle.answer.specs.declared.Answer.{Answer}
+use Rattle.answer.specs.declared.Answer.TheVariants.{Done, Refused}
+use Rattle.answer.specs.declared.Refusal.{Refusal}
 use Rattle.answer.specs.declared.Refusal.TheVariants.{TextForm, TextName, OutputSpace}
 use Rattle.haai.specs.Grammar.{Formed, items, fault, form_of}
 use Rattle.haai.specs.Syntax.{Text}
 use Rattle.haai.specs.Names.{Known, nothing, learn_all, fault_of, text_of}
 use Rattle.haai.specs.Emit.{program_of, within_limits}
 
--- 5.28, 8.12 The program, where it is within the limits of programs and has room.
-unfoldable pub by_limits : List ℕ → Text → Output
-by_limits out x = guard (within_limits x.definitions) (refused out (OutputSpace 0)) (λ _. written out (program_of x))
+-- an answer, and the output space then
+pub record Compilation : Type 0 where
+  pub answer : Answer
+  pub output : List ℕ
+
+unfoldable pub refused : List ℕ → Refusal → Compilation
+refused out w = record { answer = Refused w; output = out }
+
+-- 5.28, 8.12 The bytes from the first of the output space on, if they fit; those after them stay.
+unfoldable pub written : List ℕ → Text → Compilation
+written out x =
+    guard (within_limits x.definitions) (refused out (OutputSpace 0)) (λ _.
+    let p = program_of x in
+    guard (length p ≤? length out) (refused out (OutputSpace (length p))) (λ _.
+    record { answer = Done (length p); output = patch out 0 p }))
 
 -- 8.13 First 16, of the whole text; then 17, at the lowest byte; then 18.
-unfoldable pub by_names : ℕ → List ℕ → Known → Output
-by_names n out k = guard (fault_of k =? n) (refused out (TextName (fault_of k))) (λ _. by_limits out (text_of k))
+unfoldable pub by_names : ℕ → List ℕ → Known → Compilation
+by_names n out k = guard (fault_of k =? n) (refused out (TextName (fault_of k))) (λ _. written out (text_of k))
 
-unfoldable pub by_form : ℕ → List ℕ → Formed → Output
+unfoldable pub by_form : ℕ → List ℕ → Formed → Compilation
 by_form n out (items is) = by_names n out (learn_all (nothing n) is)
 by_form n out (fault q) = refused out (TextForm q)
 
@@ -29,5 +44,5 @@ unfoldable pub tree_of : List ℕ → Text
 tree_of t = tree_by (length t) (form_of t)
 
 -- t the text, out the output space
-unfoldable pub compile_of : List ℕ → List ℕ → Output
+unfoldable pub compile_of : List ℕ → List ℕ → Compilation
 compile_of t out = by_form (length t) out (form_of t)

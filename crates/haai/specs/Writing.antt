@@ -1,14 +1,14 @@
 -- How the bytes of a text's commands are written: which commands a word adds, where they go, and where the values of
 -- open applications stand. The locations of the operands that an open application has so far are a row of seven bytes;
 -- row 0 is that of the body, row i that of the i-th open application from the outermost on.
-use Rattle.value.specs.Prelude.{ℕ, zero, suc, ◌+◌, ◌-◌, ◌*◌, ◌%◌, ◌≤◌, ◌≡◌, true, List, [], ◌∷◌, ◌++◌, length, get_or}
-use Rattle.value.specs.Prelude.{set, replicate}
+use Rattle.value.specs.Prelude.{ℕ, zero, suc, ◌+◌, ◌-◌, ◌*◌, ◌%◌, ◌≤◌, ◌≡◌, true, List, [], ◌∷◌, ◌++◌, length}
+use Rattle.value.specs.Prelude.{get_or, set, replicate}
 use Rattle.value.specs.Test.{pick, ◌≤?◌, ◌<?◌, ◌=?◌}
 use Rattle.value.specs.Value.{number_kind}
 use Rattle.program.specs.Bytes.{byte}
 use Rattle.program.specs.Command.{Cmd, alloc_mono, gives, react, constant, global, consume, primitive}
-use Rattle.program.specs.Encode.{encode}
-use Rattle.value.specs.Patch.{patch}
+use Rattle.program.specs.Encode.{eight, encode}
+use Rattle.image.specs.Memory.{patch}
 use Rattle.haai.specs.Grammar.{form_of}
 use Rattle.haai.specs.Names.{fault_of}
 use Rattle.haai.specs.Emit.{supplies, sinks_from, within_limits, code_of, header_bytes}
@@ -31,6 +31,10 @@ use Rattle.haai.specs.declared.Tree.{Tree}
 -- the bytes of c from byte `at` on, where there is room for all of them
 unfoldable pub put_command : List ℕ → ℕ → Cmd → List ℕ
 put_command out at c = pick (at + 8 ≤? length out) (patch out at (encode c)) out
+
+-- the same of a command by its code, x, a, b and v
+unfoldable pub put_eight : List ℕ → ℕ → ℕ → ℕ → ℕ → ℕ → ℕ → List ℕ
+put_eight out at code x a b v = pick (at + 8 ≤? length out) (patch out at (eight code x a b v)) out
 
 unfoldable pub put_commands : List ℕ → ℕ → List Cmd → List ℕ
 put_commands out at [] = out

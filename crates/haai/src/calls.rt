@@ -1,12 +1,11 @@
 // 8.12 The call.
 ghost use Rattle.value.specs.Prelude.{◌≤◌, ◌≡◌, true, length};
-ghost use Rattle.value.specs.Patch.{patch};
-ghost use Rattle.answer.specs.Output.{both};
+ghost use Rattle.image.specs.Memory.{patch};
 ghost use Rattle.haai.specs.Grammar.{form_of};
 ghost use Rattle.haai.specs.Names.{text_of};
 ghost use Rattle.haai.specs.Emit.{program_of, within_limits};
-ghost use Rattle.haai.specs.Compile.{by_limits, by_names, compile_of};
-ghost use Rattle.haai.specs.Clauses.{check_of};
+ghost use Rattle.haai.specs.Compile.{written, by_names, compile_of};
+ghost use Rattle.haai.specs.Clauses.{check_of, compiled};
 ghost use Rattle.haai.specs.Tables.{known_by};
 ghost use Rattle.haai.specs.Writing as Q;
 ghost use Rattle.haai.specs.declared.FormCheck.TheVariants.{Right};
@@ -40,7 +39,7 @@ fn compile_clean(text: &[u8], table: &[u8; 128], f: Found, output: &mut [u8]) ->
     requires { Q.Clean text.now f table.now }
     ensures { let t = text.now in
         let x = text_of (known_by (length t) (form_of t)) in
-        both result output.new ≡ by_limits output.old x }
+        compiled result output.new ≡ written output.old x }
 {
     let n = f.definitions;
     if !fits(table, n) {
@@ -59,7 +58,7 @@ fn compile_formed(text: &[u8], output: &mut [u8]) -> Answer
     requires { check_of (form_of text.now) ≡ Right }
     ensures { let t = text.now in
         let k = known_by (length t) (form_of t) in
-        both result output.new ≡ by_names (length t) output.old k }
+        compiled result output.new ≡ by_names (length t) output.old k }
 {
     let mut table = [0u8; 128];
     let f = names(text, &mut table);

@@ -1,6 +1,6 @@
 // The pass that writes a text's commands, word by word.
 ghost use Rattle.value.specs.Prelude.{◌≤◌, ◌≡◌, length};
-ghost use Rattle.value.specs.Patch.{patch};
+ghost use Rattle.image.specs.Memory.{patch};
 ghost use Rattle.haai.specs.Word.{bytes_of};
 ghost use Rattle.haai.specs.Grammar as G;
 ghost use Rattle.haai.specs.Emit.{code_of};

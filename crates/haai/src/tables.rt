@@ -1,10 +1,22 @@
 // The bytes before the commands: header, kinds, shapes and entries.
-ghost use Rattle.value.specs.Prelude.{◌+◌, ◌*◌, ◌≤◌, ◌≡◌, length};
-ghost use Rattle.value.specs.Patch.{patch};
+ghost use Rattle.value.specs.Prelude.{◌+◌, ◌*◌, ◌≤◌, ◌≡◌, length, replicate};
+ghost use Rattle.image.specs.Memory.{patch};
 ghost use Rattle.haai.specs.Writing as Q;
 
 use crate::grove::{DECLARED, RUNNING, SINKS};
-use program::{Header, byte, put_command, put_four, put_zeros};
+use crate::write::{put_command, put_four};
+use program::{Header, byte};
+
+fn put_zeros(out: &mut [u8], at: usize, n: usize)
+    requires { at + n ≤ length out.old }
+    ensures { out.new ≡ patch out.old at (replicate n 0) }
+{
+    let mut i: usize = 0;
+    while i < n {
+        out[at + i] = 0;
+        i = i + 1;
+    }
+}
 
 fn put_shapes(out: &mut [u8], at: usize, sizes: &[u8], n: usize)
     requires { (at + 16 * n ≤ length out.old) × (n ≤ 32) }

@@ -1,15 +1,47 @@
 // The bytes that a word adds: commands in the output, and the locations of values.
-ghost use Rattle.value.specs.Prelude.{ℕ, ◌+◌, ◌≤◌, ◌≡◌, List, set};
+ghost use Rattle.value.specs.Prelude.{ℕ, ◌+◌, ◌≤◌, ◌≡◌, List, [], ◌∷◌, length, set};
+ghost use Rattle.image.specs.Memory.{patch};
 ghost use Rattle.haai.specs.Emit.{supplies, sinks_from};
 ghost use Rattle.haai.specs.Places as J;
-ghost use Rattle.program.specs.Encode.{put_eight};
 ghost use Rattle.haai.specs.Writing as Q;
 
 use crate::grove::{DECLARED, put_byte};
 use crate::names::place;
 use crate::size::row_length;
 use crate::{Cursor, Meant, Role, Tally, Tree};
-use program::{Command, byte, put_command};
+use program::{Command, byte};
+
+pub(crate) fn put_four(out: &mut [u8], at: usize, a: u8, b: u8, c: u8, d: u8)
+    requires { at + 4 ≤ length out.old }
+    ensures { out.new ≡ patch out.old at (a ∷ b ∷ c ∷ d ∷ []) }
+{
+    out[at] = a;
+    out[at + 1] = b;
+    out[at + 2] = c;
+    out[at + 3] = d;
+}
+
+// A command from byte `at` on, where there is room for it.
+pub(crate) fn put_command(out: &mut [u8], at: usize, code: u8, x: u8, a: u8, b: u8, v: u32)
+    ensures { out.new ≡ Q.put_eight out.old at code x a b v }
+{
+    let n = out.len();
+    if n < 8 {
+        return;
+    }
+    if n - 8 < at {
+        return;
+    }
+    put_four(out, at, code, x, a, b);
+    put_four(
+        out,
+        at + 4,
+        (v % 256) as u8,
+        (v / 256 % 256) as u8,
+        (v / 65536 % 256) as u8,
+        (v / 16777216 % 256) as u8,
+    );
+}
 
 // ---- places and locations
 
@@ -134,7 +166,7 @@ fn add_give(
 )
     requires { c.first ≤ Q.most_first }
     ensures { Q.added out.new ls.new
-        ≡ Q.added (put_eight out.old (Q.place_r c) code x a b v)
+        ≡ Q.added (Q.put_eight out.old (Q.place_r c) code x a b v)
         (set ls.old entry (Q.location_r c 0)) }
 {
     put_command(out, c.place_r(), code, x, a, b, v);

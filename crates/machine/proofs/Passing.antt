@@ -12,8 +12,7 @@ use Rattle.program.specs.Command.{Cmd, decode, point, made_by, cmd_of}
 use Rattle.program.specs.declared.Command.{Command}
 use Rattle.program.proofs.Decode.{as_make, by_code}
 use Rattle.program.specs.Location.{command_loc, sink_loc, size_of}
-use Rattle.value.specs.Patch.{patch}
-use Rattle.image.specs.Memory.{main_at, word, reactor, slot, mark, content, size_at, starts_from}
+use Rattle.image.specs.Memory.{main_at, word, reactor, slot, mark, content, size_at, starts_from, patch}
 use Rattle.image.specs.Passes.{over, tiles_from}
 use Rattle.image.specs.Clauses.{Tiling, Follows, starts_on}
 use Rattle.image.proofs.Tiles.{starts_done, follows}
@@ -22,7 +21,7 @@ use Rattle.remus.specs.Clear.{pairs_from}
 use Rattle.remus.specs.Undo.{slot_back, slots_back}
 use Rattle.machine.specs.Clauses.{Remembering}
 use Rattle.machine.proofs.Clears.{Local, local_by, local_slot}
-use Rattle.value.proofs.Patch.{patch_nothing, patch_more}
+use Rattle.machine.proofs.Stretch.{patch_cons, patch_none}
 
 -- ---- the deployments
 
@@ -158,8 +157,8 @@ module _ (p m sk : List ℕ) (n x : ℕ) where
       let s : n - x ≡ suc (n - (x + 1)) = omega arith in
       let t : 2 * (x + 1) ≡ 2 * x + 1 + 1 = omega arith in
       let q : 2 * x + 1 < length (set sk (2 * x) (word m i)) = simp length-set (omega arith) in
-      rw (s, t, e, ← g, ← f) (patch_more _ (2 * x + 1) (2 * x + 1 + 1) _ _ q refl ∙ patch_more sk (2 * x) (2 * x + 1) _ _ (omega arith) refl)
+      rw (s, t, e, ← g, ← f) (patch_cons _ (2 * x + 1) _ _ q ∙ patch_cons sk (2 * x) _ _ (omega arith))
 
   pub sinks_done : n ≤ x → sk ≡ patch sk (2 * x) (pairs_from p (n - x) x m)
   unfolding pairs_from
-  sinks_done h = let s : n - x ≡ 0 = omega arith in rw s (sym (patch_nothing sk (2 * x)))
+  sinks_done h = let s : n - x ≡ 0 = omega arith in rw s (sym (patch_none sk (2 * x)))

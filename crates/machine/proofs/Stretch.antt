@@ -1,12 +1,12 @@
 -- Stretches of a list that are lent on and come back, as the definitions put them.
 -- Assumes nothing.
-use Rattle.value.specs.Prelude.{ℕ, ◌+◌, ◌-◌, ◌≤◌, ◌<◌, ◌≡◌, sym, ◌∙◌, ap, List, ◌++◌, append-nil, length, take, drop}
-use Rattle.value.specs.Prelude.{replicate, arith}
-use lib.ListN.{length-replicate}
-use lib.Seq.{drop-length}
+use Rattle.value.specs.Prelude.{ℕ, suc, ◌+◌, ◌-◌, ◌≤◌, ◌<◌, ◌≡◌, sym, ◌∙◌, ap, List, [], ◌∷◌, ◌++◌, append_assoc}
+use Rattle.value.specs.Prelude.{append-nil, length, set, take, drop, replicate, arith}
+use native.Mathlib.Numerals.{add-one}
+use lib.ListN.{length-replicate, take-append-drop}
+use lib.Seq.{drop-length, take-suc-set, drop-set-lt}
 use borrow.Rule.Slice.PartMut.{mid_of, put_mid, mid_len, Post-is}
-use Rattle.value.specs.Patch.{patch}
-use Rattle.value.proofs.Patch.{patch_nothing}
+use Rattle.image.specs.Memory.{patch}
 
 -- ---- zeros
 
@@ -30,6 +30,17 @@ put_part m l a e h g =
     let k : a + length l ≡ e = omega arith in
     rw (Post-is a e m h, k)
 
+pub patch_none : (m : List ℕ) (i : ℕ) → patch m i [] ≡ m
+unfolding patch
+patch_none m i = let k : i + 0 ≡ i = omega arith in rw k (take-append-drop i m)
+
+pub patch_cons : (m : List ℕ) (i w : ℕ) (ws : List ℕ) → i < length m → patch (set m i w) (i + 1) ws ≡ patch m i (w ∷ ws)
+unfolding patch
+patch_cons m i w ws h =
+    let k : i + 1 ≡ suc i = add-one i in
+    let n : i + 1 + length ws ≡ i + suc (length ws) = omega arith in
+    rw (n, k, take-suc-set m i w h, drop-set-lt (i + suc (length ws)) m i w (omega arith), append_assoc)
+
 -- ---- zeros up to the end
 
 pub zero_rest : (m l : List ℕ) (i n : ℕ) → n ≡ length m → i < n → l ≡ replicate (length (mid_of i (n - i) m)) 0
@@ -41,4 +52,4 @@ zero_rest m l i n e h f =
     put_part m l i n (omega arith) g ∙ ap (patch m i) q
 
 pub zero_none : (m : List ℕ) (i : ℕ) → length m ≤ i → m ≡ patch m i (replicate (length m - i) 0)
-zero_none m i h = let k : length m - i ≡ 0 = omega arith in rw k (sym (patch_nothing m i))
+zero_none m i h = let k : length m - i ≡ 0 = omega arith in rw k (sym (patch_none m i))

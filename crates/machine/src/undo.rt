@@ -1,7 +1,6 @@
 // 6.27 How a refused turn's words are brought back in place, with u as it was.
 ghost use Rattle.value.specs.Prelude.{◌-◌, ◌≡◌, true, false, length, replicate};
 ghost use Rattle.value.specs.Test.{◌=?◌};
-ghost use Rattle.value.specs.Patch.{patch};
 ghost use Rattle.image.specs.Memory as M;
 ghost use Rattle.image.specs.Clauses.{Tiling};
 ghost use Rattle.remus.specs.Undo as U;
@@ -16,7 +15,7 @@ const MAIN_SLOTS: usize = MAIN_AT as usize + SLOTS_AT;
 // Zeroes all words from i on.
 fn zero_from(memory: &mut [u32], i: usize)
     ensures { let m = memory.old in
-        memory.new ≡ patch m i (replicate (length m - i) 0) }
+        memory.new ≡ M.patch m i (replicate (length m - i) 0) }
 {
     let n = memory.len();
     if i < n {

@@ -1,17 +1,11 @@
 -- 2.11 The bytes of a command, for what writes programs: `decode` reads them back.
-use Rattle.value.specs.Prelude.{ℕ, ◌+◌, ◌/◌, ◌%◌, ◌<◌, ◌≡◌, List, [], ◌∷◌, ◌++◌, length}
-use Rattle.value.specs.Test.{pick, ◌≤?◌}
-use Rattle.value.specs.Patch.{patch}
-use Rattle.program.specs.Command.{Give, Cmd, bytes_at, decode, alloc_mono, make_poly, cell, gives, supply, react}
-use Rattle.program.specs.Command.{sink, alloc_poly, keep, none, constant, global, consume, primitive, fetch}
+use Rattle.value.specs.Prelude.{ℕ, ◌/◌, ◌%◌, ◌<◌, ◌≡◌, List, [], ◌∷◌, ◌++◌}
+use Rattle.program.specs.Command.{Give, Cmd, bytes_at, decode, alloc_mono, make_poly, cell, gives, supply, react, sink}
+use Rattle.program.specs.Command.{alloc_poly, keep, none, constant, global, consume, primitive, fetch}
 
 -- 2.11 The code, x, a, b, and v with its low byte first.
 unfoldable pub eight : ℕ → ℕ → ℕ → ℕ → ℕ → List ℕ
 eight code x a b v = code ∷ x ∷ a ∷ b ∷ v % 256 ∷ v / 256 % 256 ∷ v / 65536 % 256 ∷ v / 16777216 % 256 ∷ []
-
--- the eight bytes from byte `at` on of an output, where there is room for all of them
-unfoldable pub put_eight : List ℕ → ℕ → ℕ → ℕ → ℕ → ℕ → ℕ → List ℕ
-put_eight out at code x a b v = pick (at + 8 ≤? length out) (patch out at (eight code x a b v)) out
 
 -- 2.32 Code and bytes, as the command table has them; a byte that a command does not name is 0.
 unfoldable pub encode_give : Give → List ℕ

@@ -8,14 +8,13 @@ use Rattle.program.specs.Bytes.{source_kind, sink_kind, entry_at, shape_of, comm
 use Rattle.program.specs.Bytes.{tables_end, commands_at, whole_length, command_at}
 use Rattle.program.specs.Command.{bytes_at, decode, bytes_of, cmd_of, sequence_of, class_of, value_class, gives_value}
 use Rattle.program.specs.Command.{takes_words, made_by}
-use Rattle.program.specs.Encode.{eight, put_eight, encode_give, encode, encode_all}
+use Rattle.program.specs.Encode.{eight, encode_give, encode, encode_all}
 use Rattle.program.specs.Location.{source_count, sink_count, command_loc, sink_loc, locations, cmd_at, has_words}
 use Rattle.program.specs.Location.{slot_at, size_of, point_shape, shape_made, shape_there}
 use Rattle.program.specs.Kind.{give_kind, kind_made, kind_in, kind_of, content_legal, legal}
 
 unfoldable pub opened : ℕ
-unfolding below_opened eight put_eight encode_give encode encode_all byte shapes reactors globals global_kind shape_at
-    sources_in sinks_in source_kind sink_kind entry_at
+unfolding below_opened eight encode_give encode encode_all byte shapes reactors globals global_kind shape_at sources_in sinks_in source_kind sink_kind entry_at
     shape_of commands_d commands_r main_of commands_in tables_end commands_at whole_length command_at bytes_at decode bytes_of
     cmd_of sequence_of class_of value_class gives_value takes_words made_by source_count sink_count command_loc sink_loc locations
     cmd_at has_words slot_at size_of point_shape shape_made shape_there give_kind kind_made kind_in kind_of content_legal legal

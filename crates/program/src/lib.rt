@@ -10,7 +10,6 @@ mod facts;
 mod kind;
 mod location;
 mod shape;
-mod write;
 
 pub use bytes::{byte, global_kind, globals, reactors, shapes};
 pub use commands::{bytes_at, bytes_within};
@@ -24,7 +23,6 @@ pub use location::{
     HEAD_WORDS, MOST_LOCATIONS, result_of, sink_count, sink_loc, size_of, slot_at, source_count,
 };
 pub use shape::{shape_at, sink_kind, sinks_in, source_kind, sources_in};
-pub use write::{put_command, put_four, put_zeros};
 
 // What a program's first bytes say: the format, and how many shapes, reactors and outside globals
 // there are.

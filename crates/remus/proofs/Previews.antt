@@ -19,15 +19,14 @@ use Rattle.load.specs.Check.{check_of, IsAccepted}
 use Rattle.load.specs.Fault.{CheckNumber}
 use Rattle.load.proofs.Exact.Faults.{check_numbers}
 use Rattle.load.proofs.Exact.Ladder.{accepted_size}
-use Rattle.value.specs.Patch.{patch}
-use Rattle.image.specs.Memory.{most_words}
+use Rattle.image.specs.Memory.{most_words, patch}
 use Rattle.image.specs.Passes.{sound_of}
 use Rattle.image.specs.declared.Judged.{Judged}
 use Rattle.image.specs.declared.Judged.TheVariants.{Sound, Unsound}
 use Rattle.image.specs.Sound.{SoundImage}
 use Rattle.image.specs.Start.{words_legal}
 use Rattle.image.specs.Starting.{Words}
-use Rattle.value.proofs.Patch.{patch-length}
+use Rattle.image.proofs.Memory.Patch.{patch-length}
 use Rattle.image.proofs.Starts.{words_legal_lem}
 use Rattle.remus.specs.Clear.{pairs, sunk}
 use Rattle.remus.specs.Run.{Ran, ran, stopped, main_run}

@@ -3,8 +3,7 @@ use Rattle.value.specs.Prelude.{ℕ, zero, suc, ◌+◌, ◌*◌, ◌≤◌, ◌
 use Rattle.program.specs.Bytes.{main_of}
 use Rattle.program.specs.Location.{sink_count, sink_loc}
 use Rattle.image.specs.Memory.{main_at, word, mark, content}
-use Rattle.value.proofs.Patch.{patch-length}
-use Rattle.image.proofs.Memory.Patch.{patch_inside, patch_above}
+use Rattle.image.proofs.Memory.Patch.{patch_inside, patch_above, patch-length}
 use Rattle.remus.specs.Clear.{pairs_from, pairs, sunk}
 use Rattle.remus.specs.Walk.{Input, State, location}
 use Rattle.remus.specs.Point.{◌∈◌}

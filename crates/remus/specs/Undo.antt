@@ -7,8 +7,8 @@ use Rattle.program.specs.Command.{Made, deployment, point, held, nought, made_by
 use Rattle.program.specs.Location.{head_words, command_loc}
 use Rattle.answer.specs.declared.Refusal.{Refusal}
 use Rattle.image.specs.Sound.{SoundImage}
-use Rattle.value.specs.Patch.{patch}
-use Rattle.image.specs.Memory.{main_at, used, turns, reactor, next, with_used, with_wired, content, store, starts_below}
+use Rattle.image.specs.Memory.{main_at, used, turns, reactor, next, with_used, with_wired, patch, content, store}
+use Rattle.image.specs.Memory.{starts_below}
 use Rattle.image.specs.Passes.{over}
 use Rattle.remus.specs.Run.{stopped, main_run}
 use Rattle.remus.specs.Clear.{clear_one}

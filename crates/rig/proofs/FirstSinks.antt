@@ -14,7 +14,7 @@ use Rattle.answer.specs.declared.Answer.{Answer}
 use Rattle.answer.specs.declared.Answer.TheVariants.{Done, Refused}
 use Rattle.load.proofs.Exact.{exact}
 use Rattle.load.proofs.Exact.Bounds.{main_last}
-use Rattle.value.specs.Patch.{patch}
+use Rattle.image.specs.Memory.{patch}
 use Rattle.image.specs.Start.{words_legal}
 use Rattle.image.specs.Passes.{sound_of}
 use Rattle.image.specs.declared.Judged.{Judged}

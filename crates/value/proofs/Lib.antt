@@ -9,4 +9,3 @@ pub mod Division
 pub mod Ticks
 pub mod Laws
 pub mod Zeros
-pub mod Patch

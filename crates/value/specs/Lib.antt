@@ -1,6 +1,5 @@
 pub mod Prelude
 pub mod Test
-pub mod Patch
 pub mod Value
 pub mod Division
 pub mod Primitive

@@ -1,10 +1,9 @@
 -- Words put together, and words with a stretch put in: what stands where.
 use Rattle.value.specs.Prelude.{ℕ, ◌+◌, ◌-◌, ◌≤◌, ◌<◌, ◌≡◌, refl, sym, ◌∙◌, ap, List, ◌++◌, length, get_or, take, drop}
 use Rattle.value.specs.Prelude.{replicate, arith}
-use lib.ListN.{get_or-append}
+use lib.ListN.{length-append, length-drop, get_or-append}
 use lib.Seq.{length-take-le, get_or-append-add, get_or-take, get_or-drop}
-use Rattle.value.specs.Patch.{patch}
-use Rattle.image.specs.Memory.{word}
+use Rattle.image.specs.Memory.{word, patch}
 use Rattle.value.proofs.Zeros.{zeros_at}
 
 pub word_left : (xs ys : List ℕ) (k : ℕ) → k < length xs → word (xs ++ ys) k ≡ word xs k
@@ -49,3 +48,8 @@ module _ (m : List ℕ) (i : ℕ) (ws : List ℕ) (inside : i ≤ length m) wher
       word_right (take i m) tail j (length ws + q) (omega (arith, before))
       ∙ word_right ws (drop (i + length ws) m) (length ws + q) q refl
       ∙ word-drop (i + length ws) m q ∙ ap (word m) (omega arith)
+
+pub patch-length : (m : List ℕ) (i : ℕ) (ws : List ℕ) → i + length ws ≤ length m → length (patch m i ws) ≡ length m
+unfolding patch
+patch-length m i ws h =
+    simp (length-append, length-drop) (omega (arith, length-take-le i m (omega arith)))

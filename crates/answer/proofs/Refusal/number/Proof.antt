@@ -11,7 +11,6 @@ number-spec =
     (λ c. search needs) (λ c. search needs) (λ c. search needs) (λ c. search needs) (λ c. search needs)
     (λ c. search needs) (λ c. search needs) (λ c. search needs) (λ c. search needs) (λ c. search needs)
     (λ c. search needs) (λ c. search needs) (λ c. search needs) (λ c. search needs) (λ c. search needs)
-    (λ c. search needs) (λ c. search needs)
     (λ c. rw c.enum_told.given.1) (λ c. rw c.enum-told2.given.1) (λ c. rw c.enum-told3.given.1)
     (λ c. rw c.enum-told4.given.1) (λ c. rw c.enum-told5.given.1) (λ c. rw c.enum-told6.given.1)
     (λ c. rw c.enum-told7.given.1) (λ c. rw c.enum-told8.given.1) (λ c. rw c.enum-told9.given.1)
@@ -20,4 +19,4 @@ number-spec =
     (λ c. rw c.enum-told16.given.1) (λ c. rw c.enum-told17.given.1) (λ c. rw c.enum-told18.given.1)
     (λ c. rw c.enum-told19.given.1) (λ c. rw c.enum-told20.given.1) (λ c. rw c.enum-told21.given.1)
     (λ c. rw c.enum-told22.given.1) (λ c. rw c.enum-told23.given.1) (λ c. rw c.enum-told24.given.1)
-    (λ c. rw c.enum-told25.given.1) (λ c. rw c.enum-told26.given.1) (λ c. rw c.enum-told27.given.1))
+    (λ c. rw c.enum-told25.given.1))

@@ -1,7 +1,6 @@
 use Rattle.value.specs.Prelude.{ℕ, ◌+◌, ◌-◌, ◌*◌, ◌∙◌, ap, ap₂, [], ◌∷◌, arith, needs, now}
-use Rattle.value.specs.Patch.{patch}
-use Rattle.value.proofs.Patch.{Rowing, rowing_begins, rowing_goes, rowing_ends}
-use Rattle.haai.proofs.Puts.{entry_row, entry_rows}
+use Rattle.image.specs.Memory.{patch}
+use Rattle.haai.proofs.Puts.{Rowing, rowing_begins, rowing_goes, rowing_ends, entry_row, entry_rows}
 use Rattle.haai.proofs.tables.put_entries.Statement.{statement}
 use Rattle.haai.proofs.tables.put_entries.Tie as tie
 

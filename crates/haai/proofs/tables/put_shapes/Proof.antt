@@ -1,7 +1,6 @@
 use Rattle.value.specs.Prelude.{◌+◌, ◌-◌, ◌*◌, ◌∙◌, ap, arith, needs, now}
-use Rattle.value.specs.Patch.{patch}
-use Rattle.value.proofs.Patch.{Rowing, rowing_begins, rowing_goes, rowing_ends}
-use Rattle.haai.proofs.Puts.{shape_row, shape_rows, shape_put}
+use Rattle.image.specs.Memory.{patch}
+use Rattle.haai.proofs.Puts.{Rowing, rowing_begins, rowing_goes, rowing_ends, shape_row, shape_rows, shape_put}
 use Rattle.haai.proofs.tables.put_shapes.Statement.{statement}
 use Rattle.haai.proofs.tables.put_shapes.Tie as tie
 

@@ -2,8 +2,8 @@ use Rattle.value.specs.Prelude.{ℕ, ◌+◌, ◌%◌, refl, ◌∙◌, ap₂, g
 use Rattle.value.proofs.Tests.{yes, no, lt!, lt×}
 use Rattle.program.specs.Bytes.{byte}
 use Rattle.program.specs.Command.{gives, primitive}
-use Rattle.program.specs.Encode.{encode, encode_give, put_eight}
-use Rattle.haai.specs.Writing.{place_r, add_give, add_applied}
+use Rattle.program.specs.Encode.{encode, encode_give}
+use Rattle.haai.specs.Writing.{put_eight, place_r, add_give, add_applied}
 use Rattle.haai.proofs.Puts.{eight_is, added_same}
 use Rattle.haai.proofs.write.add_applied.Statement.{statement}
 use Rattle.haai.proofs.write.add_applied.Tie as tie

@@ -1,7 +1,7 @@
 use Rattle.value.specs.Prelude.{ℕ, ◌%◌, refl, ◌∙◌, ap, List, set, needs, now}
 use Rattle.program.specs.Command.{alloc_mono}
-use Rattle.program.specs.Encode.{encode, put_eight}
-use Rattle.haai.specs.Writing.{put_commands, place_d, place_r, call_r, add_call}
+use Rattle.program.specs.Encode.{encode}
+use Rattle.haai.specs.Writing.{put_eight, put_commands, place_d, place_r, call_r, add_call}
 use Rattle.haai.proofs.Puts.{eight_is, added_same}
 use Rattle.haai.proofs.write.add_call.Statement.{statement}
 use Rattle.haai.proofs.write.add_call.Tie as tie

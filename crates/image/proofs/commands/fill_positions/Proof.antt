@@ -16,7 +16,7 @@ decreases-loop program places₀ n at₀ r₀ places at r = n - r
 
 loop-holds : tie.Need-loop-init invariant-loop decreases-loop
 loop-holds c = (
-  c.tables_end.ensures ∙ sym (commands_first _),
+  c.tables-end.ensures ∙ sym (commands_first _),
   omega arith,
   omega arith,
   c.before.before.before.before.requires,

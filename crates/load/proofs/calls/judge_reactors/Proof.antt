@@ -27,7 +27,7 @@ loop-holds c =
     let p = now args.program in (
       ap (λ (n : ℕ). reactors_of (accepted p) n p 0) (omega arith),
       omega arith,
-      c.tables_end.ensures ∙ sym (commands_first p),
+      c.tables-end.ensures ∙ sym (commands_first p),
       upto_none p _ c.before.before.before.requires.1.1.0,
     )
 
@@ -154,7 +154,7 @@ returns-2 c =
     let at-reactors = c.before.before.before.before.before.before.before.before.before.before.before.before.before.before.reactors in
     let args = c.before.before.before.before.before.before.before.before.before.before.before.before.before.before.before.before.args in
     let p = now args.program in (
-      ap (λ (e : ℕ). Refused (Missing e)) c.entry-at.ensures.0
+      ap (λ (e : ℕ). Refused (Missing e)) c.entry_at.ensures.0
           ∙ reactor_missing _ p at-loop.r _ (omega (arith, at-loop-test.taken, at-reactors.ensures))
           at-facts-of.ensures.0 at-scan.ensures.0 at-if1.false
           (refused (at-complete.ensures _ _) c.before.if2.true)

@@ -10,13 +10,13 @@ shared-slice-read-shape : tie.Need-shared-slice-read-shape
 shared-slice-read-shape c =
     let args = c.before.before.before.args in
     let pre = c.before.before.before.requires in
-    omega (arith, c.before.entry-at.ensures.0, entry_inside (now args.program) args.r pre.1.0 pre.1.1)
+    omega (arith, c.before.entry_at.ensures.0, entry_inside (now args.program) args.r pre.1.0 pre.1.1)
 
 shared-slice-read-t12 : tie.Need-shared-slice-read-t12
 unfolding shape_of byte
 shared-slice-read-t12 c =
-    let at-shape-at = c.before.before.before.shape-at in
-    let at-entry-at = c.before.before.before.before.before.entry-at in
+    let at-shape-at = c.before.before.before.shape_at in
+    let at-entry-at = c.before.before.before.before.before.entry_at in
     let args = c.before.before.before.before.before.before.before.args in
     let pre = c.before.before.before.before.before.before.before.requires in
     let p = now args.program in
@@ -28,14 +28,14 @@ shared-slice-read-t12 c =
 
 shared-slice-read-t15 : tie.Need-shared-slice-read-t15
 shared-slice-read-t15 c =
-    let at-entry-at = c.before.before.before.before.before.before.entry-at in
+    let at-entry-at = c.before.before.before.before.before.before.entry_at in
     let args = c.before.before.before.before.before.before.before.before.args in
     let pre = c.before.before.before.before.before.before.before.before.requires in
     omega (arith, at-entry-at.ensures.0, entry_inside (now args.program) args.r pre.1.0 pre.1.1)
 
 shared-slice-read-t18 : tie.Need-shared-slice-read-t18
 shared-slice-read-t18 c =
-    let at-entry-at = c.before.before.before.before.before.before.before.entry-at in
+    let at-entry-at = c.before.before.before.before.before.before.before.entry_at in
     let args = c.before.before.before.before.before.before.before.before.before.args in
     let pre = c.before.before.before.before.before.before.before.before.before.requires in
     omega (arith, at-entry-at.ensures.0, entry_inside (now args.program) args.r pre.1.0 pre.1.1)
@@ -43,8 +43,8 @@ shared-slice-read-t18 c =
 shared-slice-read-t21 : tie.Need-shared-slice-read-t21
 unfolding shape_of byte
 shared-slice-read-t21 c =
-    let at-shape-at = c.before.before.before.before.before.before.shape-at in
-    let at-entry-at = c.before.before.before.before.before.before.before.before.entry-at in
+    let at-shape-at = c.before.before.before.before.before.before.shape_at in
+    let at-entry-at = c.before.before.before.before.before.before.before.before.entry_at in
     let args = c.before.before.before.before.before.before.before.before.before.before.args in
     let pre = c.before.before.before.before.before.before.before.before.before.before.requires in
     let p = now args.program in
@@ -59,9 +59,9 @@ unfolding shape_of sources_in sinks_in source_count sink_count commands_d comman
 returns c =
     let args = c.before.before.before.before.before.before.before.before.before.before.args in
     let p = now args.program in
-    let e = c.before.before.before.before.before.before.before.before.entry-at.ensures.0 in
+    let e = c.before.before.before.before.before.before.before.before.entry_at.ensures.0 in
     let shape = ap (λ (i : ℕ). get_or p i 0) e in
-    let at = c.before.before.before.before.before.before.shape-at.ensures.0 ∙ ap (shape_at p) shape in (
+    let at = c.before.before.before.before.before.before.shape_at.ensures.0 ∙ ap (shape_at p) shape in (
       refl,
       record {
         a_reactor = c.before.before.before.before.before.before.before.before.before.before.requires.1.0;

@@ -17,7 +17,7 @@ decreases-loop program n at₀ all₀ r₀ at all r = n - r
 
 loop-holds : tie.Need-loop-init invariant-loop decreases-loop
 unfolding sweep ◌=?◌
-loop-holds c = (refl, omega arith, c.entry-at.ensures.0)
+loop-holds c = (refl, omega arith, c.entry_at.ensures.0)
 
 entry-passes-requires : tie.Need-entry-passes-requires invariant-loop decreases-loop
 entry-passes-requires c κs =

@@ -13,7 +13,7 @@ returns : tie.Need-returns
 unfolding entry_legal
 returns c =
     let at_byte = c.before.before.byte in
-    let at-entry-at = c.before.before.before.entry-at in
+    let at-entry-at = c.before.before.before.entry_at in
     let args = c.before.before.before.before.before.args in
     let p = now args.program in
     yes _ (eq! (omega arith))
@@ -24,7 +24,7 @@ returns-2 : tie.Need-returns-2
 unfolding entry_legal
 returns-2 c =
     let at_byte = c.before.before.byte in
-    let at-entry-at = c.before.before.before.entry-at in
+    let at-entry-at = c.before.before.before.entry_at in
     let args = c.before.before.before.before.before.args in
     let p = now args.program in
     no _ (eq× c.before.if1.false)
@@ -37,7 +37,7 @@ returns-3 c =
     let at-if2 = c.before.before.if2 in
     let at-if1 = c.before.before.before.if1 in
     let at_byte = c.before.before.before.before.byte in
-    let at-entry-at = c.before.before.before.before.before.entry-at in
+    let at-entry-at = c.before.before.before.before.before.entry_at in
     let args = c.before.before.before.before.before.before.before.args in
     let p = now args.program in
     no _ (eq× at-if1.false)
@@ -50,7 +50,7 @@ unfolding entry_legal
 returns-4 c =
     let at-if1 = c.before.before.if1 in
     let at_byte = c.before.before.before.byte in
-    let at-entry-at = c.before.before.before.before.entry-at in
+    let at-entry-at = c.before.before.before.before.entry_at in
     let args = c.before.before.before.before.before.before.args in
     let p = now args.program in
     no _ (eq× at-if1.false)

@@ -16,32 +16,32 @@ abbrev decreases-loop : tie.decreases-loop
 decreases-loop program s at all₀ x₀ all x = 7 - x
 
 shared-slice-read-all : tie.Need-shared-slice-read-all invariant-loop decreases-loop
-shared-slice-read-all c = omega (arith, c.before.shape-at.ensures.0, c.before.before.before.requires)
+shared-slice-read-all c = omega (arith, c.before.shape_at.ensures.0, c.before.before.before.requires)
 
 loop-holds : tie.Need-loop-init invariant-loop decreases-loop
 unfolding sweep ◌=?◌ sources_in byte
 loop-holds c =
     let args = c.before.before.before.args in (
-      same_eq (ap (λ (i : ℕ). get_or (now args.program) i 0) c.before.shape-at.ensures.0) refl ∙ sym
+      same_eq (ap (λ (i : ℕ). get_or (now args.program) i 0) c.before.shape_at.ensures.0) refl ∙ sym
           (and_true _),
       omega arith,
     )
 
 add-all : tie.Need-overflow-add-all invariant-loop decreases-loop
 add-all c =
-    let at-shape-at = c.before.before.before.shape-at in
+    let at-shape-at = c.before.before.before.shape_at in
     let pre = c.before.before.before.before.before.requires in
     omega (arith, at-shape-at.ensures.0, pre)
 
 add-all-2 : tie.Need-overflow-add-all-2 invariant-loop decreases-loop
 add-all-2 c =
-    let at-shape-at = c.before.before.before.shape-at in
+    let at-shape-at = c.before.before.before.shape_at in
     let pre = c.before.before.before.before.before.requires in
     omega (arith, at-shape-at.ensures.0, pre)
 
 shared-slice-read-all-2 : tie.Need-shared-slice-read-all-2 invariant-loop decreases-loop
 shared-slice-read-all-2 c =
-    let at-shape-at = c.before.before.before.before.shape-at in
+    let at-shape-at = c.before.before.before.before.shape_at in
     let pre = c.before.before.before.before.before.before.requires in
     omega (arith, at-shape-at.ensures.0, pre)
 
@@ -49,7 +49,7 @@ loop-again : tie.Need-loop-preserved invariant-loop decreases-loop
 unfolding sink_kind byte
 loop-again c =
     let at-loop = c.before.before.loop in
-    let at-shape-at = c.before.before.before.before.shape-at in
+    let at-shape-at = c.before.before.before.before.shape_at in
     let args = c.before.before.before.before.before.before.args in
     let p = now args.program in
     let x = at-loop.x in (

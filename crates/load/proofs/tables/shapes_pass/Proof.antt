@@ -17,7 +17,7 @@ decreases-loop program n at₀ all₀ s₀ at all s = n - s
 
 loop-holds : tie.Need-loop-init invariant-loop decreases-loop
 unfolding sweep ◌=?◌
-loop-holds c = (refl, omega arith, c.shape-at.ensures.0)
+loop-holds c = (refl, omega arith, c.shape_at.ensures.0)
 
 shape-passes-requires : tie.Need-shape-passes-requires invariant-loop decreases-loop
 shape-passes-requires c κs =

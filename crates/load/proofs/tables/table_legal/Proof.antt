@@ -17,7 +17,7 @@ cast-shape-legal c = omega (arith, c.before.before.before.before.shared-slice-kn
 returns-2 : tie.Need-returns-2
 unfolding table_legal
 returns-2 c =
-    let at-shape-at = c.before.before.before.before.shape-at in
+    let at-shape-at = c.before.before.before.before.shape_at in
     let args = c.before.before.before.before.before.before.args in
     no _ (lt× (omega arith))
     (yes _ (lt! (omega arith))
@@ -37,7 +37,7 @@ entry-legal-requires c κs =
 returns-3 : tie.Need-returns-3
 unfolding table_legal
 returns-3 c =
-    let at-entry-at = c.before.before.entry-at in
+    let at-entry-at = c.before.before.entry_at in
     let args = c.before.before.before.before.before.before.args in
     no _ (lt× (omega arith))
     (no _ (lt× (omega arith))

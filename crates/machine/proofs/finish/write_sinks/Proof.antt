@@ -1,5 +1,5 @@
 use Rattle.value.specs.Prelude.{ℕ, ◌-◌, ◌*◌, ◌<◌, ◌≡◌, refl, sym, ◌∙◌, subst, length, arith, needs}
-use Rattle.value.specs.Patch.{patch}
+use Rattle.image.specs.Memory.{patch}
 use Rattle.machine.proofs.Passing.{sinks_done, sinks_next}
 use Rattle.machine.proofs.FactLaws.{told}
 use Rattle.program.specs.Bytes.{main_of, reactors}

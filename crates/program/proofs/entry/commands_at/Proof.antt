@@ -11,7 +11,7 @@ abbrev decreases-loop : tie.decreases-loop
 decreases-loop program r at₀ i₀ at i = r - i
 
 loop-holds : tie.Need-loop-init invariant-loop decreases-loop
-loop-holds c = (c.tables_end.ensures ∙ sym (commands_first _), omega arith, omega arith)
+loop-holds c = (c.tables-end.ensures ∙ sym (commands_first _), omega arith, omega arith)
 
 loop-again : tie.Need-loop-preserved invariant-loop decreases-loop
 loop-again c = (

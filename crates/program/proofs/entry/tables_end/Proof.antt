@@ -5,7 +5,7 @@ use Rattle.program.proofs.entry.tables_end.Tie as tie
 
 returns : tie.Need-returns
 unfolding tables_end
-returns c = c.entry-at.ensures.0 ∙ ap (entry_at _) c.before.reactors.ensures
+returns c = c.entry_at.ensures.0 ∙ ap (entry_at _) c.before.reactors.ensures
 
 pub tables-end-spec : {M : Type 1} → statement M
 tables-end-spec =

@@ -1,7 +1,7 @@
 use Rattle.value.specs.Prelude.{sym, arith, needs}
-use Rattle.program.proofs.Writes.{eight_unput, eight_parts}
-use Rattle.program.proofs.write.put_command.Statement.{statement}
-use Rattle.program.proofs.write.put_command.Tie as tie
+use Rattle.haai.proofs.Puts.{eight_unput, eight_parts}
+use Rattle.haai.proofs.write.put_command.Statement.{statement}
+use Rattle.haai.proofs.write.put_command.Tie as tie
 
 returns : tie.Need-returns
 returns c = sym (eight_unput _ _ _ _ _ _ _ (omega arith))

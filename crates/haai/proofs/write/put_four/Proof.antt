@@ -1,8 +1,8 @@
 use Rattle.value.specs.Prelude.{arith, needs}
 use lib.ListN.{length-set}
-use Rattle.value.proofs.Patch.{patch_four}
-use Rattle.program.proofs.write.put_four.Statement.{statement}
-use Rattle.program.proofs.write.put_four.Tie as tie
+use Rattle.haai.proofs.Puts.{patch_four}
+use Rattle.haai.proofs.write.put_four.Statement.{statement}
+use Rattle.haai.proofs.write.put_four.Tie as tie
 
 slice-write-out-2 : tie.Need-slice-write-out-2
 slice-write-out-2 c = rw length-set (omega arith)

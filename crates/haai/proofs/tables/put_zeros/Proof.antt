@@ -1,8 +1,9 @@
 use Rattle.value.specs.Prelude.{◌+◌, ◌-◌, refl, sym, ◌∙◌, ap, [], ◌∷◌, arith, needs, now}
-use Rattle.value.specs.Patch.{patch}
-use Rattle.value.proofs.Patch.{patch_nothing, patch_more, Rowing, rowing_begins, rowing_goes, rowing_ends, zero_rows}
-use Rattle.program.proofs.write.put_zeros.Statement.{statement}
-use Rattle.program.proofs.write.put_zeros.Tie as tie
+use Rattle.image.specs.Memory.{patch}
+use Rattle.haai.proofs.Puts.{patch_nothing, patch_more, Rowing, rowing_begins, rowing_goes, rowing_ends}
+use Rattle.haai.proofs.Puts.{zero_rows}
+use Rattle.haai.proofs.tables.put_zeros.Statement.{statement}
+use Rattle.haai.proofs.tables.put_zeros.Tie as tie
 
 abbrev invariant-loop : tie.invariant-loop
 invariant-loop out₀ at n i₀ out i = Rowing (λ _. 0 ∷ []) n at out₀ out i (at + i)
