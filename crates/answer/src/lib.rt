@@ -1,9 +1,11 @@
 // 5.7 What a call answers: a number and a place. This is the one page of numbers.
+#![tactic(auto)]
+
 ghost use Rattle.value.specs.Prelude.{◌≡◌};
 ghost use Rattle.answer.specs.Answer.{number_of, place_of, refusal_number, refusal_place};
 
 // 5.11 to 5.35 Why a call is refused, by rising numbers; each case has its place.
-#[derive(Drop)]
+#[derive(Clone, Copy)]
 pub enum Refusal {
     // 1 The program's length is not what its counts call for: its bytes.
     ProgramLength(usize),
@@ -58,14 +60,14 @@ pub enum Refusal {
 }
 
 // Whether all is well, or what is against it.
-#[derive(Drop)]
+#[derive(Clone, Copy)]
 pub enum Ruling {
     Fine,
     Against(Refusal),
 }
 
 // The answer of every call: done, with the size that the call is asked for; or refused.
-#[derive(Drop)]
+#[derive(Clone, Copy)]
 pub enum Answer {
     Done(usize),
     Refused(Refusal),

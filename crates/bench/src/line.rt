@@ -43,7 +43,7 @@ pub const ROOM: usize = FIELDS * FIELD;
 // What is read of a line: the field that it has come to, and whether bytes are read there; for each
 // field its decimal number and how many hexadecimal digits it has; and how many digits the program
 // of the line before has.
-#[derive(Drop)]
+#[derive(Clone, Copy)]
 pub struct Line {
     field: u8,
     hex: bool,

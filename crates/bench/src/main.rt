@@ -1,5 +1,7 @@
 // The bench cases, run through the proved code and printed, and vectors. The file stdout beside src/
 // holds what they have to come to, and the gate compares the two.
+#![tactic(auto)]
+
 mod checks;
 mod faults;
 mod figures;

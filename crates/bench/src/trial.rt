@@ -15,7 +15,7 @@ const FEW_WORDS: usize = 2 * (Header::MOST_GLOBALS as usize + 1);
 const MOST_OUTPUT: usize = 42000;
 
 // A call on a program.
-#[derive(Drop)]
+#[derive(Clone, Copy)]
 pub enum Call {
     Check,
     Start,
@@ -26,7 +26,7 @@ pub enum Call {
 }
 
 // What the vectors of a file are of: such a call, or texts that are compiled.
-#[derive(Drop)]
+#[derive(Clone, Copy)]
 pub enum Kind {
     Program(Call),
     Text,

@@ -8,7 +8,7 @@ use crate::trial::{Call, Kind, agrees};
 const NUMBERS: usize = 33;
 
 // How many vectors agree, for each number, and how many differ.
-#[derive(Drop)]
+#[derive(Clone, Copy)]
 struct Tally {
     agree: [u32; NUMBERS],
     differ: u32,
@@ -16,7 +16,7 @@ struct Tally {
 
 // What the vectors are of, the line that is read, the vectors before it, and whether there may be
 // more to read.
-#[derive(Drop)]
+#[derive(Clone, Copy)]
 struct Progress {
     kind: Kind,
     line: Line,

@@ -4,6 +4,8 @@
 // more (reach): a reactor that reaches itself has no bound. Bounds are found in rounds, and counted no
 // further than the most words of a memory (bound). The work is bounded by the reactors and their D commands:
 // at most 64 · 64 · 64 bytes of the table, and twice 64 · 64 · 32 commands.
+#![tactic(auto)]
+
 mod bound;
 mod calls;
 mod reach;

@@ -3,6 +3,8 @@
 // The text is read three times, each time word by word from its first byte: for its form (16), for its
 // names and counts (17), and, where it is accepted and there is room, to write its bytes. No word is
 // kept but by its place in the text.
+#![tactic(auto)]
+
 mod calls;
 mod grammar;
 mod grove;
@@ -18,7 +20,7 @@ pub use calls::compile;
 
 // What a word is by its bytes alone: a bracket, a sign from 0 to 3, a number in two's complement, a
 // word that is taken (0 time, 1 defr, 2 out, 3 source), a name, or none of these.
-#[derive(Drop)]
+#[derive(Clone, Copy)]
 pub enum Class {
     Open,
     Shut,
@@ -30,7 +32,7 @@ pub enum Class {
 }
 
 // Which word or bracket the form can take next.
-#[derive(Drop)]
+#[derive(Clone, Copy)]
 pub enum Phase {
     Top,
     Form,
@@ -49,7 +51,7 @@ pub enum Phase {
 
 // How far the form has been read: the forms so far, the parameters or expressions of the present one,
 // the open brackets of the present expression, and whether the body is an `out`.
-#[derive(Drop)]
+#[derive(Clone, Copy)]
 pub struct Reading {
     pub phase: Phase,
     pub sources: u8,
@@ -60,7 +62,7 @@ pub struct Reading {
 }
 
 // What a word is in the form.
-#[derive(Drop)]
+#[derive(Clone, Copy)]
 pub enum Role {
     Source,
     Reactor,
@@ -74,7 +76,7 @@ pub enum Role {
 }
 
 // The form takes a word, in a role; or it can't.
-#[derive(Drop)]
+#[derive(Clone, Copy)]
 pub enum Step {
     Takes(Role, Reading),
     Refuses,
@@ -82,7 +84,7 @@ pub enum Step {
 
 // What is known of names after some words: the lowest byte at fault; how many sources, reactors and
 // parameters have a name; where the present reactor's parameters begin, and the place of its name.
-#[derive(Drop)]
+#[derive(Clone, Copy)]
 pub struct Tally {
     pub fault: usize,
     pub sources: usize,
@@ -95,7 +97,7 @@ pub struct Tally {
 // What is known of the tree after some words: the whole definitions; and of the present one its whole
 // expressions, its open applications, its AllocMonos and its R commands so far. Counts stay at 200 once
 // they reach it.
-#[derive(Drop)]
+#[derive(Clone, Copy)]
 pub struct Tree {
     pub definitions: u8,
     pub count: u8,
@@ -105,7 +107,7 @@ pub struct Tree {
 }
 
 // What is known after some words, beside the tables.
-#[derive(Drop)]
+#[derive(Clone, Copy)]
 pub struct Knowing {
     pub tally: Tally,
     pub tree: Tree,
@@ -113,7 +115,7 @@ pub struct Knowing {
 
 // What is known of a text whose form is right: the lowest byte that 17 finds fault with, the text's
 // length if there is none; and its sources and definitions.
-#[derive(Drop)]
+#[derive(Clone, Copy)]
 pub struct Found {
     pub fault: usize,
     pub sources: usize,
@@ -122,7 +124,7 @@ pub struct Found {
 
 // Where the present reactor's commands go: their first byte in the output, its parameters and D commands,
 // and the D and R commands that are written.
-#[derive(Drop)]
+#[derive(Clone, Copy)]
 pub struct Cursor {
     pub first: usize,
     pub parameters: u8,
@@ -132,14 +134,14 @@ pub struct Cursor {
 }
 
 // What an operand's name stands for: a parameter, or a global, where 0 is the time.
-#[derive(Drop)]
+#[derive(Clone, Copy)]
 pub enum Meant {
     Parameter(usize),
     Global(usize),
 }
 
 // The form of a text is right, or the place where it is not.
-#[derive(Drop)]
+#[derive(Clone, Copy)]
 pub enum FormCheck {
     Right,
     Wrong(usize),

@@ -3,6 +3,8 @@
 // Words, from 0: u, turns, then the deployments. A deployment: reactor, wired, next, then a mark and
 // a content for each location that has words. Every function is total: a word past the end is 0, and a
 // store there does nothing, so no caller has to know that an image is sound.
+#![tactic(auto)]
+
 mod calls;
 mod chain;
 mod children;
@@ -29,14 +31,14 @@ pub use words::{
 pub use zero::wipe;
 
 // Whether an image is sound; if not, the place that refusal 9 names.
-#[derive(Drop)]
+#[derive(Clone, Copy)]
 pub enum Judged {
     Sound,
     Unsound(usize),
 }
 
 // The three passes of soundness: where deployments begin, how often each is named, how deep each is.
-#[derive(Drop)]
+#[derive(Clone, Copy)]
 pub enum Pass {
     Starts,
     Names,
@@ -44,14 +46,14 @@ pub enum Pass {
 }
 
 // What the two later ones do for each child: one more name for it, or one deeper than its owner.
-#[derive(Drop)]
+#[derive(Clone, Copy)]
 pub enum ChildStep {
     Name,
     Deepen,
 }
 
 // A D slot: its location, and its command's code and x.
-#[derive(Drop)]
+#[derive(Clone, Copy)]
 pub struct DSlot {
     pub location: u16,
     pub code: u8,

@@ -6,6 +6,8 @@
 // at the first that is refused, whose number is sought only then. It is linear in the program's length;
 // what it knows of a reactor's locations is two tables of 174 bytes, which are lent to the scan and
 // changed in place.
+#![tactic(auto)]
+
 use program::MOST_LOCATIONS;
 
 mod calls;
@@ -21,7 +23,7 @@ pub use calls::{check, judge};
 
 // A standing and a kind for each of up to 174 locations, and the index of the next command, as one
 // value: for the number of a refusal. The definitions of specs/ speak of it.
-#[derive(Drop)]
+#[derive(Clone, Copy)]
 pub struct Scan {
     pub standing: [u8; MOST_LOCATIONS],
     pub kind: [u8; MOST_LOCATIONS],
@@ -30,7 +32,7 @@ pub struct Scan {
 
 // What goes from command to command beside the tables of standings and kinds: the index of the next
 // command, how many R commands before it have a result, and whether it is refused.
-#[derive(Drop)]
+#[derive(Clone, Copy)]
 pub struct Progress {
     pub next: u8,
     pub results: u8,
@@ -39,7 +41,7 @@ pub struct Progress {
 
 // A reactor, and what is read once for all of its commands: the header's counts of shapes and globals,
 // and the reactor's own shape and counts.
-#[derive(Drop)]
+#[derive(Clone, Copy)]
 pub struct Facts {
     pub reactor: u8,
     pub shapes: u8,
@@ -52,7 +54,7 @@ pub struct Facts {
 }
 
 // What the tables say of one location.
-#[derive(Drop)]
+#[derive(Clone, Copy)]
 pub struct Location {
     pub standing: u8,
     pub kind: u8,

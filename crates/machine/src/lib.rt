@@ -7,6 +7,8 @@
 // completed run leaves its sinks, cells with what was kept (keeps) and cleared words (finish), a refused
 // one is undone in place (undo); these go over the deployments (passes). A turn copies no memory, a preview
 // copies it once; the work of a turn is linear in the program's bytes and memory's words.
+#![tactic(auto)]
+
 mod allocate;
 mod asked;
 mod back;
@@ -29,7 +31,7 @@ pub use load::check;
 
 // What a command comes to: it has given its result, or has none, and the next one follows; first the
 // deployment named runs; or the turn ends.
-#[derive(Drop)]
+#[derive(Clone, Copy)]
 pub enum Outcome {
     Given,
     Move,
@@ -39,7 +41,7 @@ pub enum Outcome {
 
 // What a pass does to each deployment: fills its cells with what was kept, clears it, or brings it back
 // as it was before the turn.
-#[derive(Drop)]
+#[derive(Clone, Copy)]
 pub enum Each {
     Keep,
     Clear,

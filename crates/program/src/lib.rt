@@ -3,6 +3,8 @@
 //
 // Every function is total: a byte past the end is 0, so no caller has to know that a program is
 // accepted. Result types are as narrow as the counts allow, so that sums of them cannot wrap.
+#![tactic(auto)]
+
 mod bytes;
 mod commands;
 mod entry;
@@ -26,7 +28,7 @@ pub use shape::{shape_at, sink_kind, sinks_in, source_kind, sources_in};
 
 // What a program's first bytes say: the format, and how many shapes, reactors and outside globals
 // there are.
-#[derive(Drop)]
+#[derive(Clone, Copy)]
 pub struct Header {
     pub format: u8,
     pub shapes: u8,
@@ -35,7 +37,7 @@ pub struct Header {
 }
 
 // The eight bytes of a command. The definitions of specs/ speak of this struct.
-#[derive(Drop)]
+#[derive(Clone, Copy)]
 pub struct Command {
     pub code: u8,
     pub x: u8,
@@ -48,7 +50,7 @@ pub struct Command {
 }
 
 // What is asked of a reactor most often, in one number: see facts.rt.
-#[derive(Drop)]
+#[derive(Clone, Copy)]
 pub struct Counts {
     pub word: u64,
 }

@@ -3,6 +3,8 @@
 // Every function is total: it is proved equal to a definition of specs/ for every pair of words
 // that can come, so no caller has to know that a word is legal. To primitives 0 to 9 and 13 an operand
 // of the wrong kind, which no accepted program passes, counts as blank.
+#![tactic(auto)]
+
 mod arithmetic;
 mod formula;
 mod integer;
@@ -18,7 +20,7 @@ pub use table::{is_primitive, is_withdrawn, kinds_fit, operands};
 
 // A mark and a content. A blank has content 0, a number its two's complement, a truth 0 or 1, a
 // reactor its number.
-#[derive(Drop)]
+#[derive(Clone, Copy)]
 pub struct Value {
     pub mark: u32,
     pub content: u32,
@@ -69,7 +71,7 @@ impl Value {
 }
 
 // 1.10 What a primitive takes.
-#[derive(Drop)]
+#[derive(Clone, Copy)]
 pub enum Takes {
     TwoNumbers,
     OneTruth,
@@ -80,7 +82,7 @@ pub enum Takes {
 }
 
 // The kind that a primitive gives: a number; a truth; the kind of its last two operands.
-#[derive(Drop)]
+#[derive(Clone, Copy)]
 pub enum Gives {
     ANumber,
     ATruth,
@@ -88,7 +90,7 @@ pub enum Gives {
 }
 
 // The primitives on two numbers.
-#[derive(Drop)]
+#[derive(Clone, Copy)]
 pub enum Operation {
     Add,
     Subtract,

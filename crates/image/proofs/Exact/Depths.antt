@@ -12,7 +12,7 @@ use Rattle.image.specs.Fault.{SlotsRight}
 use Rattle.image.specs.Passes.{over, table_byte, blank_table, one_deeper, deepen, children_of, visit, table_after}
 use Rattle.image.specs.Passes.{fits}
 use Rattle.image.specs.declared.Pass.TheVariants.{Depths}
-use Rattle.image.proofs.Exact.Lists.{◌∈◌, same, Rising, rises, rising_from}
+use Rattle.image.proofs.Exact.Lists.{ends, ◌∈◌, same, Rising, rises, rising_from}
 use Rattle.image.proofs.Exact.Tables.{over_keeps, entry_other, blank_main, writes, writes_length, writes_keep}
 use Rattle.image.proofs.Exact.Tables.{writes_set}
 use Rattle.image.proofs.Exact.Tiling.{Laid, starts, table_of, start_in, start_rising, main_deployed, deployed_one}
@@ -68,6 +68,7 @@ module _ (p m : List ℕ) (laid : Laid p m) (right : (o : ℕ) → Deployed p m 
       ((a : ℕ) → a ∈ l → Deployed p m a) → ((a : ℕ) → a ∈ l → d ∈ children_of p m a → a ≡ o) → d / 3 < length t →
       d ∈ children_of p m o → o ∈ l → table_byte (over level t l) d ≡ one_deeper (table_byte (over level t l) o)
   unfolding over
+  levels_set {d = d} y o t (ends {a = a}) dep only g i k = elim k [ ]
   levels_set {d} y o t (rises {b = a} {l = l} h r) dep only g i (first e) =
       let z = dep a (first refl) in
       let own = children_apart z z (λ k. omega (arith, (child_above p m laid right z k).1)) in

@@ -36,6 +36,7 @@ pub data Rising : ℕ → List ℕ → Type 0 where
   rises : {a b : ℕ} {l : List ℕ} → a ≤ b → Rising (suc b) l → Rising a (b ∷ l)
 
 pub rising_from : {a d : ℕ} {l : List ℕ} → Rising a l → d ∈ l → a ≤ d
+rising_from {d = d} (ends {a = a}) i = elim i [ ]
 rising_from (rises h r) (first e) = omega arith
 rising_from (rises h r) (later i) = let q = rising_from r i in omega arith
 

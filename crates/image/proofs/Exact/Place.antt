@@ -63,7 +63,7 @@ module _ (p m : List ℕ) where
   -- ---- turns 0
 
   -- where main ends below u, a second deployment begins
-  second_in : (u : ℕ) {a : ℕ} → Tiles p m u a → a < u → a + size_at p m a ≢ u → In p m u a (a + size_at p m a)
+  second_in : {a : ℕ} (u : ℕ) → Tiles p m u a → a < u → a + size_at p m a ≢ u → In p m u a (a + size_at p m a)
   second_in u done l n = absurd (omega arith)
   second_in u (more l r done) k n = absurd (n refl)
   second_in u (more l r (more l' r' t)) k n = there l (here l')

@@ -110,6 +110,7 @@ module _ (v : List ℕ → ℕ → ℕ) where
       ((s : List ℕ) (a : ℕ) → a ∈ l → d / 3 ≡ a / 3 → P s → v s a ≡ x) → P t → d / 3 < length t → d ∈ l →
       table_byte (over writes t l) d ≡ x
   unfolding over
+  writes_set P x d [] t keeps gives k h i = elim i [ ]
   writes_set P x d (a ∷ l) t keeps gives k h (first e) =
       let q : d / 3 ≡ a / 3 = ap (λ (n : ℕ). n / 3) e in
       (over_keeps writes (λ (s : List ℕ). P s × (d / 3 < length s) × (table_byte s d ≡ x)) l (writes t a)

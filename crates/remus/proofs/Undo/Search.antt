@@ -27,8 +27,8 @@ below_from : {p m : List ℕ} {u c₀ c : ℕ} (f n : ℕ) (s : List ℕ) → ((
 below_from zero n s same low new k h = absurd (omega arith)
 below_from {u = u} {c₀ = c₀} (suc f) n s same low as_was k h = below_here s u f c₀ low
 below_from (suc f) n s same low (one_more dep l new) end h = absurd (omega arith)
-below_from {u = u} (suc f) n s same low (one_more {c = c} dep l new) (one {n = k} e more) h =
-    below_next s u f c l ∙ ap (below f s u) (same c l) ∙ below_from f k s same low new more (omega arith)
+below_from {m = m} {u = u} (suc f) n s same low (one_more {c = c} dep l new) (one {n = k} e more) h =
+    below_next s u f c l ∙ ap (below f s u) (same c l) ∙ below_from {c = next m c} f k s same low new more (omega arith)
 
 pub below_newer : {p m : List ℕ} {o x u c₀ c : ℕ} (s : List ℕ) → ((d : ℕ) → u ≤ d → next s d ≡ next m d) → c₀ < u
     → Newer p m u c₀ c → Chain p m o x c → Tiles p m (used m) main_at → below (reactors p + 1) s u c ≡ c₀

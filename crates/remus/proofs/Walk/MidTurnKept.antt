@@ -28,6 +28,8 @@ module _ (p : List ℕ) where
 
   deploys_takes : (c : Cmd) → Deploys c → takes_words c ≡ true
   unfolding takes_words
+  deploys_takes (cell _ v) h = elim h [ ]
+  deploys_takes (keep a b) h = elim h [ ]
   deploys_takes (alloc_mono x) h = refl
   deploys_takes (make_poly x) h = refl
   deploys_takes (gives y) h = refl

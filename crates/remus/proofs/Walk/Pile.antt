@@ -34,6 +34,7 @@ pub data Falling : ℕ → List Frame → Type 0 where
   on : {u : ℕ} {f : Frame} {fs : List Frame} → f.at < u → Falling f.at fs → Falling u (f ∷ fs)
 
 pub falls : {u o i : ℕ} {fs : List Frame} → Falling u fs → Open o i fs → o < u
+falls {o = o} {i = i} (grounded {u = u}) z = elim z [ ]
 falls (on h w) (first e q) = rw (← e) h
 falls (on {f = f} h w) (later z) = let k = falls w z in omega arith
 
