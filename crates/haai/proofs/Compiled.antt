@@ -1,6 +1,5 @@
 -- The call by what is found of a text: the ladder of its answers, and that tables and code are the whole.
 use Rattle.value.specs.Prelude.{ℕ, ◌+◌, ◌*◌, ◌≤◌, ◌<◌, ◌≡◌, refl, sym, ◌∙◌, ap, true, false, List, ◌++◌, length, arith}
-use Rattle.value.specs.Test.{◌≤?◌, ◌=?◌}
 use Rattle.value.proofs.Tests.{goes, stops, eq!, eq×, le!, le×}
 use lib.ListN.{length-append}
 use Rattle.image.specs.Memory.{patch}
@@ -8,10 +7,10 @@ use Rattle.image.proofs.Memory.Patch.{patch-length}
 use Rattle.answer.specs.declared.Answer.TheVariants.{Done, Refused}
 use Rattle.answer.specs.declared.Refusal.TheVariants.{TextForm, TextName, OutputSpace}
 use Rattle.haai.specs.Grammar.{Formed, items, fault, form_of}
-use Rattle.haai.specs.Names.{Known, nothing, learn_all, fault_of, text_of}
+use Rattle.haai.specs.Names.{Known, fault_of, text_of}
 use Rattle.haai.specs.Syntax.{Text}
 use Rattle.haai.specs.Emit.{code_of, program_of, within_limits}
-use Rattle.haai.specs.Compile.{Compilation, refused, written, by_names, by_form, compile_of}
+use Rattle.haai.specs.Compile.{refused, written, by_names, by_form, compile_of}
 use Rattle.haai.specs.Clauses.{check_of, compiled}
 use Rattle.haai.specs.Tables.{items_of, known_by, rows_fit, rows_length}
 use Rattle.haai.specs.Writing.{tables_of, Clean, Writable}

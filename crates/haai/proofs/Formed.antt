@@ -1,5 +1,5 @@
 -- Well-formed trees, and programs that are laid out as a tree says: stretches of a reactor's commands.
-use Rattle.value.specs.Prelude.{ℕ, ◌+◌, ◌-◌, ◌≤◌, ◌<◌, ◌≡◌, sym, ◌∙◌, ap, List, [], ◌∷◌, ◌++◌, length, get_or, arith}
+use Rattle.value.specs.Prelude.{ℕ, ◌+◌, ◌-◌, ◌≤◌, ◌<◌, ◌≡◌, sym, ◌∙◌, ap, List, ◌∷◌, ◌++◌, length, get_or, arith}
 use lib.ListN.{length-append, get_or-append}
 use lib.Seq.{get_or-append-add}
 use Rattle.program.specs.Bytes.{reactors, commands_d, commands_in}

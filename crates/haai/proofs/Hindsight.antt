@@ -10,7 +10,7 @@ use Rattle.haai.specs.Syntax.{Operator, sign, reactor, Expr, Exprs, constant, ap
 use Rattle.haai.specs.Names.{Opened, Known, unless, fresh, meant, fit_operand, operator_of, no_definition}
 use Rattle.haai.specs.Names.{definition_of, callable, takes, add_source, add_reactor, add_parameter, with_pile}
 use Rattle.haai.specs.Names.{add_expr, add_operator, closed, add_definition, learn}
-use Rattle.haai.specs.Emit.{allocates, calls, steps, declared, running}
+use Rattle.haai.specs.Emit.{allocates, steps, declared, running}
 use Rattle.haai.specs.Tables.{declared_from, running_from}
 use Rattle.haai.specs.declared.Role.{Role}
 use Rattle.haai.specs.declared.Role.TheVariants.{Source, Reactor, Parameter, Operand, Constant}

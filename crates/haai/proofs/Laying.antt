@@ -9,7 +9,7 @@ use Rattle.program.specs.Encode.{encode_all}
 use Rattle.program.proofs.Encode.{length-encode_all}
 use Rattle.haai.specs.Syntax.{Exprs, Definition}
 use Rattle.haai.specs.Names.{Opened, Known, with_pile}
-use Rattle.haai.specs.Emit.{declared, commands_of, code_of}
+use Rattle.haai.specs.Emit.{commands_of, code_of}
 use Rattle.haai.specs.Tables.{declared_from, running_from}
 use Rattle.haai.specs.Writing.{put_commands, place_d, place_r, first_at}
 use Rattle.haai.specs.declared.Cursor.{Cursor}

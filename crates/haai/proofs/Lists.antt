@@ -1,5 +1,5 @@
 -- Lengths and positions of the lists of commands and locations that a tree gives.
-use Rattle.value.specs.Prelude.{ℕ, zero, suc, ◌+◌, ◌≤◌, ◌<◌, ◌≡◌, refl, sym, ◌∙◌, ap, List, [], ◌∷◌, ◌++◌, length, get_or}
+use Rattle.value.specs.Prelude.{ℕ, zero, suc, ◌+◌, ◌<◌, ◌≡◌, refl, sym, ◌∙◌, ap, List, [], ◌∷◌, ◌++◌, length, get_or}
 use Rattle.value.specs.Prelude.{arith}
 use lib.ListN.{length-append, get_or-append}
 use lib.Seq.{get_or_at}

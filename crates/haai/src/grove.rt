@@ -71,7 +71,7 @@ fn own_runs(o: usize, c: usize) -> u8
 }
 
 impl Tree {
-    pub(crate) fn grounded(self) -> Tree
+    pub(crate) fn ground(self) -> Tree
         ensures { result ≡ Y.grounded self }
     {
         Tree {

@@ -139,7 +139,7 @@ pub(crate) fn learn(
         },
         Role::Reactor => Knowing {
             tally: v.add_reactor(t, a, w, places),
-            tree: u.grounded(),
+            tree: u.ground(),
         },
         Role::Parameter => Knowing {
             tally: v.add_parameter(t, a, w, places),

@@ -1,5 +1,5 @@
 -- Commands as bytes: how long they are, where each stands among others, and `reads_back`.
-use Rattle.value.specs.Prelude.{ℕ, zero, suc, ◌+◌, ◌*◌, ◌/◌, ◌%◌, ◌≤◌, ◌<◌, ◌≡◌, refl, sym, ◌∙◌, ap, List, [], ◌∷◌, ◌++◌}
+use Rattle.value.specs.Prelude.{ℕ, zero, suc, ◌+◌, ◌*◌, ◌/◌, ◌%◌, ◌<◌, ◌≡◌, refl, sym, ◌∙◌, ap, List, [], ◌∷◌, ◌++◌}
 use Rattle.value.specs.Prelude.{length, get_or, arith}
 use Rattle.value.specs.Test.{pick, ◌=?◌}
 use lib.ListN.{length-append, get_or-append}

@@ -11,7 +11,7 @@ fn wide(x: u8) -> u32
 
 // The word at byte j.
 fn word_at(s: &[u8], j: usize) -> u32
-    requires* { do ⌜ j + 3 < (← ⟦s.len()⟧) ⌝ }
+    requires { j + 3 < length s.now }
     ensures { let b = s.now in
         result ≡ word (get_or b j 0) (get_or b (j + 1) 0) (get_or b (j + 2) 0) (get_or b (j + 3) 0) }
 {
@@ -33,7 +33,7 @@ pub(crate) fn load(s: &[u8], w: &mut [u32])
 
 // The word at byte j becomes v.
 fn put_at(s: &mut [u8], j: usize, v: u32)
-    requires* { do ⌜ j + 3 < (← ⟦s.len()⟧) ⌝ }
+    requires { j + 3 < length s.now }
     ensures { s.new ≡ put_at s.old j v }
 {
     s[j] = (v % 256) as u8;

@@ -2,7 +2,6 @@
 -- stays an atom. A call's arguments are computed before the call: `pick` is for small answers; what recurses goes by
 -- `guard` or by clauses on the test.
 use Rattle.value.specs.Prelude.{ℕ, zero, suc, ◌+◌, Bool, true, false, ◌==◌, nat_le, nat_lt}
-use Rattle.std.specs.Prelude.{eqb, ltb, leb}
 
 -- t ? x : y
 unfoldable pub pick : {A : Type 0} → Bool → A → A → A

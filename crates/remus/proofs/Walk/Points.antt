@@ -3,7 +3,7 @@ use Rattle.value.specs.Prelude.{ℕ, ◌≤◌, ◌<◌, ◌≡◌, refl, sym, �
 use Rattle.value.specs.Value.{deployment_mark}
 use Rattle.value.specs.Primitive.{operands}
 use Rattle.value.proofs.Tests.{eq?}
-use Rattle.program.specs.Bytes.{globals, commands_in}
+use Rattle.program.specs.Bytes.{commands_in}
 use Rattle.program.specs.Command.{Cmd, alloc_mono, make_poly, constant, global, supply, react, consume, sink, alloc_poly}
 use Rattle.program.specs.Command.{primitive, cell, fetch, keep, none, gives}
 use Rattle.program.specs.Location.{source_count, sink_count, cmd_at}

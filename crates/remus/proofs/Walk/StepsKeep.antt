@@ -5,7 +5,7 @@ use Rattle.value.specs.Prelude.{length, arith}
 use Rattle.value.specs.Test.{◌=?◌}
 use Rattle.value.specs.Value.{deployment_mark}
 use Rattle.value.proofs.Tests.{cases, eq!, eq×, eq?, eq×?, yes, no, same?}
-use Rattle.program.specs.Bytes.{reactors, commands_d, commands_in}
+use Rattle.program.specs.Bytes.{commands_d, commands_in}
 use Rattle.program.specs.Command.{react}
 use Rattle.program.specs.Location.{source_count, HasSlot}
 use Rattle.image.specs.Memory.{main_at, used, reactor, wired, mark, content, with_wired}

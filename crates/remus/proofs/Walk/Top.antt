@@ -3,7 +3,7 @@
 use Rattle.value.specs.Prelude.{ℕ, ◌+◌, ◌≤◌, ◌<◌, ◌≡◌, refl, sym, ◌∙◌, ◌⊎◌, inl, inr, ⊎_map, ◌≢◌, List, ◌∷◌}
 use Rattle.value.specs.Prelude.{length, arith}
 use Rattle.value.proofs.Tests.{same?}
-use Rattle.program.specs.Bytes.{reactors, commands_in}
+use Rattle.program.specs.Bytes.{commands_in}
 use Rattle.program.specs.Command.{Cmd, sequence_of, D, alloc_mono, make_poly, supply, react, sink, alloc_poly, cell, keep}
 use Rattle.program.specs.Command.{none, gives}
 use Rattle.image.specs.Memory.{reactor}

@@ -4,7 +4,7 @@ use Rattle.value.specs.Prelude.{ℕ, suc, ◌+◌, ◌-◌, ◌≤◌, ◌<◌, 
 use Rattle.value.specs.Prelude.{false, List, [], ◌∷◌, ◌++◌, length, arith}
 use Rattle.value.specs.Test.{◌=?◌}
 use Rattle.value.proofs.Tests.{eq?, eq×?, same?}
-use Rattle.program.specs.Bytes.{reactors, globals, global_kind, commands_d, commands_in}
+use Rattle.program.specs.Bytes.{globals, global_kind, commands_d, commands_in}
 use Rattle.program.specs.Command.{Cmd, cmd_of, takes_words, alloc_mono, make_poly, supply, react, sink, alloc_poly, cell}
 use Rattle.program.specs.Command.{keep, none, gives}
 use Rattle.program.specs.Location.{size_of}

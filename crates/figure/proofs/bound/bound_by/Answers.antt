@@ -1,0 +1,43 @@
+use Rattle.value.specs.Prelude.{ℕ, ◌+◌, ◌*◌, ◌≡◌, ◌∙◌, ap, ap₂, List, arith}
+use Rattle.program.specs.Bytes.{byte, commands_d, commands_at}
+use Rattle.image.specs.Clauses.{made_of}
+use Rattle.image.proofs.MadeByBytes.{made_at}
+use Rattle.figure.specs.Bound.{sum_below, share, bound_by}
+use Rattle.figure.specs.Clauses.{capped}
+use Rattle.figure.proofs.Sums.{sum_next}
+use Rattle.figure.proofs.Capping.{capped_low, capped_add}
+use Rattle.figure.proofs.bound.bound_by.Invariants.{adds}
+use Rattle.figure.proofs.bound.bound_by.Goals as goal
+
+pub loop-j-init : goal.loop-j-init
+unfolding sum_below
+loop-j-init c = let small = c.size-sum.ensures.small in
+    (omega arith, λ r b e t s. capped_low (omega arith) ∙ ap capped (omega arith))
+
+-- one command more
+one_more : (p : List ℕ) (b : ℕ → ℕ) (r at j code x first m n : ℕ) → at ≡ commands_at p r → code ≡ byte p (at + 8 * j)
+    → x ≡ byte p (at + 8 * j + 1) → m ≡ capped (first + sum_below (adds p b r) j)
+    → n ≡ capped (share p b (made_of code x)) → capped (m + n) ≡ capped (first + sum_below (adds p b r) (j + 1))
+one_more p b r at j code x first m n e f g h k =
+    capped_add _ _ h (k ∙ ap (λ y. capped (share p b y)) (made_at p r j at code x e f g))
+    ∙ ap capped (omega (arith, sum_next (adds p b r) j))
+
+pub loop-j-preserved : goal.loop-j-preserved
+loop-j-preserved c = let inv = c.loop-j.invariant in (
+  omega arith,
+  λ r b e t s. c.add-sum.ensures ∙ one_more _ b r _ _ _ _ _ _ _ e c.byte.ensures
+      c.byte-in-loop-j.ensures (inv.1 r b e t s) (c.share.ensures _ b t s),
+)
+
+pub returns : goal.returns
+unfolding bound_by
+returns c = λ r b k t s.
+    let size = c.size-sum.ensures.is _ r k in
+    let count = c.commands_d-n.ensures _ r k in
+    let p = c.args.program.now in
+    let all : c.loop-j.j ≡ commands_d p r = omega arith in
+    c.loop-j.invariant.1 r b (c.at-at.ensures.is _ r k) t s
+    ∙ ap₂ (λ m j. capped (m + sum_below (adds p b r) j)) size all
+
+pub overflow_cast-sum : goal.overflow_cast-sum
+overflow_cast-sum c = omega (arith, c.size-sum.ensures.small)

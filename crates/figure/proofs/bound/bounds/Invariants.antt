@@ -1,0 +1,10 @@
+use Rattle.value.specs.Prelude.{◌-◌, ◌≤◌, get_or}
+use Rattle.figure.specs.Bound.{bounds_after}
+use Rattle.figure.specs.Clauses.{Capped}
+use Rattle.figure.proofs.bound.bounds.Given as goal
+
+abbrev pub invariant-loop-k : goal.invariant-loop-k
+invariant-loop-k l = (l.k ≤ l.n) × Capped l.t (λ q. get_or (bounds_after l.k l.program) q 0)
+
+abbrev pub decreases-loop-k : goal.decreases-loop-k
+decreases-loop-k l = l.n - l.k

@@ -1,0 +1,35 @@
+use Rattle.value.specs.Prelude.{ℕ, ◌+◌, ◌*◌, ◌≡◌, refl, ◌∙◌, ap, ◌||◌, Bool, List, arith}
+use Rattle.value.proofs.Tests.{same_or}
+use Rattle.program.specs.Bytes.{byte, commands_at}
+use Rattle.program.specs.Command.{made_by, cmd_of}
+use Rattle.image.specs.Clauses.{made_of}
+use Rattle.image.proofs.MadeByBytes.{made_at}
+use Rattle.figure.specs.Steps.{anywhere, goes_to, leads}
+use Rattle.figure.proofs.Sums.{anywhere_next}
+use Rattle.figure.proofs.steps.leads.Goals as goal
+
+pub loop-j-init : goal.loop-j-init
+unfolding anywhere
+loop-j-init c = (omega arith, λ r e. refl)
+
+-- one command more
+one_more : (p : List ℕ) (r q at j code x : ℕ) (s t : Bool) → at ≡ commands_at p r → code ≡ byte p (at + 8 * j)
+    → x ≡ byte p (at + 8 * j + 1) → t ≡ goes_to p q (made_of code x)
+    → s ≡ anywhere (λ i. goes_to p q (made_by (cmd_of p r i))) j
+    → (s || t) ≡ anywhere (λ i. goes_to p q (made_by (cmd_of p r i))) (j + 1)
+one_more p r q at j code x s t e f g h k =
+    same_or k (h ∙ ap (goes_to p q) (made_at p r j at code x e f g))
+    ∙ anywhere_next (λ i. goes_to p q (made_by (cmd_of p r i))) j
+
+pub loop-j-preserved : goal.loop-j-preserved
+loop-j-preserved c = let inv = c.loop-j.invariant in (
+  omega arith,
+  λ r e. one_more _ r _ _ _ _ _ _ _ e c.byte.ensures c.byte-in-loop-j.ensures
+      c.goes_to-some.ensures (inv.1 r e),
+)
+
+pub returns : goal.returns
+unfolding leads
+returns c = λ r t.
+    let e = c.commands_d-n.ensures _ r t in
+    c.loop-j.invariant.1 r (c.at-at.ensures.is _ r t) ∙ ap (anywhere _) (omega arith)

@@ -1,0 +1,7 @@
+use Rattle.value.specs.Prelude.{refl}
+use Rattle.haai.specs.Grammar.{begin}
+use Rattle.haai.proofs.Reading.begin.Goals as goal
+
+pub returns : goal.returns
+unfolding begin
+returns c = refl

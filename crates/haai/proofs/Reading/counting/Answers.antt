@@ -1,0 +1,7 @@
+use Rattle.value.specs.Prelude.{refl}
+use Rattle.haai.specs.Grammar.{counting}
+use Rattle.haai.proofs.Reading.counting.Goals as goal
+
+pub returns : goal.returns
+unfolding counting
+returns c = refl

@@ -1,0 +1,7 @@
+use Rattle.value.specs.Prelude.{refl}
+use Rattle.haai.specs.Grammar.{deepened}
+use Rattle.haai.proofs.Reading.deepened.Goals as goal
+
+pub returns : goal.returns
+unfolding deepened
+returns c = refl

@@ -1,0 +1,7 @@
+use Rattle.value.specs.Prelude.{refl}
+use Rattle.haai.specs.Grammar.{defined}
+use Rattle.haai.proofs.Reading.defined.Goals as goal
+
+pub returns : goal.returns
+unfolding defined
+returns c = refl

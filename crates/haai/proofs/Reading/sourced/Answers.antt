@@ -1,0 +1,7 @@
+use Rattle.value.specs.Prelude.{refl}
+use Rattle.haai.specs.Grammar.{sourced}
+use Rattle.haai.proofs.Reading.sourced.Goals as goal
+
+pub returns : goal.returns
+unfolding sourced
+returns c = refl

@@ -1,0 +1,5 @@
+use Rattle.value.specs.Prelude.{refl}
+use Rattle.haai.proofs.Tally.own_names.Goals as goal
+
+pub returns : goal.returns
+returns c = refl

@@ -1,0 +1,8 @@
+use Rattle.value.specs.Prelude.{ℕ, ◌∙◌, ap, get_or}
+use Rattle.haai.specs.Places.{place_at}
+use Rattle.haai.proofs.Tree.entry.Goals as goal
+
+pub returns : goal.returns
+unfolding place_at
+returns c = let pl = c.args.pile.now in
+    c.place.ensures ∙ ap (λ (n : ℕ). get_or pl n 0) c.innermost.ensures

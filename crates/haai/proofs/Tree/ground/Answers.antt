@@ -1,0 +1,7 @@
+use Rattle.value.specs.Prelude.{refl}
+use Rattle.haai.specs.Tables.{grounded}
+use Rattle.haai.proofs.Tree.ground.Goals as goal
+
+pub returns : goal.returns
+unfolding grounded
+returns c = refl

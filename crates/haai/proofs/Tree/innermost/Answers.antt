@@ -1,0 +1,5 @@
+use Rattle.value.specs.Prelude.{arith}
+use Rattle.haai.proofs.Tree.innermost.Goals as goal
+
+pub returns : goal.returns
+returns c = let e = c.one_less.ensures in omega arith

@@ -1,0 +1,7 @@
+use Rattle.value.specs.Prelude.{refl}
+use Rattle.haai.specs.Tables.{levelled}
+use Rattle.haai.proofs.Tree.levelled.Goals as goal
+
+pub returns : goal.returns
+unfolding levelled
+returns c = refl

@@ -1,0 +1,21 @@
+use Rattle.value.specs.Prelude.{sym, ◌∙◌, ap}
+use Rattle.haai.specs.Compile.{Compilation}
+use Rattle.haai.specs.Clauses.{compiled}
+use Rattle.haai.proofs.Compiled.{right_goes, wrong_stops}
+use Rattle.haai.proofs.calls.compile.Goals as goal
+
+pub compile_formed-requires : goal.compile_formed-requires
+compile_formed-requires c = sym c.form.ensures ∙ c.in-Right.is
+
+pub returns-in-Right : goal.returns-in-Right
+unfolding compiled
+returns-in-Right c = let form = sym c.form.ensures ∙ c.in-Right.is in
+    let done = c.compile_formed.ensures
+    ∙ right_goes (c.args.text.now) (c.args.output.now) form in
+    record { answer = ap (λ (r : Compilation). r.answer) done; output = ap (λ (r : Compilation). r.output) done }
+
+pub returns-in-Wrong : goal.returns-in-Wrong
+unfolding compiled
+returns-in-Wrong c = let form = sym c.form.ensures ∙ c.in-Wrong.is in
+    let done = wrong_stops (c.args.text.now) (c.args.output.now) _ form in
+    record { answer = ap (λ (r : Compilation). r.answer) done; output = ap (λ (r : Compilation). r.output) done }

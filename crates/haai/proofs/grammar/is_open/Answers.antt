@@ -1,0 +1,59 @@
+use Rattle.std.proofs.Common.{rules}
+use Rattle.haai.specs.Grammar.{is_open}
+use Rattle.haai.proofs.grammar.is_open.Goals as goal
+
+pub enum_told-1 : goal.enum_told-1
+unfolding is_open
+enum_told-1 c = search rules
+
+pub enum_told-in-Shut : goal.enum_told-in-Shut
+unfolding is_open
+enum_told-in-Shut c = search rules
+
+pub enum_told-in-Sign : goal.enum_told-in-Sign
+unfolding is_open
+enum_told-in-Sign c = search rules
+
+pub enum_told-in-Number : goal.enum_told-in-Number
+unfolding is_open
+enum_told-in-Number c = search rules
+
+pub enum_told-in-Taken : goal.enum_told-in-Taken
+unfolding is_open
+enum_told-in-Taken c = search rules
+
+pub enum_told-in-Name : goal.enum_told-in-Name
+unfolding is_open
+enum_told-in-Name c = search rules
+
+pub enum_told-in-Other : goal.enum_told-in-Other
+unfolding is_open
+enum_told-in-Other c = search rules
+
+pub returns-in-Open : goal.returns-in-Open
+unfolding is_open
+returns-in-Open c = rw c.in-Open.is
+
+pub returns-in-Shut : goal.returns-in-Shut
+unfolding is_open
+returns-in-Shut c = rw c.in-Shut.is
+
+pub returns-in-Sign : goal.returns-in-Sign
+unfolding is_open
+returns-in-Sign c = rw c.in-Sign.is
+
+pub returns-in-Number : goal.returns-in-Number
+unfolding is_open
+returns-in-Number c = rw c.in-Number.is
+
+pub returns-in-Taken : goal.returns-in-Taken
+unfolding is_open
+returns-in-Taken c = rw c.in-Taken.is
+
+pub returns-in-Name : goal.returns-in-Name
+unfolding is_open
+returns-in-Name c = rw c.in-Name.is
+
+pub returns-in-Other : goal.returns-in-Other
+unfolding is_open
+returns-in-Other c = rw c.in-Other.is

@@ -1,0 +1,13 @@
+use Rattle.value.specs.Prelude.{ℕ, ◌∙◌, ap, Bool}
+use Rattle.haai.specs.Tables.{open_grove, callable_in, operator_kept}
+use Rattle.haai.specs.Places.{blamed}
+use Rattle.haai.proofs.Kept.{kept_grove}
+use Rattle.haai.proofs.learn.learn_operator.Goals as goal
+
+pub returns : goal.returns
+unfolding operator_kept
+returns c = let g = c.args in
+    let e = c.operator_of-o.ensures in
+    let calls = c.callable-ok.ensures ∙ ap (callable_in _ _) e in
+    kept_grove _ (c.blame.ensures ∙ ap (λ (b : Bool). blamed b g.a g.v) calls)
+    (c.open_operator.ensures ∙ ap (λ (o : ℕ). open_grove g.u o g.a (g.pile.now)) e)

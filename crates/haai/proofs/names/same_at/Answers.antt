@@ -1,0 +1,30 @@
+use Rattle.value.specs.Prelude.{ℕ, refl, sym, ◌∙◌, ap, List, arith}
+use Rattle.value.proofs.Tests.{same_eq}
+use Rattle.haai.specs.Word.{same_word, bytes_of}
+use Rattle.haai.specs.Places.{word_of}
+use Rattle.haai.proofs.Ahead.{end_in}
+use Rattle.haai.proofs.Placed.{no_word, same_none}
+use Rattle.haai.proofs.names.same_at.Goals as goal
+
+pub returns-then-t-a : goal.returns-then-t-a
+returns-then-t-a c = let w = c.args.w.now in
+    let t = c.args.t.now in
+    same_eq refl refl
+    ∙ same_none w
+    ∙ ap (λ (l : List ℕ). same_word l w) (sym (no_word t c.args.a c.if-t-a.true))
+
+pub returns : goal.returns
+unfolding word_of bytes_of
+returns c = let t = c.args.t.now in
+    let w = c.args.w.now in
+    let a = c.args.a in
+    c.same.ensures ∙ ap (λ (e : ℕ). same_word (bytes_of t a e) w) c.word_end-e.ensures
+
+pub slice_bounds-same-count : goal.slice_bounds-same-count
+slice_bounds-same-count c = omega (arith, end_in _ _ c.if-t-a.false _ c.word_end-e.ensures)
+
+pub slice_bounds-same-start : goal.slice_bounds-same-start
+slice_bounds-same-start c = omega (arith, end_in _ _ c.if-t-a.false _ c.word_end-e.ensures)
+
+pub slice_bounds-same-end : goal.slice_bounds-same-end
+slice_bounds-same-end c = omega (arith, end_in _ _ c.if-t-a.false _ c.word_end-e.ensures)

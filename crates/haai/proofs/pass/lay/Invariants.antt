@@ -1,0 +1,11 @@
+use Rattle.value.specs.Prelude.{◌-◌, length}
+use Rattle.haai.specs.Tables.{kept}
+use Rattle.haai.proofs.Passing.{Passing}
+use Rattle.haai.proofs.pass.lay.Given as goal
+
+abbrev pub invariant-loop-a : goal.invariant-loop-a
+invariant-loop-a l =
+    Passing l.t l.sizes l.end l.initial.out l.s l.a (kept l.k.tally l.k.tree l.places l.table l.pile) l.ls l.out
+
+abbrev pub decreases-loop-a : goal.decreases-loop-a
+decreases-loop-a l = length l.t - l.a

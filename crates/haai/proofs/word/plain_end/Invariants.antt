@@ -1,0 +1,12 @@
+use Rattle.value.specs.Prelude.{ℕ, ◌-◌, ◌≡◌, not, length}
+use Rattle.value.specs.Test.{sweep}
+use Rattle.program.specs.Bytes.{byte}
+use Rattle.haai.specs.Word.{ends_word}
+use Rattle.haai.specs.Clauses.{plain_end}
+use Rattle.haai.proofs.word.plain_end.Given as goal
+
+abbrev pub invariant-loop-j : goal.invariant-loop-j
+invariant-loop-j l = plain_end l.t l.i ≡ sweep (λ (j : ℕ). not (ends_word (byte l.t j))) l.j (length l.t - l.j)
+
+abbrev pub decreases-loop-j : goal.decreases-loop-j
+decreases-loop-j l = length l.t - l.j

@@ -1,0 +1,19 @@
+use Rattle.std.proofs.Common.{not}
+use Rattle.value.specs.Prelude.{ℕ, refl, ◌∙◌, ap, false≢true, List}
+use Rattle.image.specs.Memory.{main_at}
+use Rattle.image.specs.Passes.{with_table_byte}
+use Rattle.value.proofs.Tests.{passed}
+use Rattle.image.proofs.sweep.begun.Goals as goal
+
+pub returns-then-not-mark_tiles : goal.returns-then-not-mark_tiles
+returns-then-not-mark_tiles c = λ p f e. absurd (false≢true e)
+
+pub returns : goal.returns
+returns c = λ p f e.
+    let marks = c.mark_tiles.ensures in
+    let went = passed refl (ap not c.if-not-mark_tiles.false) in
+    record {
+      tiled = marks.tiled p f went;
+      marked = c.put_table_byte.ensures
+          ∙ ap (λ (t : List ℕ). with_table_byte t main_at 5) (marks.marked p f went);
+    }

@@ -1,0 +1,60 @@
+use Rattle.std.proofs.Common.{not}
+use Rattle.std.proofs.Common.{ap}
+use Rattle.value.specs.Prelude.{refl, sym, ◌∙◌, false≢true, arith}
+use Rattle.image.proofs.Merging.{placed_later}
+use Rattle.image.proofs.Sweeping.{chain_swept, chain_further}
+use Rattle.value.proofs.Tests.{passed, lt?, same_lt}
+use Rattle.image.proofs.sweep.sweep_chain.Goals as goal
+
+pub loop-left-init : goal.loop-left-init
+loop-left-init c = (
+  omega arith,
+  refl,
+  refl,
+  c.requires,
+  rw
+      (c.reactors-left.ensures, c.used-last.ensures) (λ t f. f),
+)
+
+pub returns-then-c-lt1 : goal.returns-then-c-lt1
+returns-then-c-lt1 c = λ e. c.loop-left.invariant.4 _ (chain_swept _ _ _ _ _ _ _ _ _ (omega arith))
+
+pub link-requires : goal.link-requires
+link-requires c = c.loop-left.invariant.3
+
+pub returns-then-not-link : goal.returns-then-not-link
+returns-then-not-link c = λ e. absurd (false≢true e)
+
+pub returns-then-not-joins : goal.returns-then-not-joins
+returns-then-not-joins c = λ e. absurd (false≢true e)
+
+pub loop-left-preserved : goal.loop-left-preserved
+loop-left-preserved c = let loop = c.loop-left in
+    let linked = c.link.ensures (passed refl (ap not c.if-not-link.false)) in (
+      omega arith,
+      cc,
+      cc,
+      placed_later _ _ _ _ loop.invariant.3 linked.later,
+      λ t f.
+          loop.invariant.4 t
+          (chain_further _ _ _ _ _ _ _ _ _ _ _ _ _ _ (omega arith) (omega arith)
+          c.reactor-r.ensures
+          (passed c.joins.ensures (ap not c.if-not-joins.false)) c.put_byte.ensures
+          c.next-c.ensures linked f),
+    )
+
+pub returns : goal.returns
+returns c = let l = c.loop-left in
+    λ e. l.invariant.4 _ (chain_swept _ _ _ _ _ _ _ _ _ (lt? (sym (same_lt refl refl) ∙ e)))
+
+pub shape_of-table-then-c-lt1 : goal.shape_of-table-then-c-lt1
+shape_of-table-then-c-lt1 c = cc
+
+pub shape_of-table-then-not-link : goal.shape_of-table-then-not-link
+shape_of-table-then-not-link c = cc
+
+pub shape_of-table-then-not-joins : goal.shape_of-table-then-not-joins
+shape_of-table-then-not-joins c = cc
+
+pub shape_of-table : goal.shape_of-table
+shape_of-table c = cc

@@ -1,0 +1,7 @@
+use Rattle.image.specs.Memory.{word}
+use Rattle.value.specs.Prelude.{refl}
+use Rattle.image.proofs.words.pair_within.Goals as goal
+
+pub returns : goal.returns
+unfolding word
+returns c = refl

@@ -1,0 +1,5 @@
+use Rattle.value.specs.Prelude.{arith}
+use Rattle.load.proofs.Facts.first_sink.Goals as goal
+
+pub returns : goal.returns
+returns c = record { is = omega arith; small = omega arith }

@@ -1,0 +1,6 @@
+use Rattle.value.proofs.Tests.{same_and, same_le}
+use Rattle.value.specs.Prelude.{refl}
+use Rattle.load.proofs.calls.length_legal.Goals as goal
+
+pub returns : goal.returns
+returns c = same_and (same_le refl refl) (same_le refl refl)

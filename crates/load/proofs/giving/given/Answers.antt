@@ -1,0 +1,9 @@
+use Rattle.value.proofs.Tests.{lt!, lt×}
+use Rattle.value.specs.Prelude.{refl, sym, ◌∙◌, arith}
+use Rattle.load.proofs.giving.given.Goals as goal
+
+pub returns-then-right : goal.returns-then-right
+returns-then-right c = record { right = lt! (omega arith) ∙ sym c.if-right.true; kind = λ h. refl }
+
+pub returns-else-right : goal.returns-else-right
+returns-else-right c = record { right = lt× (omega arith) ∙ sym c.if-right.false; kind = λ h. absurd (omega arith) }

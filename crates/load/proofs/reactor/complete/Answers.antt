@@ -1,0 +1,45 @@
+use Rattle.value.specs.Prelude.{ℕ, ◌≤◌, ◌<◌, ◌≡◌, refl, sym, ◌∙◌, ap, true, get_or, arith}
+use Rattle.program.specs.Location.{most_locations}
+use Rattle.load.specs.Scan.{complete, settled, standing_at}
+use Rattle.value.proofs.Sweeps.{sweeps?}
+use Rattle.value.proofs.Tests.{both!, both?, cases, flags, lt?, lt×?, same_test}
+use Rattle.value.specs.Test.{◌<?◌, ◌or◌}
+use Rattle.load.proofs.reactor.complete.Goals as goal
+use Rattle.load.proofs.reactor.complete.Goals.{then-l-lt158, else-l-lt158}
+
+-- nothing is missing where nothing stands
+settled-none : settled 0 ≡ true
+unfolding settled ◌or◌ ◌<?◌
+settled-none = refl
+
+pub loop-l-init : goal.loop-l-init
+loop-l-init c = ((λ e i a b. absurd (omega arith)), (λ h. refl), omega arith)
+
+pub settled_from-all-requires : goal.settled_from-all-requires
+settled_from-all-requires c = elim c.if-l-lt158.branch [ then-l-lt158 v ↦ omega arith | else-l-lt158 v ↦ omega arith ]
+
+pub loop-l-preserved : goal.loop-l-preserved
+loop-l-preserved c = let loop = c.loop-l in
+    let part = c.settled_from-all.ensures in (
+      λ e i a b.
+          let q = both? (sym (flags _ _) ∙ e) in
+          cases (i <? loop.l) (λ m. loop.invariant.0 q.0 i (lt? m) b)
+          (λ m.
+          let w : loop.l ≤ i = lt×? m in
+          part.0 q.1 i (elim c.if-l-lt158.branch [ then-l-lt158 v ↦ omega arith | else-l-lt158 v ↦ omega arith ])
+          (elim c.if-l-lt158.branch [ then-l-lt158 v ↦ omega arith | else-l-lt158 v ↦ omega arith ])),
+      λ h. flags _ _ ∙ both! (loop.invariant.1 h) (part.1 h),
+      omega arith,
+    )
+
+pub returns : goal.returns
+unfolding complete standing_at settled
+returns c = let args = c.args in
+    let loop = c.loop-l in
+    let all = sweeps? (λ (l : ℕ). settled (get_or (args.standing.now) l 0)) 0 most_locations most_locations refl in
+    λ kind m.
+    same_test _ _
+    (λ e. all.1 (λ i low high.
+    cases (i <? args.n) (λ q. let w : i < args.n = lt? q in loop.invariant.0 e i (omega arith) high)
+    (λ q. ap settled (c.requires.within i (lt×? q)) ∙ settled-none)))
+    (λ e. loop.invariant.1 (λ i high. all.0 e i (omega arith) high))

@@ -1,0 +1,44 @@
+use Rattle.value.specs.Prelude.{ℕ, ◌+◌, refl, ◌∙◌, ap}
+use Rattle.load.proofs.Conditions.{right_poly}
+use Rattle.load.proofs.Stands.{stands_as}
+use Rattle.load.specs.Clauses.{state}
+use Rattle.load.specs.Scan.{is_value, kind_at, stand, standing_after, standing_at, used_point, waiting}
+use Rattle.load.specs.declared.Scan.{Scan}
+use Rattle.value.proofs.Tests.{no, same_and, same_and3, same_eq, yes}
+use Rattle.load.proofs.take.alloc_poly.Goals as goal
+
+pub returns-then-right : goal.returns-then-right
+unfolding standing_after is_value standing_at kind_at
+returns-then-right c = let at_put = c.put in
+    let at_if1 = c.if-right in
+    let at_seen2 = c.seen-to in
+    let at_seen = c.seen-from in
+    let at_v = c.v in
+    let args = c.args in
+    let s = state (args.standing.now) (args.kind.now) in
+    let made = same_and3 (same_eq (ap (λ (v : ℕ). args.c.x + v) at_v.ensures) refl)
+    (same_eq at_seen.ensures.standing refl)
+    (same_and (same_eq at_seen2.ensures.standing refl) (same_eq at_seen.ensures.kind
+    (ap (λ (k : ℕ). 2 + k) at_seen2.ensures.kind))) in
+    λ p r. record {
+      told = λ n. right_poly p r (s n) args.c _ _ made;
+      done = λ n. yes _ at_if1.true
+          (c.stand.ensures n
+          ∙ ap (λ (u : Scan). stand u args.here waiting at_seen2.result.kind)
+          (stands_as (args.standing.now) (args.kind.now) n _ at_put.ensures refl)
+          ∙ ap (λ (k : ℕ). stand (stand (s n) args.c.b used_point (kind_at (s n) args.c.b)) args.here waiting
+          k) at_seen2.ensures.kind);
+    }
+
+pub returns-else-right : goal.returns-else-right
+unfolding standing_after is_value standing_at kind_at
+returns-else-right c = let at_seen2 = c.seen-to in
+    let at_seen = c.seen-from in
+    let at_v = c.v in
+    let args = c.args in
+    let s = state (args.standing.now) (args.kind.now) in
+    let made = same_and3 (same_eq (ap (λ (v : ℕ). args.c.x + v) at_v.ensures) refl)
+    (same_eq at_seen.ensures.standing refl)
+    (same_and (same_eq at_seen2.ensures.standing refl) (same_eq at_seen.ensures.kind
+    (ap (λ (k : ℕ). 2 + k) at_seen2.ensures.kind))) in
+    λ p r. record { told = λ n. right_poly p r (s n) args.c _ _ made; done = λ n. no _ c.if-right.false refl }

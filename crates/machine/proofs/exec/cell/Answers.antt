@@ -1,0 +1,13 @@
+use Rattle.machine.proofs.Acting.{stored_at}
+use Rattle.machine.specs.Clauses.{ran_as}
+use Rattle.remus.specs.Exec.{exec}
+use Rattle.remus.specs.Run.{entered, ran}
+use Rattle.value.specs.Prelude.{ap}
+use Rattle.machine.proofs.exec.cell.Goals as goal
+
+pub returns : goal.returns
+unfolding exec entered ran_as
+returns c = let at_put_pair = c.put_pair in
+    let at_of_kind = c.of_kind-first in
+    λ p h o i at enter rd.
+    rw (← at_of_kind.ensures) (ap ran (stored_at p _ o _ _ at _ at_put_pair.ensures))

@@ -1,0 +1,12 @@
+use Rattle.value.specs.Prelude.{ℕ, ◌-◌, ◌≡◌}
+use Rattle.machine.specs.Clauses.{no_cell}
+use Rattle.program.specs.Bytes.{commands_at}
+use Rattle.value.specs.Test.{sweep}
+use Rattle.machine.proofs.keeps.has_cell.Given as goal
+
+abbrev pub invariant-loop-j : goal.invariant-loop-j
+invariant-loop-j l =
+    (r : ℕ) → l.at ≡ commands_at l.program r → sweep (no_cell l.program r) l.j (l.n - l.j) ≡ sweep (no_cell l.program r) 0 l.n
+
+abbrev pub decreases-loop-j : goal.decreases-loop-j
+decreases-loop-j l = l.n - l.j

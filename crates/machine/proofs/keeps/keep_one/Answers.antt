@@ -1,0 +1,20 @@
+use Rattle.machine.proofs.CellBytes.{keep_none}
+use Rattle.machine.proofs.FactLaws.{told}
+use Rattle.value.specs.Prelude.{sym, ◌∙◌}
+use Rattle.machine.proofs.keeps.keep_one.Goals as goal
+
+pub keep_each-requires : goal.keep_each-requires
+keep_each-requires c = let pre = c.requires in
+    let at_reactor = c.reactor in
+    let at_fact = c.fact-counts in
+    let known = told pre.loaded at_reactor.ensures pre.o_bound at_fact.ensures.known in
+    record { remembering = pre.remembering; o_bound = pre.o_bound; r_in_bounds = pre.loaded.inside _ pre.o_bound; tells = known }
+
+pub returns-else-has_cell : goal.returns-else-has_cell
+returns-else-has_cell c = let at_has_cell = c.has_cell in
+    let pre = c.requires in
+    let at_reactor = c.reactor in
+    let at_fact = c.fact-counts in
+    let at_if1 = c.if-has_cell in
+    let test = at_has_cell.ensures _ (told pre.loaded at_reactor.ensures pre.o_bound at_fact.ensures.known) in
+    keep_none _ pre.remembering _ _ pre.o_bound (sym test ∙ at_if1.false)

@@ -1,0 +1,7 @@
+use Rattle.image.specs.Memory.{slot}
+use Rattle.value.specs.Prelude.{arith}
+use Rattle.machine.proofs.places.after.Goals as goal
+
+pub returns : goal.returns
+unfolding slot
+returns c = record { is = (λ p m l e. omega (arith, e)); at = omega arith; small = omega arith }

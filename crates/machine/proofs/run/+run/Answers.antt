@@ -1,0 +1,282 @@
+use Rattle.value.specs.Prelude.{refl, ◌∙◌, arith}
+use Rattle.machine.proofs.BeforeCommand.{begun, stopped_there, all_inside, counted, fits, found, goes}
+use Rattle.machine.proofs.BeforeCommand.{going_call, going_fail, going_given, going_move}
+use Rattle.machine.proofs.BeforeCommand.{begins_at, here_at, lay_at, nested, not_deep, noted_loc, own}
+use Rattle.machine.proofs.BeforeCommand.{short, steady_below, stops, whole}
+use Rattle.machine.proofs.Opening.{legal}
+use Rattle.machine.proofs.FactLaws.{told}
+use Rattle.program.specs.Bytes.{commands_in}
+use lib.ListN.{length-set}
+use Rattle.machine.proofs.run.+run.Goals as goal
+
+pub enter-requires : goal.enter-requires
+enter-requires t c = let at_reactor = c.reactor in
+    let pre = c.requires in
+    let deep = not_deep _ _ _ _ _ pre.steady in
+    let low = legal _ _ _ _ _ _ pre.workable (steady_below _ _ _ _ _ deep pre.steady) in
+    record { loaded = pre.loaded; o_bound = low; tells = told pre.loaded at_reactor.ensures low c.fact-counts.ensures.known; workable = pre.workable }
+
+pub returns-in-Against : goal.returns-in-Against
+returns-in-Against t c = let at_enter = c.enter in
+    let pre = c.requires in
+    record { slots_len_2 = pre.slots_len; memory_after = stopped_there _ _ _ _ _ _ _ _ pre.steady c.in-Against.is at_enter.ensures }
+
+pub overflow_cast-first : goal.overflow_cast-first
+unfolding commands_in
+overflow_cast-first t c = let at_enter = c.enter in
+    let at_fact = c.fact-counts in
+    let at_reactor = c.reactor in
+    let pre = c.requires in
+    let b = begun _ _ _ _ _ _ _ _ pre.loaded pre.workable pre.steady c.in-Fine.is
+    at_enter.ensures in
+    let tells = told pre.loaded at_reactor.ensures b.legal at_fact.ensures.known in
+    let first = c.first-first.ensures.is _ _ tells in
+    let most = pre.loaded.short _ b.legal in
+    omega arith
+
+pub lay-requires : goal.lay-requires
+unfolding commands_in
+lay-requires t c = let at_declared = c.commands_d in
+    let at_at = c.at in
+    let at_first = c.first-first in
+    let at_enter = c.enter in
+    let at_fact = c.fact-counts in
+    let at_reactor = c.reactor in
+    let pre = c.requires in
+    let b = begun _ _ _ _ _ _ _ _ pre.loaded pre.workable pre.steady c.in-Fine.is
+    at_enter.ensures in
+    let tells = told pre.loaded at_reactor.ensures b.legal at_fact.ensures.known in
+    let first = at_first.ensures.is _ _ tells in
+    let at = at_at.ensures.is _ _ tells in
+    let declared = at_declared.ensures _ _ tells in
+    let most = pre.loaded.short _ b.legal in
+    let inside = pre.loaded.inside _ b.legal in
+    record { n_in_bounds = omega arith; n_bound = omega arith; slots_len = pre.slots_len }
+
+pub loop-j-init : goal.loop-j-init
+loop-j-init t c = let at_running = c.commands_r-end in
+    let at_declared = c.commands_d in
+    let at_at = c.at in
+    let at_first = c.first-first in
+    let at_enter = c.enter in
+    let at_fact = c.fact-counts in
+    let at_reactor = c.reactor in
+    let pre = c.requires in
+    let b = begun _ _ _ _ _ _ _ _ pre.loaded pre.workable pre.steady c.in-Fine.is
+    at_enter.ensures in
+    let tells = told pre.loaded at_reactor.ensures b.legal at_fact.ensures.known in
+    let first = at_first.ensures.is _ _ tells in
+    let at = at_at.ensures.is _ _ tells in
+    let declared = at_declared.ensures _ _ tells in
+    let end = at_running.ensures _ _ tells in (
+      refl,
+      b.deep,
+      goes _ _ _ _ _ _ _ _ _ _ _ (rw b.same b.legal) (rw b.same first) (rw b.same (omega arith))
+          (rw b.same end)
+          c.lay.ensures.slots_len_2 (rw b.same (c.lay.ensures.fact _ (lay_at _ _ _ _ at declared) first (omega arith)))
+          b.left b.wired,
+    )
+
+pub overflow_add-first : goal.overflow_add-first
+overflow_add-first t c = let at_loop = c.loop-j in
+    let pre = c.requires in
+    let g = at_loop.invariant.2 in
+    let most = short _ _ _ _ _ _ _ _ _ pre.loaded _ _ _ _ g in
+    let in_loop = c.loop-j-test.true in
+    omega arith
+
+pub exec-requires : goal.exec-requires
+exec-requires t c = let at_after = c.after-here in
+    let at_note = c.note in
+    let at_loop_test = c.loop-j-test in
+    let at_loop = c.loop-j in
+    let pre = c.requires in
+    let g = at_loop.invariant.2 in
+    let inside = all_inside _ _ _ _ _ _ _ _ _ pre.loaded _ _ _ _ g in
+    let in_loop = at_loop_test.true in
+    let reach = found _ _ _ _ _ _ _ _ _ pre.loaded _ _ _ _ g in_loop _ at_after.ensures.at in
+    record { at_in_bounds = omega arith; reaches = rw at_note.ensures reach; workable = g.left.workable }
+
+pub overflow_add-n : goal.overflow_add-n
+overflow_add-n t c = let at_loop_test = c.loop-j-test in
+    let at_loop = c.loop-j in
+    let pre = c.requires in
+    let g = at_loop.invariant.2 in
+    let most = short _ _ _ _ _ _ _ _ _ pre.loaded _ _ _ _ g in
+    let few = counted _ _ _ _ _ _ _ _ _ pre.loaded _ _ _ _ g in
+    let in_loop = at_loop_test.true in
+    omega arith
+
+pub loop-j-preserved-in-Given : goal.loop-j-preserved-in-Given
+loop-j-preserved-in-Given t c = let at_exec = c.exec in
+    let at_after = c.after-here in
+    let at_note = c.note in
+    let at_loop_test = c.loop-j-test in
+    let at_loop = c.loop-j in
+    let pre = c.requires in
+    let g = at_loop.invariant.2 in
+    let in_loop = at_loop_test.true in
+    let known = pre.loaded in
+    let code = at_exec.ensures _ _ known.facts g.legal (here_at _ _ _ _ _ _ _ _ _ known _ _ _ _ g)
+    (omega arith)
+    (fits _ _ _ _ _ _ _ _ _ known _ _ _ _ g in_loop) (own _ _ _ _ _ _ _ _ _ known _ _ _ _ g in_loop _
+    at_after.ensures.is)
+    (rw at_note.ensures (noted_loc _ _ _ _ _ _ _ _ _ known _ _ _ _ g in_loop)) in (
+      at_exec.auto.memory ∙ at_loop.invariant.0,
+      at_loop.invariant.1,
+      going_given _ _ _ _ _ _ _ _ _ known _ _ _ _ g
+          in_loop _ _ _ code at_note.ensures c.in-Given.is,
+    )
+
+pub loop-j-preserved-in-Move : goal.loop-j-preserved-in-Move
+loop-j-preserved-in-Move t c = let at_exec = c.exec in
+    let at_after = c.after-here in
+    let at_note = c.note in
+    let at_loop_test = c.loop-j-test in
+    let at_loop = c.loop-j in
+    let pre = c.requires in
+    let g = at_loop.invariant.2 in
+    let in_loop = at_loop_test.true in
+    let known = pre.loaded in
+    let code = at_exec.ensures _ _ known.facts g.legal (here_at _ _ _ _ _ _ _ _ _ known _ _ _ _ g)
+    (omega arith)
+    (fits _ _ _ _ _ _ _ _ _ known _ _ _ _ g in_loop) (own _ _ _ _ _ _ _ _ _ known _ _ _ _ g in_loop _
+    at_after.ensures.is)
+    (rw at_note.ensures (noted_loc _ _ _ _ _ _ _ _ _ known _ _ _ _ g in_loop)) in (
+      at_exec.auto.memory ∙ at_loop.invariant.0,
+      at_loop.invariant.1,
+      going_move _ _ _ _ _ _ _ _ _ known _ _ _ _ g in_loop
+          _ _ _ code at_note.ensures c.in-Move.is,
+    )
+
+pub run-requires : goal.run-requires
+run-requires t c = let at_exec = c.exec in
+    let at_after = c.after-here in
+    let at_note = c.note in
+    let at_loop_test = c.loop-j-test in
+    let at_loop = c.loop-j in
+    let pre = c.requires in
+    let g = at_loop.invariant.2 in
+    let in_loop = at_loop_test.true in
+    let known = pre.loaded in
+    let code = at_exec.ensures _ _ known.facts g.legal (here_at _ _ _ _ _ _ _ _ _ known _ _ _ _ g)
+    (omega arith)
+    (fits _ _ _ _ _ _ _ _ _ known _ _ _ _ g in_loop) (own _ _ _ _ _ _ _ _ _ known _ _ _ _ g in_loop _
+    at_after.ensures.is)
+    (rw at_note.ensures (noted_loc _ _ _ _ _ _ _ _ _ known _ _ _ _ g in_loop)) in
+    let low = at_loop.invariant.1 in
+    let n = nested _ _ _ _ _ _ _ _ _ known _ _ _ _ g in_loop _ _ at_loop.slots code _ c.in-Call.is in
+    (omega arith, (known, (n.1, (n.0, rw at_note.ensures (simp length-set g.table)))))
+
+pub lay-requires-in-Fine-run : goal.lay-requires-in-Fine-run
+lay-requires-in-Fine-run t c = let at_run = c.run in
+    let at_loop_test = c.loop-j-test in
+    let at_loop = c.loop-j in
+    let pre = c.requires in
+    let g = at_loop.invariant.2 in
+    let inside = all_inside _ _ _ _ _ _ _ _ _ pre.loaded _ _ _ _ g in
+    let most = short _ _ _ _ _ _ _ _ _ pre.loaded _ _ _ _ g in
+    let in_loop = at_loop_test.true in
+    record { n_in_bounds = omega arith; n_bound = omega arith; slots_len = at_run.ensures.slots_len_2 }
+
+pub loop-j-preserved : goal.loop-j-preserved
+loop-j-preserved t c = let at_run = c.run in
+    let at_exec = c.exec in
+    let at_after = c.after-here in
+    let at_note = c.note in
+    let at_loop_test = c.loop-j-test in
+    let at_loop = c.loop-j in
+    let pre = c.requires in
+    let g = at_loop.invariant.2 in
+    let in_loop = at_loop_test.true in
+    let known = pre.loaded in
+    let code = at_exec.ensures _ _ known.facts g.legal (here_at _ _ _ _ _ _ _ _ _ known _ _ _ _ g)
+    (omega arith)
+    (fits _ _ _ _ _ _ _ _ _ known _ _ _ _ g in_loop) (own _ _ _ _ _ _ _ _ _ known _ _ _ _ g in_loop _
+    at_after.ensures.is)
+    (rw at_note.ensures (noted_loc _ _ _ _ _ _ _ _ _ known _ _ _ _ g in_loop)) in
+    let placed = c.lay-in-Fine-run.ensures.fact _ (begins_at _ _ _ _ _ _ _ _ _ known _ _ _ _ g) g.is_first
+    (let e = g.is_end in omega arith) in (
+      at_run.auto.memory ∙ at_exec.auto.memory ∙ at_loop.invariant.0,
+      at_loop.invariant.1,
+      going_call _ _ _ _ _ _ _ _ _ known _ _ _ _ g in_loop _ _ at_loop.slots code _ c.in-Call.is _ _
+          (rw c.in-Fine-run.is at at_run.ensures.memory_after) c.lay-in-Fine-run.ensures.slots_len_2 placed,
+    )
+
+pub returns-in-Against-run : goal.returns-in-Against-run
+returns-in-Against-run t c = let at_run = c.run in
+    let at_exec = c.exec in
+    let at_after = c.after-here in
+    let at_note = c.note in
+    let at_loop_test = c.loop-j-test in
+    let at_loop = c.loop-j in
+    let at_enter = c.enter in
+    let pre = c.requires in
+    let g = at_loop.invariant.2 in
+    let in_loop = at_loop_test.true in
+    let known = pre.loaded in
+    let code = at_exec.ensures _ _ known.facts g.legal (here_at _ _ _ _ _ _ _ _ _ known _ _ _ _ g)
+    (omega arith)
+    (fits _ _ _ _ _ _ _ _ _ known _ _ _ _ g in_loop) (own _ _ _ _ _ _ _ _ _ known _ _ _ _ g in_loop _
+    at_after.ensures.is)
+    (rw at_note.ensures (noted_loc _ _ _ _ _ _ _ _ _ known _ _ _ _ g in_loop)) in
+    let b = begun _ _ _ _ _ _ _ _ known pre.workable pre.steady c.in-Fine.is at_enter.ensures
+    in record {
+      slots_len_2 = at_run.ensures.slots_len_2;
+      memory_after = b.ends_stopped _ _ (stops _ _ _ _ _ _ _ _ _ known _ _ _ _ g in_loop _ _ at_loop.slots code _ c.in-Call.is
+          _ _
+          (rw c.in-Against-run.is at at_run.ensures.memory_after));
+    }
+
+pub returns-in-Fail : goal.returns-in-Fail
+returns-in-Fail t c = let at_exec = c.exec in
+    let at_after = c.after-here in
+    let at_note = c.note in
+    let at_loop_test = c.loop-j-test in
+    let at_loop = c.loop-j in
+    let at_enter = c.enter in
+    let pre = c.requires in
+    let g = at_loop.invariant.2 in
+    let in_loop = at_loop_test.true in
+    let known = pre.loaded in
+    let code = at_exec.ensures _ _ known.facts g.legal (here_at _ _ _ _ _ _ _ _ _ known _ _ _ _ g)
+    (omega arith)
+    (fits _ _ _ _ _ _ _ _ _ known _ _ _ _ g in_loop) (own _ _ _ _ _ _ _ _ _ known _ _ _ _ g in_loop _
+    at_after.ensures.is)
+    (rw at_note.ensures (noted_loc _ _ _ _ _ _ _ _ _ known _ _ _ _ g in_loop)) in
+    let b = begun _ _ _ _ _ _ _ _ known pre.workable pre.steady c.in-Fine.is
+    at_enter.ensures in record {
+      slots_len_2 = rw at_note.ensures (simp length-set g.table);
+      memory_after = b.ends_stopped _ _
+          (going_fail _ _ _ _ _ _ _ _ _ known _ _ _ _ g in_loop _ _ at_loop.slots code _ c.in-Fail.is);
+    }
+
+pub returns : goal.returns
+returns t c = let at_enter = c.enter in
+    let pre = c.requires in
+    let b = begun _ _ _ _ _ _ _ _ pre.loaded pre.workable pre.steady c.in-Fine.is
+    at_enter.ensures in
+    let g = c.loop-j.invariant.2 in
+    let past = c.loop-j-test.false in
+    let upto = g.upto in
+    record { slots_len_2 = g.table; memory_after = b.ends_whole _ (whole _ _ _ _ _ _ _ _ _ pre.loaded _ _ _ _ g (omega arith)) }
+
+pub shape_of-memory-in-Against-run : goal.shape_of-memory-in-Against-run
+shape_of-memory-in-Against-run t c = let at_run = c.run in
+    let at_exec = c.exec in
+    let at_loop = c.loop-j in
+    let at_enter = c.enter in
+    at_run.auto.memory ∙ at_exec.auto.memory ∙ at_loop.invariant.0 ∙ at_enter.auto.memory
+
+pub shape_of-memory-in-Fail : goal.shape_of-memory-in-Fail
+shape_of-memory-in-Fail t c = let at_exec = c.exec in
+    let at_loop = c.loop-j in
+    let at_enter = c.enter in
+    at_exec.auto.memory ∙ at_loop.invariant.0 ∙ at_enter.auto.memory
+
+pub shape_of-memory : goal.shape_of-memory
+shape_of-memory t c = let at_enter = c.enter in
+    c.loop-j.invariant.0 ∙ at_enter.auto.memory
+
+pub shape_of-memory-in-Against : goal.shape_of-memory-in-Against
+shape_of-memory-in-Against t c = cc

@@ -1,0 +1,17 @@
+use Rattle.value.specs.Prelude.{ℕ, suc, ◌-◌, ◌≤◌, ◌≡◌, List, length}
+use Rattle.image.specs.Memory.{reactor, wired}
+use Rattle.machine.specs.Clauses.{Left}
+use Rattle.program.specs.Bytes.{commands_in}
+use Rattle.remus.specs.Run.{run_of}
+use Rattle.remus.specs.Steady.{Steady}
+use Rattle.machine.proofs.run.wire.Given as goal
+
+abbrev pub invariant-loop-j : goal.invariant-loop-j
+invariant-loop-j l =
+    (length l.memory ≡ length l.initial.memory) × (l.j ≤ l.n)
+    × ((rd : List ℕ) (f : ℕ) → Steady l.program rd (suc f) l.h l.initial.memory l.o → wired l.initial.memory l.o ≡ 0
+    → Left l.program rd f l.h l.o (run_of (suc f) l.program rd l.h l.initial.memory l.o) (reactor l.initial.memory l.o)
+    (commands_in l.program (reactor l.initial.memory l.o) - l.j) l.j l.memory)
+
+abbrev pub decreases-loop-j : goal.decreases-loop-j
+decreases-loop-j l = l.n - l.j

@@ -1,0 +1,7 @@
+use Rattle.value.specs.Test.{◌=?◌}
+use Rattle.value.specs.Prelude.{refl}
+use Rattle.program.proofs.Counts.none.Goals as goal
+
+pub returns : goal.returns
+unfolding ◌=?◌
+returns c = refl

@@ -1,0 +1,7 @@
+use Rattle.program.proofs.EqualByBytes.{same_command}
+use Rattle.value.specs.Prelude.{arith}
+use Rattle.program.proofs.commands.through_word.Goals as goal
+
+pub returns : goal.returns
+returns c = same_command (omega arith) (omega arith) (omega arith) (omega arith) (omega arith) (omega arith)
+    (omega arith) (omega arith)

@@ -1,0 +1,6 @@
+use Rattle.program.specs.Bytes.{byte}
+use Rattle.value.specs.Prelude.{◌∙◌, ap, arith}
+use Rattle.program.proofs.entry.entry_byte.Goals as goal
+
+pub returns : goal.returns
+returns c = c.byte.ensures ∙ ap (byte _) (omega arith)

@@ -1,0 +1,7 @@
+use Rattle.program.specs.Location.{sink_loc}
+use Rattle.value.specs.Prelude.{arith}
+use Rattle.program.proofs.location.sink_loc.Goals as goal
+
+pub returns : goal.returns
+unfolding sink_loc
+returns c = omega arith

@@ -1,0 +1,7 @@
+use Rattle.program.specs.Bytes.{byte, shape_at}
+use Rattle.value.specs.Prelude.{◌∙◌, ap, arith}
+use Rattle.program.proofs.shape.shape_byte.Goals as goal
+
+pub returns : goal.returns
+unfolding shape_at
+returns c = c.byte.ensures ∙ ap (byte _) (omega arith)
