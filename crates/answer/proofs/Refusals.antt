@@ -1,5 +1,6 @@
 -- Refusals by number and place: `refusals_apart`, and that 0 is no refusal's number.
-use Rattle.value.specs.Prelude.{ℕ, ◌≤◌, ◌≡◌, refl, sym, ◌∙◌, ap₂, subst, arith}
+use Rattle.std.specs.Prelude.{ℕ, ◌≤◌, ◌≡◌, refl}
+use Rattle.std.proofs.Common.{sym, ◌∙◌, ap₂, subst, arith}
 use Rattle.value.specs.Test.{pick, ◌=?◌}
 use Rattle.answer.specs.Answer.{refusal_number, refusal_place, RefusalsApart}
 use Rattle.answer.specs.declared.Refusal.{Refusal}

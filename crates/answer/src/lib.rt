@@ -1,7 +1,7 @@
 // 5.7 What a call answers: a number and a place. This is the one page of numbers.
 #![tactic(auto)]
 
-ghost use Rattle.value.specs.Prelude.{◌≡◌};
+ghost use Rattle.std.specs.Prelude.{◌≡◌};
 ghost use Rattle.answer.specs.Answer.{number_of, place_of, refusal_number, refusal_place};
 
 // 5.11 to 5.35 Why a call is refused, by rising numbers; each case has its place.

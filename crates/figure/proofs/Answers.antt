@@ -1,5 +1,6 @@
 -- What figure answers, and when: 23, 24, the figure, or the refusal of the check; and the bounds that it goes by.
-use Rattle.value.specs.Prelude.{ℕ, ◌+◌, ◌≤◌, ◌<◌, ◌≡◌, refl, sym, ◌∙◌, ap, subst, inl, inr, ◌↔◌, List, arith}
+use Rattle.std.specs.Prelude.{ℕ, ◌+◌, ◌≤◌, ◌<◌, ◌≡◌, refl, ◌↔◌, List}
+use Rattle.std.proofs.Common.{sym, ◌∙◌, ap, subst, inl, inr, arith}
 use Rattle.value.proofs.Tests.{says_le, says_guard}
 use Rattle.program.specs.Bytes.{main_of}
 use Rattle.answer.specs.Answer.{number_of, place_of}

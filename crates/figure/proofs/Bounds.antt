@@ -1,6 +1,7 @@
 -- Where no reactor that is needed reaches itself, as many rounds as there are reactors settle the bounds,
 -- `bound_equation`, and no other numbers solve it, `bound_unique`.
-use Rattle.value.specs.Prelude.{ℕ, zero, suc, ◌+◌, ◌<◌, ◌≡◌, refl, sym, ◌∙◌, ap, Bool, true, false, List, get_or, arith}
+use Rattle.std.specs.Prelude.{ℕ, zero, suc, ◌+◌, ◌<◌, ◌≡◌, refl, Bool, true, false, List, get_or}
+use Rattle.std.proofs.Common.{sym, ◌∙◌, ap, arith}
 use Rattle.value.specs.Test.{pick, ◌=?◌}
 use Rattle.value.proofs.Tests.{eq?}
 use Rattle.program.specs.Bytes.{reactors, shape_of, commands_d, main_of}

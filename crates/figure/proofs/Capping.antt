@@ -1,7 +1,9 @@
 -- Numbers that are counted no further than one more than the most words: `capped_sum`, by which sums may be cut at
 -- each step; and a table of such numbers for the shapes, one reactor more.
-use Rattle.value.specs.Prelude.{ℕ, zero, suc, ◌+◌, ◌≤◌, ◌<◌, ◌≡◌, refl, sym, ◌∙◌, ap, ap₂, ⊎_elim, ◌≢◌, List, length, get_or}
-use Rattle.value.specs.Prelude.{set, arith}
+use Rattle.std.specs.Prelude.{ℕ, zero, suc, ◌+◌, ◌≤◌, ◌<◌, ◌≡◌, refl, ◌≢◌, List, length, get_or}
+use Rattle.std.proofs.Common.{sym, ◌∙◌, ap, ap₂, ⊎_elim}
+use Rattle.std.specs.Prelude.{set}
+use Rattle.std.proofs.Common.{arith}
 use lib.Seq.{get_or-set_same, get_or-set_other}
 use Rattle.value.specs.Test.{pick, ◌=?◌}
 use Rattle.value.proofs.Tests.{yes, no, lt!, lt×, eq!, eq×, below, same?}

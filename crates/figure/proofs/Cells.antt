@@ -1,6 +1,8 @@
 -- The table of bytes, a row for each reactor: one byte more of a row, and what a row that takes over another says.
-use Rattle.value.specs.Prelude.{ℕ, ◌+◌, ◌*◌, ◌≤◌, ◌<◌, ◌≡◌, refl, sym, ◌∙◌, ap, ◌⊎◌, inl, inr, ⊎_elim, ◌≢◌, Bool, true}
-use Rattle.value.specs.Prelude.{false, List, length, set, arith}
+use Rattle.std.specs.Prelude.{ℕ, ◌+◌, ◌*◌, ◌≤◌, ◌<◌, ◌≡◌, refl, ◌⊎◌, ◌≢◌, Bool, true}
+use Rattle.std.proofs.Common.{sym, ◌∙◌, ap, inl, inr, ⊎_elim}
+use Rattle.std.specs.Prelude.{false, List, length, set}
+use Rattle.std.proofs.Common.{arith}
 use lib.ListN.{length-set}
 use lib.Seq.{get_or-set_same, get_or-set_other}
 use Rattle.value.specs.Test.{pick, ◌=?◌, ◌and◌, ◌or◌}

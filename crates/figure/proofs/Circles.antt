@@ -1,6 +1,7 @@
 -- Of an accepted program: steps stay among its reactors, the test for a circle holds just where there is one, and the
 -- sweep over the reactors finds the lowest.
-use Rattle.value.specs.Prelude.{ℕ, ◌≤◌, ◌<◌, ◌≡◌, ◌∙◌, ap, ◌↔◌, Bool, false, not, List, arith}
+use Rattle.std.specs.Prelude.{ℕ, ◌≤◌, ◌<◌, ◌≡◌, ◌↔◌, Bool, false, not, List}
+use Rattle.std.proofs.Common.{◌∙◌, ap, arith}
 use Rattle.value.specs.Test.{◌=?◌}
 use Rattle.value.proofs.Tests.{not_false, Says, says_eq, says_and, says_or, says×}
 use Rattle.value.proofs.Sweeps.{Passes}

@@ -1,7 +1,10 @@
 -- The table of who reaches whom holds just what is reached (`found_reaches`, `reaches_found`). So where no reactor that
 -- is needed reaches itself, a step leads to one that reaches fewer: `rank_falls`.
-use Rattle.value.specs.Prelude.{ℕ, zero, suc, ◌+◌, ◌≤◌, ◌<◌, ◌≡◌, refl, ◌∙◌, ap, ◌⊎◌, inl, inr, ⊎_elim, Bool, true}
-use Rattle.value.specs.Prelude.{false, false≢true, List, [], get_or, arith}
+use Rattle.std.specs.Prelude.{ℕ, zero, suc, ◌+◌, ◌≤◌, ◌<◌, ◌≡◌, refl, ◌⊎◌, Bool, true}
+use Rattle.std.proofs.Common.{◌∙◌, ap, inl, inr, ⊎_elim}
+use Rattle.std.specs.Prelude.{false, List, [], get_or}
+use Rattle.std.proofs.lemmas.Bool.{false≢true}
+use Rattle.std.proofs.Common.{arith}
 use mathlib.Core.Logic.Iff
 use Rattle.value.specs.Test.{pick, ◌and◌, ◌or◌}
 use Rattle.value.proofs.Tests.{cases, same?, eq!, eq?, either!, right!, or?, Says, says_and, says_or}

@@ -1,5 +1,6 @@
 -- What a D command makes, by its first two bytes, where it is neither a deployment nor a branch point.
-use Rattle.value.specs.Prelude.{ℕ, ◌≡◌, subst}
+use Rattle.std.specs.Prelude.{ℕ, ◌≡◌}
+use Rattle.std.proofs.Common.{subst}
 use Rattle.value.specs.Test.{◌=?◌}
 use Rattle.value.proofs.Tests.{cases, eq?, eq×?}
 use Rattle.program.specs.Command.{Made, held, nought}

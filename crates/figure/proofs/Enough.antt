@@ -1,6 +1,7 @@
 -- Memory of the figure's words or more meets neither 14 nor 15: in any turn and preview on a sound image
 -- (`enough_once`), and after any turns from a start (`enough`).
-use Rattle.value.specs.Prelude.{ℕ, ◌+◌, ◌≤◌, ◌≡◌, refl, ◌∙◌, ap, inl, ◌≢◌, List, [], ◌∷◌, length, arith}
+use Rattle.std.specs.Prelude.{ℕ, ◌+◌, ◌≤◌, ◌≡◌, refl, ◌≢◌, List, [], ◌∷◌, length}
+use Rattle.std.proofs.Common.{◌∙◌, ap, inl, arith}
 use Rattle.program.specs.Bytes.{main_of}
 use Rattle.program.specs.Location.{size_of}
 use Rattle.answer.specs.Answer.{refusal_number, refusal_place, number_of, place_of}

@@ -1,6 +1,7 @@
 -- Ways that meet at reactor k are joined row by row: what the table says once the rows below r are done.
-use Rattle.value.specs.Prelude.{ℕ, suc, ◌+◌, ◌≤◌, ◌<◌, ◌≡◌, refl, sym, ◌∙◌, ap, ap₂, inl, ⊎_elim, ◌≢◌, Bool, true, false, List}
-use Rattle.value.specs.Prelude.{arith}
+use Rattle.std.specs.Prelude.{ℕ, suc, ◌+◌, ◌≤◌, ◌<◌, ◌≡◌, refl, ◌≢◌, Bool, true, false, List}
+use Rattle.std.proofs.Common.{sym, ◌∙◌, ap, ap₂, inl, ⊎_elim}
+use Rattle.std.proofs.Common.{arith}
 use Rattle.value.specs.Test.{pick, ◌=?◌, ◌<?◌}
 use Rattle.value.proofs.Tests.{yes, no, lt!, lt×, below, same?}
 use Rattle.program.specs.Bytes.{reactors}

@@ -1,7 +1,9 @@
 -- At an allocation in a turn, with bounds as 4.31 has them and ranks that fall along the steps: the words then in use
 -- are within main's bound, and the depth within main's rank (`allocation_fits`).
-use Rattle.value.specs.Prelude.{ℕ, ◌+◌, ◌≤◌, ◌<◌, ◌≡◌, refl, sym, ◌∙◌, ap, subst, ◌⊎◌, inl, inr, ◌≢◌, false, List}
-use Rattle.value.specs.Prelude.{◌∷◌, length, arith}
+use Rattle.std.specs.Prelude.{ℕ, ◌+◌, ◌≤◌, ◌<◌, ◌≡◌, refl, ◌⊎◌, ◌≢◌, false, List}
+use Rattle.std.proofs.Common.{sym, ◌∙◌, ap, subst, inl, inr}
+use Rattle.std.specs.Prelude.{◌∷◌, length}
+use Rattle.std.proofs.Common.{arith}
 use Rattle.value.specs.Value.{is_blank}
 use Rattle.program.specs.Bytes.{reactors, most_reactors, commands_d, commands_in, main_of}
 use Rattle.program.specs.Command.{Cmd, alloc_mono, alloc_poly, deployment}

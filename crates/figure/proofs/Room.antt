@@ -1,7 +1,9 @@
 -- The words in use, with one more allocation, are within main's bound: `room`. By counting: each deployment but main is
 -- named by a D slot, what a slot names weighs at most the slot's share, and a bound is a size and its shares.
-use Rattle.value.specs.Prelude.{ℕ, zero, suc, ◌+◌, ◌≤◌, ◌<◌, ◌≡◌, refl, ap, ◌⊎◌, inl, inr, ⊎_elim, ◌≢◌, List}
-use Rattle.value.specs.Prelude.{[], ◌∷◌, arith}
+use Rattle.std.specs.Prelude.{ℕ, zero, suc, ◌+◌, ◌≤◌, ◌<◌, ◌≡◌, refl, ◌⊎◌, ◌≢◌, List}
+use Rattle.std.proofs.Common.{ap, inl, inr, ⊎_elim}
+use Rattle.std.specs.Prelude.{[], ◌∷◌}
+use Rattle.std.proofs.Common.{arith}
 use mathlib.Core.List.Memᴰ.{head as first}
 use mathlib.Core.List.Memᴰ.{tail as later}
 use Rattle.value.specs.Test.{pick, ◌=?◌}

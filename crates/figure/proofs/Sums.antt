@@ -1,6 +1,7 @@
 -- Tests asked and numbers added one place at a time, as a loop does; and a sum below n as one over the list of the
 -- numbers below n, `sum_from`, by which it has the laws of such sums.
-use Rattle.value.specs.Prelude.{ℕ, zero, suc, ◌+◌, ◌≤◌, ◌<◌, ◌≡◌, refl, ◌∙◌, ap, Bool, arith}
+use Rattle.std.specs.Prelude.{ℕ, zero, suc, ◌+◌, ◌≤◌, ◌<◌, ◌≡◌, refl, Bool}
+use Rattle.std.proofs.Common.{◌∙◌, ap, arith}
 use Rattle.value.specs.Test.{◌or◌}
 use Rattle.image.proofs.Exact.Lists.{from, from_in, from_length, total, total_ones, total_spare}
 use Rattle.figure.specs.Steps.{anywhere}

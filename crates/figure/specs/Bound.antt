@@ -1,5 +1,5 @@
 -- 4.31 The bound of a reactor: the most words that a deployment of it takes, with all that it may ever deploy.
-use Rattle.value.specs.Prelude.{ℕ, zero, suc, ◌+◌, List, [], get_or}
+use Rattle.std.specs.Prelude.{ℕ, zero, suc, ◌+◌, List, [], get_or}
 use Rattle.value.specs.Test.{pick, ◌=?◌}
 use Rattle.program.specs.Bytes.{reactors, shape_of, commands_d}
 use Rattle.program.specs.Command.{Made, deployment, point, held, nought, made_by, cmd_of}

@@ -1,5 +1,5 @@
 -- Figures in one table with one claim: what each row asks, the definition answers as the row says.
-use Rattle.value.specs.Prelude.{ℕ, zero, suc, ◌+◌, ◌-◌, ◌*◌, ◌≡◌, refl, List, [], ◌∷◌, ◌++◌, length}
+use Rattle.std.specs.Prelude.{ℕ, zero, suc, ◌+◌, ◌-◌, ◌*◌, ◌≡◌, refl, List, [], ◌∷◌, ◌++◌, length}
 use Rattle.answer.specs.Answer.{number_of, place_of}
 use Rattle.load.specs.Programs.{zeros, joined, command, clock, nest, toggle, peak, counters}
 use Rattle.figure.specs.Figure.{figure_of}

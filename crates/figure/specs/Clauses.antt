@@ -1,6 +1,6 @@
 -- What the contracts of the code speak of beside the definitions: a table of bytes with a row for each reactor, and
 -- numbers that are counted no further than the most words of a memory.
-use Rattle.value.specs.Prelude.{ℕ, ◌+◌, ◌*◌, ◌≤◌, ◌<◌, ◌≡◌, ◌≢◌, ◌⊎◌, Bool, List, length, get_or}
+use Rattle.std.specs.Prelude.{ℕ, ◌+◌, ◌*◌, ◌≤◌, ◌<◌, ◌≡◌, ◌≢◌, ◌⊎◌, Bool, List, length, get_or}
 use Rattle.value.specs.Test.{pick, ◌=?◌, ◌<?◌, ◌and◌, ◌or◌}
 use Rattle.image.specs.Memory.{most_words}
 

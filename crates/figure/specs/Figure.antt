@@ -1,5 +1,5 @@
 -- 4.29 The call figure, whole.
-use Rattle.value.specs.Prelude.{ℕ, ◌+◌, Bool, not, List}
+use Rattle.std.specs.Prelude.{ℕ, ◌+◌, Bool, not, List}
 use Rattle.value.specs.Test.{◌≤?◌, ◌=?◌, guard, sweep}
 use Rattle.program.specs.Bytes.{reactors, main_of}
 use Rattle.answer.specs.declared.Answer.{Answer}

@@ -1,6 +1,6 @@
 -- Every definition of this room opened at once, and of those below it, for theorems that compute: such a theorem says
 -- `unfolding opened`.
-use Rattle.value.specs.Prelude.{ℕ}
+use Rattle.std.specs.Prelude.{ℕ}
 use Rattle.remus.specs.Open.{opened as below_opened}
 use Rattle.figure.specs.Steps.{tabled, anywhere, goes_to, leads, found, as_table, through, reached_below, reached}
 use Rattle.figure.specs.Steps.{circular}

@@ -1,5 +1,5 @@
 -- 4.30 Which reactor's deployments deploy which, and which reactors lead back to themselves.
-use Rattle.value.specs.Prelude.{ℕ, zero, suc, ◌+◌, ◌<◌, ◌≡◌, ◌⊎◌, Bool, false, List, [], ◌∷◌, get_or}
+use Rattle.std.specs.Prelude.{ℕ, zero, suc, ◌+◌, ◌<◌, ◌≡◌, ◌⊎◌, Bool, false, List, [], ◌∷◌, get_or}
 use Rattle.value.specs.Test.{◌and◌, ◌or◌, ◌=?◌}
 use Rattle.program.specs.Bytes.{reactors, shape_of, commands_d, main_of}
 use Rattle.program.specs.Command.{Made, deployment, point, held, nought, made_by, cmd_of}

@@ -1,6 +1,6 @@
 // 4.31 Bounds of reactors. A sum that passes 16,384 stays at 16,385: a bound may have a hundred digits, and
 // no memory has more words.
-ghost use Rattle.value.specs.Prelude.{ℕ, ◌+◌, ◌<◌, ◌≡◌, true, List, get_or};
+ghost use Rattle.std.specs.Prelude.{ℕ, ◌+◌, ◌<◌, ◌≡◌, true, List, get_or};
 ghost use Rattle.program.specs.Bytes as B;
 ghost use Rattle.program.specs.Clauses.{Facts, Tells};
 ghost use Rattle.image.specs.Clauses.{made_of};

@@ -1,5 +1,5 @@
 // 4.29 The call.
-ghost use Rattle.value.specs.Prelude.{◌<◌, ◌≡◌};
+ghost use Rattle.std.specs.Prelude.{◌<◌, ◌≡◌};
 ghost use Rattle.program.specs.Bytes as B;
 ghost use Rattle.program.specs.Clauses.{Facts};
 ghost use Rattle.figure.specs.Steps.{reached};

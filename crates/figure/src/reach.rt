@@ -1,6 +1,6 @@
 // 4.30 Which reactor reaches which, by one step or more, in the table of steps; and the lowest that reaches
 // itself.
-ghost use Rattle.value.specs.Prelude.{ℕ, ◌≤◌, ◌<◌, ◌≡◌, Bool, List, length};
+ghost use Rattle.std.specs.Prelude.{ℕ, ◌≤◌, ◌<◌, ◌≡◌, Bool, List, length};
 ghost use Rattle.program.specs.Bytes as B;
 ghost use Rattle.figure.specs.Steps as N;
 ghost use Rattle.figure.specs.Figure.{lowest_circular};

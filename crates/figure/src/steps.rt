@@ -1,5 +1,5 @@
 // 4.30 Which reactor leads to which. In the table byte 64 · r + q is 1 where r leads to q.
-ghost use Rattle.value.specs.Prelude.{ℕ, ◌≤◌, ◌<◌, ◌≡◌, length};
+ghost use Rattle.std.specs.Prelude.{ℕ, ◌≤◌, ◌<◌, ◌≡◌, length};
 ghost use Rattle.program.specs.Bytes as B;
 ghost use Rattle.program.specs.Clauses.{Facts, Tells};
 ghost use Rattle.image.specs.Clauses.{made_of};

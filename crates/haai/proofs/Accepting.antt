@@ -1,6 +1,8 @@
 -- The program of a well-formed tree of few enough parts obeys the rules, and so the check accepts it: `accepted`.
-use Rattle.value.specs.Prelude.{ℕ, zero, suc, ◌+◌, ◌-◌, ◌*◌, ◌≤◌, ◌<◌, ◌≡◌, refl, sym, ◌∙◌, ap, ◌⊎◌, inl, inr, ◌≢◌}
-use Rattle.value.specs.Prelude.{List, length, arith}
+use Rattle.std.specs.Prelude.{ℕ, zero, suc, ◌+◌, ◌-◌, ◌*◌, ◌≤◌, ◌<◌, ◌≡◌, refl, ◌⊎◌, ◌≢◌}
+use Rattle.std.proofs.Common.{sym, ◌∙◌, ap, inl, inr}
+use Rattle.std.specs.Prelude.{List, length}
+use Rattle.std.proofs.Common.{arith}
 use Rattle.value.specs.Test.{pick, ◌=?◌}
 use Rattle.value.proofs.Tests.{eq!, eq×, yes, no, same?}
 use Rattle.program.specs.Bytes.{byte, global_kind, main_of, commands_in}

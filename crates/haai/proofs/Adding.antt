@@ -1,6 +1,7 @@
 -- What is in the output after one more word: an expression, an application that is whole, a whole definition.
-use Rattle.value.specs.Prelude.{ℕ, ◌+◌, ◌*◌, ◌≤◌, ◌≡◌, refl, sym, ◌∙◌, ap, List, [], ◌∷◌, ◌++◌, length, set, arith}
-use Rattle.value.specs.Prelude.{subst, inl, append-nil}
+use Rattle.std.specs.Prelude.{ℕ, ◌+◌, ◌*◌, ◌≤◌, ◌≡◌, refl, List, [], ◌∷◌, ◌++◌, length, set}
+use Rattle.std.proofs.Common.{sym, ◌∙◌, ap, arith}
+use Rattle.std.proofs.Common.{subst, inl, append-nil}
 use lib.ListN.{length-append, length-set}
 use Rattle.program.specs.Bytes.{byte}
 use Rattle.program.specs.Command.{Cmd}

@@ -1,6 +1,8 @@
 -- What the definition knows and what is kept agree after each word: `agree_learn`.
-use Rattle.value.specs.Prelude.{ℕ, ◌+◌, ◌-◌, ◌*◌, ◌≤◌, ◌<◌, ◌≡◌, refl, sym, ◌∙◌, ap, ap₂, subst, ◌⊎◌, inl}
-use Rattle.value.specs.Prelude.{inr, Bool, false, List, [], ◌∷◌, length, get_or, arith}
+use Rattle.std.specs.Prelude.{ℕ, ◌+◌, ◌-◌, ◌*◌, ◌≤◌, ◌<◌, ◌≡◌, refl, ◌⊎◌}
+use Rattle.std.proofs.Common.{sym, ◌∙◌, ap, ap₂, subst, inl}
+use Rattle.std.proofs.Common.{inr, arith}
+use Rattle.std.specs.Prelude.{Bool, false, List, [], ◌∷◌, length, get_or}
 use lib.ListN.{get_or-eq_default}
 use Rattle.value.specs.Test.{pick, ◌<?◌, ◌=?◌, ◌and◌, ◌or◌}
 use Rattle.value.proofs.Tests.{lt!, lt×, either!, left×, yes, no, below}

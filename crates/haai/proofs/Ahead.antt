@@ -1,7 +1,9 @@
 -- The words of a text one after the other, as a pass over it meets them: each begins at `word_start` of the end of
 -- the one before.
-use Rattle.value.specs.Prelude.{ℕ, zero, suc, ◌+◌, ◌-◌, ◌≤◌, ◌<◌, ◌≡◌, refl, sym, ◌∙◌, ap, subst, ◌⊎◌, inl, inr, ⊎_elim}
-use Rattle.value.specs.Prelude.{Bool, false, not, List, [], ◌∷◌, length, arith}
+use Rattle.std.specs.Prelude.{ℕ, zero, suc, ◌+◌, ◌-◌, ◌≤◌, ◌<◌, ◌≡◌, refl, ◌⊎◌}
+use Rattle.std.proofs.Common.{sym, ◌∙◌, ap, subst, inl, inr, ⊎_elim}
+use Rattle.std.specs.Prelude.{Bool, false, not, List, [], ◌∷◌, length}
+use Rattle.std.proofs.Common.{arith}
 use Rattle.value.specs.Test.{sweep}
 use Rattle.value.proofs.Tests.{cases, goes, stops, lt!, lt×, or×}
 use Rattle.value.proofs.Sweeps.{swept, sweep_next, Swept}

@@ -1,5 +1,5 @@
 -- What a role says of where a word stands: between definitions, or inside one.
-use Rattle.value.specs.Prelude.{ℕ, ◌+◌, ◌≤◌, ◌≡◌, length}
+use Rattle.std.specs.Prelude.{ℕ, ◌+◌, ◌≤◌, ◌≡◌, length}
 use Rattle.value.specs.Test.{◌<?◌, ◌≤?◌, ◌=?◌, ◌and◌}
 use Rattle.value.proofs.Tests.{pick_any}
 use Rattle.haai.specs.Word.{defr_word, out_word, source_word}

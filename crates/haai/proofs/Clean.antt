@@ -1,5 +1,6 @@
 -- The bytes that an emitted command does not name are zero: `clean`.
-use Rattle.value.specs.Prelude.{ℕ, ◌<◌, refl, List, arith}
+use Rattle.std.specs.Prelude.{ℕ, ◌<◌, refl, List}
+use Rattle.std.proofs.Common.{arith}
 use Rattle.value.specs.Value.{number_kind}
 use Rattle.program.specs.Bytes.{byte}
 use Rattle.program.specs.Command.{Cmd, bytes_at, alloc_mono, gives, supply, react, sink, constant, global, consume}

@@ -1,5 +1,6 @@
 -- The call by what is found of a text: the ladder of its answers, and that tables and code are the whole.
-use Rattle.value.specs.Prelude.{ℕ, ◌+◌, ◌*◌, ◌≤◌, ◌<◌, ◌≡◌, refl, sym, ◌∙◌, ap, true, false, List, ◌++◌, length, arith}
+use Rattle.std.specs.Prelude.{ℕ, ◌+◌, ◌*◌, ◌≤◌, ◌<◌, ◌≡◌, refl, true, false, List, ◌++◌, length}
+use Rattle.std.proofs.Common.{sym, ◌∙◌, ap, arith}
 use Rattle.value.proofs.Tests.{goes, stops, eq!, eq×, le!, le×}
 use lib.ListN.{length-append}
 use Rattle.image.specs.Memory.{patch}

@@ -1,5 +1,6 @@
 -- Laws of the counts that stay at 200: below it they are exact, and a part of a sum may be counted first.
-use Rattle.value.specs.Prelude.{ℕ, ◌+◌, ◌≤◌, ◌<◌, min, ◌≡◌, arith}
+use Rattle.std.specs.Prelude.{ℕ, ◌+◌, ◌≤◌, ◌<◌, min, ◌≡◌}
+use Rattle.std.proofs.Common.{arith}
 use Rattle.value.specs.Test.{◌<?◌, ◌≤?◌, ◌=?◌}
 use Rattle.value.proofs.Tests.{lt?, lt×?, le!, le?, eq!, eq?, pick_any, same_test}
 use Rattle.haai.specs.Tables.{counted}

@@ -1,6 +1,7 @@
 -- What holds of every emitted command: a property goes through the lists by `Every`. Here: constants fit in four bytes,
 -- so the program is laid out as its tree (`laid`).
-use Rattle.value.specs.Prelude.{ℕ, zero, suc, ◌+◌, ◌≤◌, ◌<◌, ◌≡◌, ◌∙◌, ap, List, [], ◌∷◌, ◌++◌, length, get_or, arith}
+use Rattle.std.specs.Prelude.{ℕ, zero, suc, ◌+◌, ◌≤◌, ◌<◌, ◌≡◌, List, [], ◌∷◌, ◌++◌, length, get_or}
+use Rattle.std.proofs.Common.{◌∙◌, ap, arith}
 use Rattle.value.specs.Value.{number_kind}
 use Rattle.program.specs.Command.{Cmd, cmd_of, alloc_mono, gives, supply, react, sink, constant, global, consume}
 use Rattle.program.specs.Command.{primitive}

@@ -1,7 +1,8 @@
 -- The commands of the words so far: those of the body, then those of each open application's operands, from the
 -- outermost on. Each word appends its own, and at a definition's end they are the definition's.
-use Rattle.value.specs.Prelude.{ℕ, ◌+◌, ◌≡◌, refl, sym, ◌∙◌, ap, ap₂, List, [], ◌∷◌, ◌++◌, length, arith, append_assoc}
-use Rattle.value.specs.Prelude.{append-nil}
+use Rattle.std.specs.Prelude.{ℕ, ◌+◌, ◌≡◌, refl, List, [], ◌∷◌, ◌++◌, length}
+use Rattle.std.proofs.Common.{sym, ◌∙◌, ap, ap₂, arith, append_assoc}
+use Rattle.std.proofs.Common.{append-nil}
 use Rattle.program.specs.Command.{Cmd}
 use Rattle.program.specs.Encode.{encode_all}
 use lib.ListN.{length-append}

@@ -1,7 +1,9 @@
 -- In any list of turns from a start each completed turn's sinks are what the text means: for a program that is
 -- accepted, laid out as the text's definitions say, and well-formed.
-use Rattle.value.specs.Prelude.{ℕ, zero, suc, ◌+◌, ◌*◌, ◌-◌, ◌≤◌, ◌<◌, ◌≡◌, refl, sym, ◌∙◌, ap, List, [], ◌∷◌, ◌++◌}
-use Rattle.value.specs.Prelude.{length, get_or, take, drop, arith}
+use Rattle.std.specs.Prelude.{ℕ, zero, suc, ◌+◌, ◌*◌, ◌-◌, ◌≤◌, ◌<◌, ◌≡◌, refl, List, [], ◌∷◌, ◌++◌}
+use Rattle.std.proofs.Common.{sym, ◌∙◌, ap}
+use Rattle.std.specs.Prelude.{length, get_or, take, drop}
+use Rattle.std.proofs.Common.{arith}
 use lib.ListN.{length-drop}
 use lib.Seq.{take-append_seam}
 use Rattle.value.specs.Value.{blank}

@@ -1,5 +1,6 @@
 -- The loop of the pass over names: a word's end as the code has it, and what is found when the words are all read.
-use Rattle.value.specs.Prelude.{ℕ, ◌-◌, ◌≤◌, ◌<◌, ◌≡◌, sym, ◌∙◌, ap, subst, List, length, arith}
+use Rattle.std.specs.Prelude.{ℕ, ◌-◌, ◌≤◌, ◌<◌, ◌≡◌, List, length}
+use Rattle.std.proofs.Common.{sym, ◌∙◌, ap, subst, arith}
 use Rattle.value.specs.Test.{◌=?◌}
 use Rattle.haai.specs.Word.{word_start, word_end, bytes_of, class_of}
 use Rattle.haai.specs.Grammar.{step_of, form_of}

@@ -1,5 +1,6 @@
 -- Well-formed trees, and programs that are laid out as a tree says: stretches of a reactor's commands.
-use Rattle.value.specs.Prelude.{ℕ, ◌+◌, ◌-◌, ◌≤◌, ◌<◌, ◌≡◌, sym, ◌∙◌, ap, List, ◌∷◌, ◌++◌, length, get_or, arith}
+use Rattle.std.specs.Prelude.{ℕ, ◌+◌, ◌-◌, ◌≤◌, ◌<◌, ◌≡◌, List, ◌∷◌, ◌++◌, length, get_or}
+use Rattle.std.proofs.Common.{sym, ◌∙◌, ap, arith}
 use lib.ListN.{length-append, get_or-append}
 use lib.Seq.{get_or-append-add}
 use Rattle.program.specs.Bytes.{reactors, commands_d, commands_in}

@@ -1,7 +1,9 @@
 -- A pass over the words of a text whose form is right, after which all names are known: what is kept at each word is
 -- what the definition knows there.
-use Rattle.value.specs.Prelude.{ℕ, ◌≤◌, ◌<◌, ◌≡◌, refl, sym, ◌∙◌, ap, subst, true, false, List, []}
-use Rattle.value.specs.Prelude.{length, arith}
+use Rattle.std.specs.Prelude.{ℕ, ◌≤◌, ◌<◌, ◌≡◌, refl, true, false, List, []}
+use Rattle.std.proofs.Common.{sym, ◌∙◌, ap, subst}
+use Rattle.std.specs.Prelude.{length}
+use Rattle.std.proofs.Common.{arith}
 use Rattle.value.proofs.Tests.{both?, pick_any}
 use Rattle.haai.specs.Word.{Word, word_start, word_end, bytes_of, class_of}
 use Rattle.haai.specs.Grammar.{begin, step_of, whole, Item, Formed, items, fault, with_item, taken, form_from}

@@ -1,6 +1,8 @@
 -- A whole expression, an operator, an applied operator and a whole definition each keep the tree as it is kept.
-use Rattle.value.specs.Prelude.{ℕ, suc, ◌+◌, ◌-◌, ◌*◌, ◌≤◌, ◌<◌, ◌≡◌, refl, sym, ◌∙◌, ap, ap₂, subst, ◌⊎◌, inl}
-use Rattle.value.specs.Prelude.{inr, not, List, [], ◌∷◌, ◌++◌, length, get_or, set, arith}
+use Rattle.std.specs.Prelude.{ℕ, suc, ◌+◌, ◌-◌, ◌*◌, ◌≤◌, ◌<◌, ◌≡◌, refl, ◌⊎◌}
+use Rattle.std.proofs.Common.{sym, ◌∙◌, ap, ap₂, subst, inl}
+use Rattle.std.proofs.Common.{inr, arith}
+use Rattle.std.specs.Prelude.{not, List, [], ◌∷◌, ◌++◌, length, get_or, set}
 use lib.ListN.{length-append, length-set}
 use lib.Seq.{get_or-set_same, get_or-set_other}
 use Rattle.value.specs.Test.{pick, ◌<?◌}

@@ -1,5 +1,5 @@
 -- The tree of a text as it is kept: `Grown` relates what the definition knows to the counts and the two tables.
-use Rattle.value.specs.Prelude.{ℕ, ◌+◌, ◌*◌, ◌≡◌, List, [], ◌∷◌, length, get_or}
+use Rattle.std.specs.Prelude.{ℕ, ◌+◌, ◌*◌, ◌≡◌, List, [], ◌∷◌, length, get_or}
 use Rattle.haai.specs.Syntax.{Exprs, count_of}
 use Rattle.haai.specs.Names.{Opened, Known}
 use Rattle.haai.specs.Emit.{calls, steps_all}

@@ -1,6 +1,7 @@
 -- A text that compiles: its bytes pass the check (`always_accepted`), and each completed turn's sinks are what its
 -- expressions mean (`always_faithful`).
-use Rattle.value.specs.Prelude.{ℕ, ◌+◌, ◌≡◌, refl, true, List, length, take, drop, arith}
+use Rattle.std.specs.Prelude.{ℕ, ◌+◌, ◌≡◌, refl, true, List, length, take, drop}
+use Rattle.std.proofs.Common.{arith}
 use lib.Seq.{take-append_seam}
 use Rattle.value.specs.Test.{◌≤?◌, ◌=?◌}
 use Rattle.value.proofs.Tests.{eq?}

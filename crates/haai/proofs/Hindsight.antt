@@ -1,7 +1,9 @@
 -- What holds of the words so far if the text turns out well: no fault, rows that are exact, and inside a definition no
 -- more commands than its rows say. `Good` of what is known after a word gives `Good` of what was known before it.
-use Rattle.value.specs.Prelude.{ℕ, ◌+◌, ◌≤◌, ◌<◌, ◌≡◌, refl, sym, ap, List, [], ◌∷◌, ◌++◌, length, arith, subst, ◌⊎◌}
-use Rattle.value.specs.Prelude.{inl, inr, Bool}
+use Rattle.std.specs.Prelude.{ℕ, ◌+◌, ◌≤◌, ◌<◌, ◌≡◌, refl, List, [], ◌∷◌, ◌++◌, length, ◌⊎◌}
+use Rattle.std.proofs.Common.{sym, ap, arith, subst}
+use Rattle.std.proofs.Common.{inl, inr}
+use Rattle.std.specs.Prelude.{Bool}
 use lib.ListN.{length-append, get_or-eq_default}
 use Rattle.value.specs.Test.{◌=?◌}
 use Rattle.value.proofs.Tests.{eq?, below}

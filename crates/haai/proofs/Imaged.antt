@@ -1,7 +1,9 @@
 -- What is known of names, by its places in the text: `Named` relates what the definition knows to a tally and its
 -- places, and each name that is taken in keeps it.
-use Rattle.value.specs.Prelude.{ℕ, ◌+◌, ◌-◌, ◌<◌, ◌≡◌, refl, sym, ◌∙◌, ap, ap₂, inl, inr, not, List, [], ◌∷◌, ◌++◌}
-use Rattle.value.specs.Prelude.{length, set, arith}
+use Rattle.std.specs.Prelude.{ℕ, ◌+◌, ◌-◌, ◌<◌, ◌≡◌, refl, not, List, [], ◌∷◌, ◌++◌}
+use Rattle.std.proofs.Common.{sym, ◌∙◌, ap, ap₂, inl, inr}
+use Rattle.std.specs.Prelude.{length, set}
+use Rattle.std.proofs.Common.{arith}
 use lib.ListN.{length-set}
 use Rattle.value.specs.Test.{guard}
 use Rattle.value.proofs.Tests.{cases, goes, stops}

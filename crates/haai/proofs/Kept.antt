@@ -1,6 +1,7 @@
 -- The state that is kept, put together from the parts that the functions of the code give: names with their places, the
 -- tree with its pile, and the table.
-use Rattle.value.specs.Prelude.{ℕ, ◌≡◌, refl, sym, ◌∙◌, ap, ap₂, Bool, false, List}
+use Rattle.std.specs.Prelude.{ℕ, ◌≡◌, refl, Bool, false, List}
+use Rattle.std.proofs.Common.{sym, ◌∙◌, ap, ap₂}
 use Rattle.value.specs.Test.{◌or◌}
 use Rattle.haai.specs.Places.{Held, held, source_held, reactor_held, parameter_held}
 use Rattle.haai.specs.Tables.{Grove, grove, grounded, Kept, kept, with_names, with_grove, operand_kept, constant_kept}

@@ -1,7 +1,8 @@
 -- The output after some words: the code of the whole definitions stands in it, then what the present one has so far.
 -- What a word adds keeps this.
-use Rattle.value.specs.Prelude.{ℕ, zero, suc, ◌+◌, ◌-◌, ◌*◌, ◌≤◌, ◌<◌, ◌≡◌, sym, ◌∙◌, ap, List, [], ◌∷◌, ◌++◌, length}
-use Rattle.value.specs.Prelude.{arith, subst, inl, inr}
+use Rattle.std.specs.Prelude.{ℕ, zero, suc, ◌+◌, ◌-◌, ◌*◌, ◌≤◌, ◌<◌, ◌≡◌, List, [], ◌∷◌, ◌++◌, length}
+use Rattle.std.proofs.Common.{sym, ◌∙◌, ap}
+use Rattle.std.proofs.Common.{arith, subst, inl, inr}
 use lib.ListN.{length-append}
 use Rattle.program.specs.Bytes.{byte}
 use Rattle.program.specs.Command.{Cmd}

@@ -1,5 +1,6 @@
 -- What a word adds leaves the lengths of the output and of the locations as they are.
-use Rattle.value.specs.Prelude.{ℕ, ◌+◌, ◌≤◌, ◌≡◌, ◌∙◌, List, [], ◌∷◌, length, arith}
+use Rattle.std.specs.Prelude.{ℕ, ◌+◌, ◌≤◌, ◌≡◌, List, [], ◌∷◌, length}
+use Rattle.std.proofs.Common.{◌∙◌, arith}
 use Rattle.value.specs.Test.{◌≤?◌, ◌<?◌}
 use Rattle.value.proofs.Tests.{le?, pick_any}
 use lib.ListN.{length-set}

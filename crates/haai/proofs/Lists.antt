@@ -1,6 +1,7 @@
 -- Lengths and positions of the lists of commands and locations that a tree gives.
-use Rattle.value.specs.Prelude.{ℕ, zero, suc, ◌+◌, ◌<◌, ◌≡◌, refl, sym, ◌∙◌, ap, List, [], ◌∷◌, ◌++◌, length, get_or}
-use Rattle.value.specs.Prelude.{arith}
+use Rattle.std.specs.Prelude.{ℕ, zero, suc, ◌+◌, ◌<◌, ◌≡◌, refl, List, [], ◌∷◌, ◌++◌, length, get_or}
+use Rattle.std.proofs.Common.{sym, ◌∙◌, ap}
+use Rattle.std.proofs.Common.{arith}
 use lib.ListN.{length-append, get_or-append}
 use lib.Seq.{get_or_at}
 use Rattle.program.specs.Command.{supply, sink, react, gives, consume}

@@ -1,7 +1,9 @@
 -- Main's sinks are what the text means, where the program is laid out as the text's definitions say and these are
 -- well-formed: by the definitions in their order, each of which is a function of the earlier ones.
-use Rattle.value.specs.Prelude.{ℕ, suc, ◌+◌, ◌-◌, ◌≤◌, ◌<◌, ◌≡◌, refl, sym, ◌∙◌, ap, ◌⊎◌, inl, inr, List, [], ◌∷◌}
-use Rattle.value.specs.Prelude.{◌++◌, length, get_or, drop, arith}
+use Rattle.std.specs.Prelude.{ℕ, suc, ◌+◌, ◌-◌, ◌≤◌, ◌<◌, ◌≡◌, refl, ◌⊎◌, List, [], ◌∷◌}
+use Rattle.std.proofs.Common.{sym, ◌∙◌, ap, inl, inr}
+use Rattle.std.specs.Prelude.{◌++◌, length, get_or, drop}
+use Rattle.std.proofs.Common.{arith}
 use lib.ListN.{length-append, length-drop}
 use lib.Seq.{get_or-drop, drop-drop}
 use Rattle.value.specs.Value.{blank}

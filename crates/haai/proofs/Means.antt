@@ -1,7 +1,9 @@
 -- What a deployment's values mean: where a turn's values solve the equations of its commands, and a reactor's commands
 -- are those of a definition, the value at an expression's location is the expression's meaning.
-use Rattle.value.specs.Prelude.{ℕ, ◌+◌, ◌-◌, ◌≤◌, ◌<◌, ◌≡◌, refl, sym, ◌∙◌, ap, ◌⊎◌, inl, inr, List, []}
-use Rattle.value.specs.Prelude.{◌∷◌, ◌++◌, length, get_or, arith}
+use Rattle.std.specs.Prelude.{ℕ, ◌+◌, ◌-◌, ◌≤◌, ◌<◌, ◌≡◌, refl, ◌⊎◌, List, []}
+use Rattle.std.proofs.Common.{sym, ◌∙◌, ap, inl, inr}
+use Rattle.std.specs.Prelude.{◌∷◌, ◌++◌, length, get_or}
+use Rattle.std.proofs.Common.{arith}
 use Rattle.value.specs.Value.{value, blank, number_kind, number_mark, mark_of}
 use Rattle.value.specs.Primitive as P
 use Rattle.value.specs.declared.Value.{Value}

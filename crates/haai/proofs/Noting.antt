@@ -1,7 +1,9 @@
 -- Where the values of operands are noted: a row of seven for the body and for each open application. One more
 -- expression is one more entry of the innermost row.
-use Rattle.value.specs.Prelude.{ℕ, zero, suc, ◌+◌, ◌*◌, ◌≤◌, ◌<◌, ◌≡◌, sym, ◌∙◌, ap, List, [], ◌∷◌, ◌++◌, length, get_or}
-use Rattle.value.specs.Prelude.{set, arith, subst}
+use Rattle.std.specs.Prelude.{ℕ, zero, suc, ◌+◌, ◌*◌, ◌≤◌, ◌<◌, ◌≡◌, List, [], ◌∷◌, ◌++◌, length, get_or}
+use Rattle.std.proofs.Common.{sym, ◌∙◌, ap}
+use Rattle.std.specs.Prelude.{set}
+use Rattle.std.proofs.Common.{arith, subst}
 use lib.Seq.{get_or-set_same, get_or-set_other}
 use Rattle.haai.specs.Syntax.{Expr, Exprs, none, count_of}
 use Rattle.haai.specs.Names.{Opened, with_operand}

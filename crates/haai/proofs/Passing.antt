@@ -1,6 +1,7 @@
 -- The pass that writes the commands: at each word the output is right for what is known there, if the text turns out
 -- well; so at the end it is the old one with the code of all definitions put in.
-use Rattle.value.specs.Prelude.{ℕ, ◌+◌, ◌≤◌, ◌<◌, ◌≡◌, refl, sym, ◌∙◌, ap, subst, List, length, arith}
+use Rattle.std.specs.Prelude.{ℕ, ◌+◌, ◌≤◌, ◌<◌, ◌≡◌, refl, List, length}
+use Rattle.std.proofs.Common.{sym, ◌∙◌, ap, subst, arith}
 use Rattle.value.specs.Test.{◌=?◌}
 use Rattle.value.proofs.Tests.{both?, le?}
 use Rattle.image.specs.Memory.{patch}

@@ -1,5 +1,6 @@
 -- Where the bytes of a tree's program stand: the tables and the commands, read back.
-use Rattle.value.specs.Prelude.{ℕ, zero, suc, ◌+◌, ◌*◌, ◌<◌, ◌≡◌, refl, ◌∙◌, ap, List, [], ◌∷◌, length, arith}
+use Rattle.std.specs.Prelude.{ℕ, zero, suc, ◌+◌, ◌*◌, ◌<◌, ◌≡◌, refl, List, [], ◌∷◌, length}
+use Rattle.std.proofs.Common.{◌∙◌, ap, arith}
 use lib.ListN.{length-append}
 use Rattle.program.specs.Bytes.{byte}
 use Rattle.program.specs.Command.{Cmd, bytes_at}

@@ -1,6 +1,7 @@
 -- Where the code writes and notes next, by the tree as it is kept: the places and locations of the definition.
-use Rattle.value.specs.Prelude.{ℕ, suc, ◌+◌, ◌-◌, ◌*◌, ◌≤◌, ◌<◌, ◌≡◌, refl, sym, ◌∙◌, ap, List, [], ◌∷◌, length, get_or}
-use Rattle.value.specs.Prelude.{arith}
+use Rattle.std.specs.Prelude.{ℕ, suc, ◌+◌, ◌-◌, ◌*◌, ◌≤◌, ◌<◌, ◌≡◌, refl, List, [], ◌∷◌, length, get_or}
+use Rattle.std.proofs.Common.{sym, ◌∙◌, ap}
+use Rattle.std.proofs.Common.{arith}
 use Rattle.value.specs.Test.{pick, ◌<?◌, ◌≤?◌}
 use Rattle.value.proofs.Tests.{pick_any, lt×?, le!, le×, eq!, eq×, yes, no}
 use Rattle.program.specs.Bytes.{byte}

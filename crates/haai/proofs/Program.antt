@@ -1,6 +1,8 @@
 -- The program of a tree, read by the accessors: its header, shapes, entries and commands are those of the tree.
-use Rattle.value.specs.Prelude.{ℕ, zero, suc, ◌+◌, ◌-◌, ◌*◌, ◌≤◌, ◌<◌, ◌≡◌, refl, sym, ◌∙◌, ap, List, ◌++◌, length}
-use Rattle.value.specs.Prelude.{get_or, replicate, arith}
+use Rattle.std.specs.Prelude.{ℕ, zero, suc, ◌+◌, ◌-◌, ◌*◌, ◌≤◌, ◌<◌, ◌≡◌, refl, List, ◌++◌, length}
+use Rattle.std.proofs.Common.{sym, ◌∙◌, ap}
+use Rattle.std.specs.Prelude.{get_or, replicate}
+use Rattle.std.proofs.Common.{arith}
 use lib.ListN.{length-append, get_or-replicate, length-replicate}
 use Rattle.program.specs.Bytes.{byte, reactors, shapes, globals, shape_at, sources_in, sinks_in, source_kind, sink_kind}
 use Rattle.program.specs.Bytes.{entry_at, shape_of, commands_d, commands_r, commands_in, tables_end, commands_at, whole_length}

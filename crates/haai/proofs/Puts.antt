@@ -1,6 +1,8 @@
 -- Bytes put one by one, or stretch after stretch, are one stretch; rows and commands put in a loop are all of them.
-use Rattle.value.specs.Prelude.{ℕ, zero, suc, ◌+◌, ◌-◌, ◌*◌, ◌/◌, ◌%◌, ◌≤◌, ◌<◌, ◌≡◌, refl, sym, ◌∙◌, ap, ap₂, ⊎_elim}
-use Rattle.value.specs.Prelude.{List, [], ◌∷◌, ◌++◌, append_assoc, length, get_or, set, take, drop, replicate, arith}
+use Rattle.std.specs.Prelude.{ℕ, zero, suc, ◌+◌, ◌-◌, ◌*◌, ◌/◌, ◌%◌, ◌≤◌, ◌<◌, ◌≡◌, refl}
+use Rattle.std.proofs.Common.{sym, ◌∙◌, ap, ap₂, ⊎_elim}
+use Rattle.std.specs.Prelude.{List, [], ◌∷◌, ◌++◌, length, get_or, set, take, drop, replicate}
+use Rattle.std.proofs.Common.{append_assoc, arith}
 use native.Mathlib.Numerals.{add-one}
 use lib.ListN.{take-append-drop, length-set, length-append, length-replicate}
 use lib.Seq.{take-suc-set, drop-set-lt}

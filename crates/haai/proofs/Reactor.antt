@@ -1,6 +1,8 @@
 -- A reactor of a tree's program obeys the rules.
-use Rattle.value.specs.Prelude.{ℕ, ◌+◌, ◌-◌, ◌≤◌, ◌<◌, ◌≡◌, refl, sym, ◌∙◌, ap, subst, ◌⊎◌, inl, inr, List, length}
-use Rattle.value.specs.Prelude.{get_or, arith}
+use Rattle.std.specs.Prelude.{ℕ, ◌+◌, ◌-◌, ◌≤◌, ◌<◌, ◌≡◌, refl, ◌⊎◌, List, length}
+use Rattle.std.proofs.Common.{sym, ◌∙◌, ap, subst, inl, inr}
+use Rattle.std.specs.Prelude.{get_or}
+use Rattle.std.proofs.Common.{arith}
 use Rattle.value.proofs.Tests.{below}
 use Rattle.program.specs.Bytes.{sources_in, sink_kind, commands_d, commands_in}
 use Rattle.program.specs.Command.{Cmd, bytes_of, cmd_of, sequence_of, class_of, D, R, alloc_mono, make_poly, cell, gives}

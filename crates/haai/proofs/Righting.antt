@@ -1,7 +1,9 @@
 -- Every emitted command is right where it stands: its operands are values and deployments, its ports exist and all
 -- kinds are numbers.
-use Rattle.value.specs.Prelude.{ℕ, zero, suc, ◌+◌, ◌-◌, ◌≤◌, ◌<◌, ◌≡◌, refl, sym, ◌∙◌, ap, subst, ◌⊎◌, inl, inr, List}
-use Rattle.value.specs.Prelude.{[], ◌∷◌, ◌++◌, length, get_or, arith}
+use Rattle.std.specs.Prelude.{ℕ, zero, suc, ◌+◌, ◌-◌, ◌≤◌, ◌<◌, ◌≡◌, refl, ◌⊎◌, List}
+use Rattle.std.proofs.Common.{sym, ◌∙◌, ap, subst, inl, inr}
+use Rattle.std.specs.Prelude.{[], ◌∷◌, ◌++◌, length, get_or}
+use Rattle.std.proofs.Common.{arith}
 use lib.ListN.{length-append, get_or-append}
 use lib.Seq.{get_or-append-add}
 use Rattle.value.specs.Value.{number_kind}

@@ -1,7 +1,9 @@
 -- Each call's deployment is served by one block of commands: its Supplies in order, its React, its Consume. No other
 -- command names it.
-use Rattle.value.specs.Prelude.{ℕ, ◌+◌, ◌-◌, ◌≤◌, ◌<◌, ◌≡◌, refl, ◌∙◌, ap, ◌⊎◌, inl, inr, List, [], ◌∷◌, ◌++◌, length}
-use Rattle.value.specs.Prelude.{get_or, arith}
+use Rattle.std.specs.Prelude.{ℕ, ◌+◌, ◌-◌, ◌≤◌, ◌<◌, ◌≡◌, refl, ◌⊎◌, List, [], ◌∷◌, ◌++◌, length}
+use Rattle.std.proofs.Common.{◌∙◌, ap, inl, inr}
+use Rattle.std.specs.Prelude.{get_or}
+use Rattle.std.proofs.Common.{arith}
 use lib.ListN.{length-append}
 use Rattle.value.specs.Value.{number_kind}
 use Rattle.value.proofs.Tests.{below}

@@ -1,7 +1,7 @@
 -- What a role asks of the tables' room, and that the form sees to it: `Shallow` bounds the open brackets, and `Ready`
 -- is what holds when a word comes in its role.
-use Rattle.value.specs.Prelude.{ℕ, ◌-◌, ◌≤◌, ◌<◌, ◌≡◌, refl, not, List, [], ◌∷◌, length}
-use Rattle.value.specs.Prelude.{arith}
+use Rattle.std.specs.Prelude.{ℕ, ◌-◌, ◌≤◌, ◌<◌, ◌≡◌, refl, not, List, [], ◌∷◌, length}
+use Rattle.std.proofs.Common.{arith}
 use Rattle.value.specs.Test.{◌<?◌, ◌≤?◌, ◌=?◌, ◌and◌}
 use Rattle.value.proofs.Tests.{lt?, both?, pick_any, not_false}
 use Rattle.haai.specs.Word.{position, among, signs, defr_word, out_word, source_word}

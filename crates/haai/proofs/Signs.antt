@@ -1,5 +1,6 @@
 -- The rows of the four signs in the table of primitives: two numbers in, a number out.
-use Rattle.value.specs.Prelude.{ℕ, zero, suc, ◌≤◌, ◌<◌, ◌≡◌, refl, ap, arith}
+use Rattle.std.specs.Prelude.{ℕ, zero, suc, ◌≤◌, ◌<◌, ◌≡◌, refl}
+use Rattle.std.proofs.Common.{ap, arith}
 use Rattle.value.specs.Primitive.{row_of, table, numeric, operands, count_of, Offered}
 use Rattle.value.specs.Primitive as P
 use Rattle.value.specs.declared.Gives.TheVariants.{ANumber}

@@ -1,6 +1,9 @@
 -- The sizes that are read off the rows are those of the definitions; and the loops that read them.
-use Rattle.value.specs.Prelude.{ℕ, suc, ◌+◌, ◌-◌, ◌*◌, ◌≤◌, ◌<◌, ◌≡◌, refl, sym, ◌∙◌, ap, ap₂, Bool, true}
-use Rattle.value.specs.Prelude.{false, false≢true, List, [], ◌∷◌, length, get_or, arith}
+use Rattle.std.specs.Prelude.{ℕ, suc, ◌+◌, ◌-◌, ◌*◌, ◌≤◌, ◌<◌, ◌≡◌, refl, Bool, true}
+use Rattle.std.proofs.Common.{sym, ◌∙◌, ap, ap₂}
+use Rattle.std.specs.Prelude.{false, List, [], ◌∷◌, length, get_or}
+use Rattle.std.proofs.lemmas.Bool.{false≢true}
+use Rattle.std.proofs.Common.{arith}
 use lib.ListN.{length-append}
 use Rattle.value.specs.Test.{guard, ◌≤?◌, ◌and◌}
 use Rattle.value.proofs.Tests.{le?, both?, goes, stops, guards}

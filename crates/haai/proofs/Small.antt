@@ -1,6 +1,9 @@
 -- The counts of how far a form has been read stay small; and what each word of a pass over the form comes to.
-use Rattle.value.specs.Prelude.{ℕ, ◌-◌, ◌≤◌, ◌<◌, ◌≡◌, refl, sym, ◌∙◌, ap, subst, Bool, true, false, false≢true, List}
-use Rattle.value.specs.Prelude.{[], ◌∷◌, length, arith}
+use Rattle.std.specs.Prelude.{ℕ, ◌-◌, ◌≤◌, ◌<◌, ◌≡◌, refl, Bool, true, false, List}
+use Rattle.std.proofs.Common.{sym, ◌∙◌, ap, subst}
+use Rattle.std.proofs.lemmas.Bool.{false≢true}
+use Rattle.std.specs.Prelude.{[], ◌∷◌, length}
+use Rattle.std.proofs.Common.{arith}
 use Rattle.value.specs.Test.{pick, ◌<?◌, ◌≤?◌, ◌=?◌, ◌and◌}
 use Rattle.value.proofs.Tests.{lt?, both?, pick_any}
 use Rattle.haai.specs.Word.{Word, word_start, word_end, bytes_of, class_of, defr_word, out_word, source_word}

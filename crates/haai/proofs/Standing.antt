@@ -1,7 +1,8 @@
 -- Which command stands where in a reactor of a tree's program: first AllocMonos of lower reactors, then the commands of
 -- its expressions, then its Sinks.
-use Rattle.value.specs.Prelude.{ℕ, ◌+◌, ◌-◌, ◌≤◌, ◌<◌, ◌≡◌, refl, sym, ◌∙◌, ap, ◌⊎◌, inl, inr, List, ◌++◌, length, get_or}
-use Rattle.value.specs.Prelude.{arith}
+use Rattle.std.specs.Prelude.{ℕ, ◌+◌, ◌-◌, ◌≤◌, ◌<◌, ◌≡◌, refl, ◌⊎◌, List, ◌++◌, length, get_or}
+use Rattle.std.proofs.Common.{sym, ◌∙◌, ap, inl, inr}
+use Rattle.std.proofs.Common.{arith}
 use Rattle.value.proofs.Tests.{below}
 use Rattle.program.specs.Bytes.{commands_d, commands_in}
 use Rattle.program.specs.Command.{Cmd, cmd_of, sequence_of, R, alloc_mono, make_poly, cell, gives, supply, react, sink}

@@ -1,7 +1,9 @@
 -- Stretches of the output: what stands where, what a write of commands changes, and that an output in which only one
 -- stretch has changed is the old one with that stretch put in.
-use Rattle.value.specs.Prelude.{ℕ, suc, ◌+◌, ◌-◌, ◌*◌, ◌≤◌, ◌<◌, ◌≡◌, refl, sym, ◌∙◌, ap, List, [], ◌∷◌, ◌++◌, length}
-use Rattle.value.specs.Prelude.{get_or, arith, ◌⊎◌, inl, inr, append_assoc}
+use Rattle.std.specs.Prelude.{ℕ, suc, ◌+◌, ◌-◌, ◌*◌, ◌≤◌, ◌<◌, ◌≡◌, refl, List, [], ◌∷◌, ◌++◌, length}
+use Rattle.std.proofs.Common.{sym, ◌∙◌, ap}
+use Rattle.std.specs.Prelude.{get_or, ◌⊎◌}
+use Rattle.std.proofs.Common.{arith, inl, inr, append_assoc}
 use Rattle.value.proofs.Tests.{below, le!, yes}
 use Rattle.program.specs.Command.{Cmd}
 use Rattle.program.specs.Encode.{encode, encode_all}

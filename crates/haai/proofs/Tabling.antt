@@ -1,6 +1,8 @@
 -- The tables, written off the rows, and then the code of the definitions are the program.
-use Rattle.value.specs.Prelude.{ℕ, suc, ◌+◌, ◌*◌, ◌≤◌, ◌<◌, ◌≡◌, refl, ◌∙◌, ap, ap₂, true, List, [], ◌∷◌, ◌++◌}
-use Rattle.value.specs.Prelude.{append_assoc, length, replicate, arith}
+use Rattle.std.specs.Prelude.{ℕ, suc, ◌+◌, ◌*◌, ◌≤◌, ◌<◌, ◌≡◌, refl, true, List, [], ◌∷◌, ◌++◌}
+use Rattle.std.proofs.Common.{◌∙◌, ap, ap₂}
+use Rattle.std.proofs.Common.{append_assoc, arith}
+use Rattle.std.specs.Prelude.{length, replicate}
 use lib.ListN.{length-append, length-replicate}
 use Rattle.image.specs.Memory.{patch}
 use Rattle.haai.specs.Syntax.{Definition, Text}

@@ -1,6 +1,8 @@
 -- Lists of values: how many meanings expressions have, and the first values of a deployment as a list.
-use Rattle.value.specs.Prelude.{ℕ, zero, suc, ◌≤◌, ◌<◌, ◌≡◌, refl, sym, ◌∙◌, ap, ◌⊎◌, inl, inr, List, [], ◌∷◌, ◌++◌}
-use Rattle.value.specs.Prelude.{length, get_or, arith}
+use Rattle.std.specs.Prelude.{ℕ, zero, suc, ◌≤◌, ◌<◌, ◌≡◌, refl, ◌⊎◌, List, [], ◌∷◌, ◌++◌}
+use Rattle.std.proofs.Common.{sym, ◌∙◌, ap, inl, inr}
+use Rattle.std.specs.Prelude.{length, get_or}
+use Rattle.std.proofs.Common.{arith}
 use lib.ListN.{length-append}
 use lib.Seq.{ext_get_or}
 use Rattle.value.specs.Value.{blank}

@@ -1,6 +1,8 @@
 -- A word adds to the output what `adds` says, and the output is then right for what is known after the word.
-use Rattle.value.specs.Prelude.{ℕ, ◌+◌, ◌-◌, ◌*◌, ◌%◌, ◌≤◌, ◌<◌, ◌≡◌, refl, sym, ◌∙◌, ap, ap₂, List, [], ◌∷◌, ◌++◌}
-use Rattle.value.specs.Prelude.{length, get_or, set, arith, subst}
+use Rattle.std.specs.Prelude.{ℕ, ◌+◌, ◌-◌, ◌*◌, ◌%◌, ◌≤◌, ◌<◌, ◌≡◌, refl, List, [], ◌∷◌, ◌++◌}
+use Rattle.std.proofs.Common.{sym, ◌∙◌, ap, ap₂}
+use Rattle.std.specs.Prelude.{length, get_or, set}
+use Rattle.std.proofs.Common.{arith, subst}
 use Rattle.value.specs.Value.{number_kind}
 use Rattle.value.proofs.Tests.{lt!, lt×, yes, no}
 use Rattle.program.specs.Command.{alloc_mono, gives, react, constant, global, consume, primitive}

@@ -1,6 +1,7 @@
 -- Every word, in its role, keeps the output right for what is known.
-use Rattle.value.specs.Prelude.{ℕ, suc, ◌+◌, ◌*◌, ◌≤◌, ◌<◌, ◌≡◌, refl, sym, ◌∙◌, ap, ap₂, List, [], ◌∷◌, length, get_or}
-use Rattle.value.specs.Prelude.{arith, subst}
+use Rattle.std.specs.Prelude.{ℕ, suc, ◌+◌, ◌*◌, ◌≤◌, ◌<◌, ◌≡◌, refl, List, [], ◌∷◌, length, get_or}
+use Rattle.std.proofs.Common.{sym, ◌∙◌, ap, ap₂}
+use Rattle.std.proofs.Common.{arith, subst}
 use Rattle.value.specs.Test.{◌=?◌}
 use Rattle.program.specs.Encode.{encode_all}
 use Rattle.haai.specs.Syntax as S

@@ -1,6 +1,8 @@
 -- Laws of words: what a loop over a word's bytes finds, step by step; sums that are capped; numbers.
-use Rattle.value.specs.Prelude.{ℕ, zero, suc, ◌+◌, ◌-◌, ◌*◌, ◌≤◌, ◌<◌, ◌≡◌, refl, sym, ◌∙◌, ap, Bool, true, false, not}
-use Rattle.value.specs.Prelude.{◌&&◌, List, [], ◌∷◌, length, drop, arith}
+use Rattle.std.specs.Prelude.{ℕ, zero, suc, ◌+◌, ◌-◌, ◌*◌, ◌≤◌, ◌<◌, ◌≡◌, refl, Bool, true, false, not}
+use Rattle.std.proofs.Common.{sym, ◌∙◌, ap}
+use Rattle.std.specs.Prelude.{◌&&◌, List, [], ◌∷◌, length, drop}
+use Rattle.std.proofs.Common.{arith}
 use lib.Seq.{drop-cons}
 use lib.ListN.{drop_of_length-le}
 use lib.IntN.{ℤ, pos, neg_ℤ}

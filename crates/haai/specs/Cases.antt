@@ -1,6 +1,6 @@
 -- Texts by hand, in tables with one claim each: number and place, the bytes of some, and an average and a toggle over
 -- three turns. What each row says was counted by hand, and the definitions answer it.
-use Rattle.value.specs.Prelude.{ℕ, zero, suc, ◌+◌, ◌/◌, ◌%◌, ◌≡◌, refl, List, [], ◌∷◌, ◌++◌, take, replicate}
+use Rattle.std.specs.Prelude.{ℕ, zero, suc, ◌+◌, ◌/◌, ◌%◌, ◌≡◌, refl, List, [], ◌∷◌, ◌++◌, take, replicate}
 use Prim.Native.Char.{code}
 use Prim.Native.String.{String, [] as empty, ◌∷◌ as ◌then◌}
 use Rattle.answer.specs.Answer.{number_of, place_of}

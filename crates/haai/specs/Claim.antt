@@ -1,5 +1,5 @@
 -- 8.14, 8.15 What is proved of a text that compiles. An element of each of these types stands in proofs/Haai.antt.
-use Rattle.value.specs.Prelude.{ℕ, ◌*◌, ◌≡◌, List, [], ◌∷◌, take}
+use Rattle.std.specs.Prelude.{ℕ, ◌*◌, ◌≡◌, List, [], ◌∷◌, take}
 use Rattle.program.specs.Bytes.{main_of}
 use Rattle.program.specs.Location.{sink_count}
 use Rattle.answer.specs.Answer.{number_of}

@@ -1,5 +1,5 @@
 -- What the contracts speak of beside the definitions: definitions cut as the code is cut.
-use Rattle.value.specs.Prelude.{ℕ, ◌+◌, ◌-◌, ◌<◌, Bool, not, List, length}
+use Rattle.std.specs.Prelude.{ℕ, ◌+◌, ◌-◌, ◌<◌, Bool, not, List, length}
 use Rattle.value.specs.Test.{pick, guard, sweep, ◌<?◌, ◌=?◌, ◌or◌}
 use Rattle.program.specs.Bytes.{byte}
 use Rattle.answer.specs.declared.Answer.{Answer}

@@ -1,5 +1,5 @@
 -- 8.12 The call: a text to bytecode.
-use Rattle.value.specs.Prelude.{ℕ, List, [], length}
+use Rattle.std.specs.Prelude.{ℕ, List, [], length}
 use Rattle.value.specs.Test.{◌≤?◌, ◌=?◌, guard}
 use Rattle.image.specs.Memory.{patch}
 use Rattle.answer.specs.declared.Answer.{Answer}

@@ -1,5 +1,5 @@
 -- 8.10, 8.11 The bytes of a tree.
-use Rattle.value.specs.Prelude.{ℕ, ◌+◌, ◌-◌, Bool, true, false, List, [], ◌∷◌, ◌++◌, length, get_or, replicate}
+use Rattle.std.specs.Prelude.{ℕ, ◌+◌, ◌-◌, Bool, true, false, List, [], ◌∷◌, ◌++◌, length, get_or, replicate}
 use Rattle.value.specs.Test.{◌≤?◌, ◌and◌, guard}
 use Rattle.value.specs.Value.{number_kind}
 use Rattle.program.specs.Command.{Cmd, alloc_mono, gives, supply, react, sink, constant, global, consume, primitive}

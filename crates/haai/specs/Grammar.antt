@@ -1,6 +1,6 @@
 -- 8.2 The form of a text, word by word from the left: which word can come next, and what it is in the form. A taken
 -- word counts as a name where a name can stand, and is for 17 to refuse.
-use Rattle.value.specs.Prelude.{ℕ, ◌+◌, ◌-◌, Bool, true, false, List, [], ◌∷◌, length}
+use Rattle.std.specs.Prelude.{ℕ, ◌+◌, ◌-◌, Bool, true, false, List, [], ◌∷◌, length}
 use Rattle.value.specs.Test.{pick, ◌<?◌, ◌≤?◌, ◌=?◌, ◌and◌}
 use Rattle.program.specs.Bytes.{most_globals}
 use Rattle.haai.specs.Word.{Word, words_of, class_of, defr_word, out_word, source_word}

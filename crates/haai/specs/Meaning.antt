@@ -1,5 +1,5 @@
 -- 8.9 What a text means, on its tree alone: the values of main's expressions, for the time and the readings.
-use Rattle.value.specs.Prelude.{ℕ, List, [], ◌∷◌, ◌++◌, get_or}
+use Rattle.std.specs.Prelude.{ℕ, List, [], ◌∷◌, ◌++◌, get_or}
 use Rattle.value.specs.Value.{number_mark, value, blank}
 use Rattle.value.specs.Primitive.{primitive}
 use Rattle.value.specs.declared.Value.{Value}

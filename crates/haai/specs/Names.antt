@@ -1,6 +1,6 @@
 -- 8.7, 5.27 Names and counts: the tree of a text whose form is right, and the lowest byte that 17 blames. One pass
 -- over the words in their roles, since a name means what was declared before it.
-use Rattle.value.specs.Prelude.{ℕ, ◌+◌, Bool, true, not, List, [], ◌∷◌, ◌++◌, length, get_or}
+use Rattle.std.specs.Prelude.{ℕ, ◌+◌, Bool, true, not, List, [], ◌∷◌, ◌++◌, length, get_or}
 use Rattle.value.specs.Test.{pick, ◌<?◌, ◌=?◌, ◌and◌, ◌or◌, guard}
 use Rattle.haai.specs.Word.{same_word, position, among, taken_words, time_word, signs}
 use Rattle.haai.specs.Grammar.{Item}

@@ -1,6 +1,6 @@
 -- Every definition of this room opened at once, and of those below it, for theorems that compute: such a theorem says
 -- `unfolding opened`.
-use Rattle.value.specs.Prelude.{ℕ}
+use Rattle.std.specs.Prelude.{ℕ}
 use Rattle.remus.specs.Open.{opened as below_opened}
 use Rattle.haai.specs.Word.{is_space, is_bracket, ends_word, word_start, word_end, bytes_of as word_bytes, words_from}
 use Rattle.haai.specs.Word.{words_of, same_word, position, among, every, is_letter, is_digit, is_name, decimal}

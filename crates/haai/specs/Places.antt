@@ -1,6 +1,6 @@
 -- Names by their places in the text: the first bytes of the sources' names stand at 0 to 30 of the places, those of the
 -- reactors' at 31 to 62, those of the parameters' at 63 to 286.
-use Rattle.value.specs.Prelude.{ℕ, zero, suc, ◌+◌, ◌-◌, ◌≤◌, Bool, not, List, [], ◌∷◌, ◌++◌, get_or, set}
+use Rattle.std.specs.Prelude.{ℕ, zero, suc, ◌+◌, ◌-◌, ◌≤◌, Bool, not, List, [], ◌∷◌, ◌++◌, get_or, set}
 use Rattle.value.specs.Test.{guard}
 use Rattle.haai.specs.Word.{word_end, bytes_of, position, among, signs}
 use Rattle.haai.specs.Names.{unless, fresh}

@@ -1,6 +1,6 @@
 -- 8.3, 8.4 A text as a tree, with names resolved: a parameter by its number, a source or the time by its global, a
 -- reactor by its number. The last definition is main.
-use Rattle.value.specs.Prelude.{ℕ, ◌+◌, List}
+use Rattle.std.specs.Prelude.{ℕ, ◌+◌, List}
 
 -- 8.8 what an application applies
 pub data Operator : Type 0 where

@@ -2,8 +2,8 @@
 -- parameters at j, the sinks at 32 + j, the AllocMonos at 64 + j and the R commands at 96 + j. Of the i-th open
 -- application, from the outermost on, the pile has its operator at 3 · i, the operator's place after it, and then how
 -- many operands it has so far.
-use Rattle.value.specs.Prelude.{ℕ, zero, suc, ◌+◌, ◌-◌, ◌*◌, ◌≤◌, ◌<◌, ◌≡◌, Bool, true, false, List, [], length}
-use Rattle.value.specs.Prelude.{get_or, set}
+use Rattle.std.specs.Prelude.{ℕ, zero, suc, ◌+◌, ◌-◌, ◌*◌, ◌≤◌, ◌<◌, ◌≡◌, Bool, true, false, List, [], length}
+use Rattle.std.specs.Prelude.{get_or, set}
 use Rattle.value.specs.Test.{pick, guard, ◌<?◌, ◌≤?◌, ◌=?◌, ◌and◌, ◌or◌}
 use Rattle.program.specs.Bytes.{byte}
 use Rattle.haai.specs.Word.{among, same_word, taken_words, time_word}

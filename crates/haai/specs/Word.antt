@@ -1,5 +1,5 @@
 -- 8.1 The words of a text: where they are, and what each is by its bytes.
-use Rattle.value.specs.Prelude.{ℕ, zero, suc, ◌+◌, ◌-◌, ◌*◌, Bool, true, false, not, List, [], ◌∷◌, length, take, drop}
+use Rattle.std.specs.Prelude.{ℕ, zero, suc, ◌+◌, ◌-◌, ◌*◌, Bool, true, false, not, List, [], ◌∷◌, length, take, drop}
 use Rattle.value.specs.Test.{pick, ◌<?◌, ◌≤?◌, ◌=?◌, ◌and◌, ◌or◌, guard, sweep}
 use Rattle.value.specs.Primitive.{in32}
 use Rattle.program.specs.Bytes.{byte}

@@ -1,8 +1,8 @@
 -- How the bytes of a text's commands are written: which commands a word adds, where they go, and where the values of
 -- open applications stand. The locations of the operands that an open application has so far are a row of seven bytes;
 -- row 0 is that of the body, row i that of the i-th open application from the outermost on.
-use Rattle.value.specs.Prelude.{ℕ, zero, suc, ◌+◌, ◌-◌, ◌*◌, ◌%◌, ◌≤◌, ◌≡◌, true, List, [], ◌∷◌, ◌++◌, length}
-use Rattle.value.specs.Prelude.{get_or, set, replicate}
+use Rattle.std.specs.Prelude.{ℕ, zero, suc, ◌+◌, ◌-◌, ◌*◌, ◌%◌, ◌≤◌, ◌≡◌, true, List, [], ◌∷◌, ◌++◌, length}
+use Rattle.std.specs.Prelude.{get_or, set, replicate}
 use Rattle.value.specs.Test.{pick, ◌≤?◌, ◌<?◌, ◌=?◌}
 use Rattle.value.specs.Value.{number_kind}
 use Rattle.program.specs.Bytes.{byte}

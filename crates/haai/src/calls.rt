@@ -1,5 +1,5 @@
 // 8.12 The call.
-ghost use Rattle.value.specs.Prelude.{◌≤◌, ◌≡◌, true, length};
+ghost use Rattle.std.specs.Prelude.{◌≤◌, ◌≡◌, true, length};
 ghost use Rattle.image.specs.Memory.{patch};
 ghost use Rattle.haai.specs.Grammar.{form_of};
 ghost use Rattle.haai.specs.Names.{text_of};

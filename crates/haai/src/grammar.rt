@@ -1,5 +1,5 @@
 // The form of a text, word by word: which word or bracket can come next, and what it is in the form.
-ghost use Rattle.value.specs.Prelude.{◌-◌, ◌≤◌, ◌<◌, ◌≡◌, length};
+ghost use Rattle.std.specs.Prelude.{◌-◌, ◌≤◌, ◌<◌, ◌≡◌, length};
 ghost use Rattle.haai.specs.Word as O;
 ghost use Rattle.haai.specs.Grammar as G;
 ghost use Rattle.haai.specs.Clauses.{Room, opened_step, check_end, check_of};

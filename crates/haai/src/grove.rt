@@ -1,6 +1,6 @@
 // The tree of a text as it is kept: counts that stay at 200 once they reach it, a table of the definitions, and a
 // pile of the open applications.
-ghost use Rattle.value.specs.Prelude.{◌+◌, ◌≡◌, get_or, set};
+ghost use Rattle.std.specs.Prelude.{◌+◌, ◌≡◌, get_or, set};
 ghost use Rattle.haai.specs.Tables as Y;
 
 use crate::Tree;

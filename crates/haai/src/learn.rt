@@ -1,5 +1,5 @@
 // What is known of names and of the tree after one more word of the text, w at a, in its role; and after all.
-ghost use Rattle.value.specs.Prelude.{ℕ, ◌-◌, ◌≤◌, ◌≡◌, List, length};
+ghost use Rattle.std.specs.Prelude.{ℕ, ◌-◌, ◌≤◌, ◌≡◌, List, length};
 ghost use Rattle.value.specs.Test.{pick};
 ghost use Rattle.haai.specs.Word as O;
 ghost use Rattle.haai.specs.Grammar as G;

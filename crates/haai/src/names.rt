@@ -1,5 +1,5 @@
 // Names by their places in the text.
-ghost use Rattle.value.specs.Prelude.{◌+◌, ◌≤◌, ◌≡◌, [], ◌++◌, get_or, set};
+ghost use Rattle.std.specs.Prelude.{◌+◌, ◌≤◌, ◌≡◌, [], ◌++◌, get_or, set};
 ghost use Rattle.value.specs.Test.{◌or◌};
 ghost use Rattle.haai.specs.Word as O;
 ghost use Rattle.haai.specs.Names as I;

@@ -1,5 +1,5 @@
 // The pass that writes a text's commands, word by word.
-ghost use Rattle.value.specs.Prelude.{◌≤◌, ◌≡◌, length};
+ghost use Rattle.std.specs.Prelude.{◌≤◌, ◌≡◌, length};
 ghost use Rattle.image.specs.Memory.{patch};
 ghost use Rattle.haai.specs.Word.{bytes_of};
 ghost use Rattle.haai.specs.Grammar as G;

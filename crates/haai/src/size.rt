@@ -1,5 +1,5 @@
 // Sizes of a program, by the rows of its definitions.
-ghost use Rattle.value.specs.Prelude.{◌<◌, ◌≤◌, ◌≡◌};
+ghost use Rattle.std.specs.Prelude.{◌<◌, ◌≤◌, ◌≡◌};
 ghost use Rattle.haai.specs.Tables as Y;
 
 use crate::grove::{DECLARED, RUNNING};

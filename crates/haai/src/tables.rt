@@ -1,5 +1,5 @@
 // The bytes before the commands: header, kinds, shapes and entries.
-ghost use Rattle.value.specs.Prelude.{◌+◌, ◌*◌, ◌≤◌, ◌≡◌, length, replicate};
+ghost use Rattle.std.specs.Prelude.{◌+◌, ◌*◌, ◌≤◌, ◌≡◌, length, replicate};
 ghost use Rattle.image.specs.Memory.{patch};
 ghost use Rattle.haai.specs.Writing as Q;
 

@@ -1,5 +1,5 @@
 // The bytes that a word adds: commands in the output, and the locations of values.
-ghost use Rattle.value.specs.Prelude.{ℕ, ◌+◌, ◌≤◌, ◌≡◌, List, [], ◌∷◌, length, set};
+ghost use Rattle.std.specs.Prelude.{ℕ, ◌+◌, ◌≤◌, ◌≡◌, List, [], ◌∷◌, length, set};
 ghost use Rattle.image.specs.Memory.{patch};
 ghost use Rattle.haai.specs.Emit.{supplies, sinks_from};
 ghost use Rattle.haai.specs.Places as J;

@@ -1,6 +1,7 @@
 -- Tests joined by `and`, one after the other; and a guard that stops at false as one of them.
 -- Assumes nothing.
-use Rattle.value.specs.Prelude.{◌≡◌, refl, sym, ◌∙◌, Bool, true, false}
+use Rattle.std.specs.Prelude.{◌≡◌, refl, Bool, true, false}
+use Rattle.std.proofs.Common.{sym, ◌∙◌}
 use Rattle.value.specs.Test.{◌and◌, guard}
 use Rattle.value.proofs.Tests.{left×, true_and}
 

@@ -1,7 +1,8 @@
 -- The chain of a branch point: each test of one link, the next link, and the list of its members.
 -- Assumes nothing.
-use Rattle.value.specs.Prelude.{ℕ, zero, suc, ◌+◌, ◌-◌, ◌≤◌, ◌<◌, ◌≡◌, refl, sym, true, false, List, [], ◌∷◌, get_or, set}
-use Rattle.value.specs.Prelude.{arith}
+use Rattle.std.specs.Prelude.{ℕ, zero, suc, ◌+◌, ◌-◌, ◌≤◌, ◌<◌, ◌≡◌, refl, true, false, List, [], ◌∷◌, get_or, set}
+use Rattle.std.proofs.Common.{sym}
+use Rattle.std.proofs.Common.{arith}
 use Rattle.value.specs.Test.{◌and◌, ◌<?◌, ◌=?◌}
 use Rattle.value.proofs.Tests.{goes, stops, lt!, lt×}
 use Rattle.program.specs.Bytes.{shape_of}

@@ -1,6 +1,7 @@
 -- A D command by its two bytes, a deployment's children, a pass, and the ladder of soundness as the code climbs it.
 -- Assumes nothing.
-use Rattle.value.specs.Prelude.{ℕ, ◌+◌, ◌-◌, ◌≡◌, refl, sym, ◌∙◌, ap, ⊎_elim, Bool, true, false, List, replicate, arith}
+use Rattle.std.specs.Prelude.{ℕ, ◌+◌, ◌-◌, ◌≡◌, refl, Bool, true, false, List, replicate}
+use Rattle.std.proofs.Common.{sym, ◌∙◌, ap, ⊎_elim, arith}
 use Rattle.value.specs.Test.{◌and◌, ◌=?◌}
 use Rattle.value.proofs.Tests.{goes, stops, eq!, eq×, le?, both?, same?}
 use Rattle.program.specs.Bytes.{reactors, commands_d, main_of}

@@ -9,8 +9,9 @@ pub mod Names
 pub mod Depths
 pub mod Rungs
 pub mod Place
-use Rattle.value.specs.Prelude.{ℕ, ◌≤◌, ◌≡◌, refl, sym, ap, subst, ⊎_elim, ◌↔◌, ◌≢◌, Bool, true, false, List, length}
-use Rattle.value.specs.Prelude.{arith}
+use Rattle.std.specs.Prelude.{ℕ, ◌≤◌, ◌≡◌, refl, ◌↔◌, ◌≢◌, Bool, true, false, List, length}
+use Rattle.std.proofs.Common.{sym, ap, subst, ⊎_elim}
+use Rattle.std.proofs.Common.{arith}
 use Rattle.value.specs.Test.{guard, ◌=?◌}
 use Rattle.value.specs.Value.{blank}
 use Rattle.value.proofs.Tests.{eq!, eq?, eq×?, guards}

@@ -1,6 +1,6 @@
 -- Folds and first faults over a list, one element at a time.
 -- Assumes nothing.
-use Rattle.value.specs.Prelude.{ℕ, ◌≡◌, refl, Bool, true, false, List, [], ◌∷◌, ◌++◌}
+use Rattle.std.specs.Prelude.{ℕ, ◌≡◌, refl, Bool, true, false, List, [], ◌∷◌, ◌++◌}
 use Rattle.value.proofs.Tests.{goes, stops}
 use Rattle.image.specs.Passes.{lowest, over}
 

@@ -1,6 +1,7 @@
 -- What a D command makes, by its first two bytes.
 -- Assumes nothing.
-use Rattle.value.specs.Prelude.{ℕ, ◌+◌, ◌*◌, ◌<◌, ◌≡◌, refl, sym, ⊎_elim, List, arith}
+use Rattle.std.specs.Prelude.{ℕ, ◌+◌, ◌*◌, ◌<◌, ◌≡◌, refl, List}
+use Rattle.std.proofs.Common.{sym, ⊎_elim, arith}
 use Rattle.value.proofs.Tests.{yes, no, eq!, eq×}
 use Rattle.program.specs.Bytes.{byte, commands_at, command_at}
 use Rattle.program.specs.Command.{deployment, point, held, nought, made_by, decode, cmd_of, bytes_of, bytes_at}

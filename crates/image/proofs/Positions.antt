@@ -1,6 +1,7 @@
 -- The table of positions, one reactor further.
 -- Assumes nothing.
-use Rattle.value.specs.Prelude.{ℕ, ◌+◌, ◌≤◌, ◌<◌, ◌≡◌, ◌∙◌, ⊎_elim, List, length, get_or, set, arith}
+use Rattle.std.specs.Prelude.{ℕ, ◌+◌, ◌≤◌, ◌<◌, ◌≡◌, List, length, get_or, set}
+use Rattle.std.proofs.Common.{◌∙◌, ⊎_elim, arith}
 use lib.Seq.{get_or-set_same, get_or-set_other}
 use Rattle.value.proofs.Tests.{below}
 use Rattle.program.specs.Bytes.{commands_at}

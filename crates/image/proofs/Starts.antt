@@ -1,6 +1,7 @@
 -- Start's answers, case by case, and main placed in zeroed memory.
 -- Assumes nothing.
-use Rattle.value.specs.Prelude.{ℕ, ◌+◌, ◌-◌, ◌≤◌, ◌<◌, ◌≡◌, refl, sym, ap, true, false, List, length, replicate, arith}
+use Rattle.std.specs.Prelude.{ℕ, ◌+◌, ◌-◌, ◌≤◌, ◌<◌, ◌≡◌, refl, true, false, List, length, replicate}
+use Rattle.std.proofs.Common.{sym, ap, arith}
 use lib.ListN.{length-replicate}
 use lib.Seq.{get_or-set_same}
 use Rattle.value.proofs.Tests.{yes, goes, stops, le!, le×, Says, says_le, says_and}

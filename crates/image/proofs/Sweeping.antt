@@ -1,7 +1,9 @@
 -- What the sweep does for a chain, a D slot, all D slots and a deployment, as the passes' tests and lists say it.
 -- Assumes nothing.
-use Rattle.value.specs.Prelude.{ℕ, suc, ◌+◌, ◌-◌, ◌*◌, ◌≤◌, ◌<◌, ◌≡◌, refl, sym, ◌∙◌, ap, true, false, ◌||◌, List, []}
-use Rattle.value.specs.Prelude.{◌∷◌, get_or, set, replicate, arith}
+use Rattle.std.specs.Prelude.{ℕ, suc, ◌+◌, ◌-◌, ◌*◌, ◌≤◌, ◌<◌, ◌≡◌, refl, true, false, ◌||◌, List, []}
+use Rattle.std.proofs.Common.{sym, ◌∙◌, ap}
+use Rattle.std.specs.Prelude.{◌∷◌, get_or, set, replicate}
+use Rattle.std.proofs.Common.{arith}
 use lib.Dec.{ltb}
 use Rattle.value.specs.Value.{value, deployment_mark, point_mark}
 use Rattle.value.specs.Test.{◌and◌, ◌<?◌, ◌=?◌, sweep}

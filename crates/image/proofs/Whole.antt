@@ -1,6 +1,6 @@
 -- An image as a completed turn leaves it before clearing: sound but for the slots that
 -- clearing zeroes and for the clock.
-use Rattle.value.specs.Prelude.{ℕ, ◌≤◌, ◌≡◌, List, length}
+use Rattle.std.specs.Prelude.{ℕ, ◌≤◌, ◌≡◌, List, length}
 use Rattle.program.specs.Bytes.{main_of}
 use Rattle.image.specs.Memory.{main_at, word, used, reactor, next}
 use Rattle.image.specs.Sound.{Tiles, Deployed, Grown}

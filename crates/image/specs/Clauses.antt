@@ -1,6 +1,6 @@
 -- What the contracts of the code speak of beside the definitions. Passes.antt is cut into what each function answers;
 -- and the sweep's one table is tied to those of the three passes.
-use Rattle.value.specs.Prelude.{ℕ, ◌+◌, ◌≤◌, ◌<◌, ◌≡◌, ◌≢◌, Bool, true, List, ◌∷◌, length, get_or}
+use Rattle.std.specs.Prelude.{ℕ, ◌+◌, ◌≤◌, ◌<◌, ◌≡◌, ◌≢◌, Bool, true, List, ◌∷◌, length, get_or}
 use Rattle.value.specs.Test.{pick, ◌≤?◌, ◌=?◌, ◌and◌, ◌<?◌, sweep}
 use Rattle.program.specs.Bytes.{reactors, commands_at, main_of, commands_d}
 use Rattle.program.specs.Command.{Made, deployment, point, held, nought, made_by, cmd_of}

@@ -1,7 +1,7 @@
 -- 5.19 Where an image that is not sound is at fault. Faults are told apart in this order: the frame, which is words 0
 -- and 1, the tiling with main first, and the words from u on; each deployment's own words; how often each is named;
 -- depths. The place of a frame and of a depth is 0, of any other the lowest deployment that has the fault.
-use Rattle.value.specs.Prelude.{ℕ, ◌+◌, ◌≤◌, ◌<◌, ◌≡◌, ◌↔◌, ◌≢◌, List, length}
+use Rattle.std.specs.Prelude.{ℕ, ◌+◌, ◌≤◌, ◌<◌, ◌≡◌, ◌↔◌, ◌≢◌, List, length}
 use Rattle.value.specs.Value.{blank}
 use Rattle.program.specs.Bytes.{reactors, most_reactors, commands_d, main_of}
 use Rattle.program.specs.Command.{cmd_of, alloc_mono, make_poly, cell}

@@ -1,6 +1,6 @@
 -- Every definition of this room opened at once, and of those below it, for theorems that compute: such a theorem says
 -- `unfolding opened`.
-use Rattle.value.specs.Prelude.{ℕ}
+use Rattle.std.specs.Prelude.{ℕ}
 use Rattle.load.specs.Open.{opened as below_opened}
 use Rattle.image.specs.Memory.{word, used, turns, reactor, wired, next, with_used, with_turns, with_wired, all_zero}
 use Rattle.image.specs.Memory.{zero_at, patch, slot, mark, content, value_at, store, deploy, size_at, starts_from}

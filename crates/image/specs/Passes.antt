@@ -1,8 +1,8 @@
 -- Soundness by three passes over the deployments. A pass changes a table of bytes for each of them, then asks each
 -- whether it is fit: where deployments begin, how often each is named, how deep each is. Each pass reads each
 -- deployment's words, and each chain's, once. The ladder of sound_of is the order in which faults are found.
-use Rattle.value.specs.Prelude.{ℕ, zero, suc, ◌+◌, ◌-◌, ◌/◌, ◌%◌, ◌≤◌, ◌≡◌, ◌↔◌, Bool, true, false, List, [], ◌∷◌, ◌++◌}
-use Rattle.value.specs.Prelude.{length, get_or, set, replicate}
+use Rattle.std.specs.Prelude.{ℕ, zero, suc, ◌+◌, ◌-◌, ◌/◌, ◌%◌, ◌≤◌, ◌≡◌, ◌↔◌, Bool, true, false, List, [], ◌∷◌, ◌++◌}
+use Rattle.std.specs.Prelude.{length, get_or, set, replicate}
 use Rattle.value.specs.Test.{◌and◌, pick, ◌<?◌, ◌≤?◌, ◌=?◌, guard, sweep}
 use Rattle.value.specs.Value.{deployment_mark, point_mark}
 use Rattle.program.specs.Bytes.{reactors, shape_of, commands_d, main_of, most_reactors}

@@ -1,5 +1,5 @@
 -- 4.5, 5.5 Start: what it tests, and the words that it leaves.
-use Rattle.value.specs.Prelude.{ℕ, ◌+◌, ◌-◌, Bool, List, length, replicate}
+use Rattle.std.specs.Prelude.{ℕ, ◌+◌, ◌-◌, Bool, List, length, replicate}
 use Rattle.value.specs.Test.{◌and◌, ◌≤?◌, guard}
 use Rattle.program.specs.Bytes.{main_of}
 use Rattle.load.specs.Check.{check_of}

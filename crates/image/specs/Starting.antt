@@ -1,6 +1,6 @@
 -- What start promises, for every program and memory. Proved in proofs/Memory/Starting.antt: an element of each of these
 -- types.
-use Rattle.value.specs.Prelude.{ℕ, ◌+◌, ◌≤◌, ◌≡◌, ◌⊎◌, ◌↔◌, ◌≢◌, List, length}
+use Rattle.std.specs.Prelude.{ℕ, ◌+◌, ◌≤◌, ◌≡◌, ◌⊎◌, ◌↔◌, ◌≢◌, List, length}
 use Rattle.program.specs.Bytes.{main_of}
 use Rattle.program.specs.Location.{size_of}
 use Rattle.load.specs.Check.{IsAccepted}

@@ -1,5 +1,5 @@
 // 4.5 Start.
-ghost use Rattle.value.specs.Prelude.{◌≤◌, ◌≡◌, length};
+ghost use Rattle.std.specs.Prelude.{◌≤◌, ◌≡◌, length};
 ghost use Rattle.answer.specs.declared.Answer.TheVariants.{Done};
 ghost use Rattle.image.specs.Clauses.{started};
 ghost use Rattle.image.specs.Memory as M;

@@ -1,5 +1,5 @@
 // The chain of a branch point.
-ghost use Rattle.value.specs.Prelude.{◌+◌, ◌≡◌, get_or, replicate};
+ghost use Rattle.std.specs.Prelude.{◌+◌, ◌≡◌, get_or, replicate};
 ghost use Rattle.value.specs.Test.{◌and◌, ◌<?◌, ◌=?◌};
 ghost use Rattle.program.specs.Bytes as B;
 ghost use Rattle.image.specs.Memory as M;

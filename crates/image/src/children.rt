@@ -1,5 +1,5 @@
 // The children of a deployment: the deployments that its D slots name. What a pass does for each.
-ghost use Rattle.value.specs.Prelude.{◌<◌, ◌≡◌};
+ghost use Rattle.std.specs.Prelude.{◌<◌, ◌≡◌};
 ghost use Rattle.program.specs.Bytes as B;
 ghost use Rattle.image.specs.Memory as M;
 ghost use Rattle.image.specs.Passes as P;

@@ -1,5 +1,5 @@
 // The D commands of a deployment. Where each reactor's commands begin is summed up once for all.
-ghost use Rattle.value.specs.Prelude.{◌<◌, ◌≡◌, length};
+ghost use Rattle.std.specs.Prelude.{◌<◌, ◌≡◌, length};
 ghost use Rattle.program.specs.Bytes as B;
 ghost use Rattle.image.specs.Memory as M;
 ghost use Rattle.image.specs.Clauses.{SlotOf, Positions};

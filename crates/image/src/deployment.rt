@@ -1,5 +1,5 @@
 // 3.5, 6.12 The slots of a deployment, and a new deployment.
-ghost use Rattle.value.specs.Prelude.{◌+◌, ◌<◌, ◌≡◌, set};
+ghost use Rattle.std.specs.Prelude.{◌+◌, ◌<◌, ◌≡◌, set};
 ghost use Rattle.program.specs.Location as L;
 ghost use Rattle.image.specs.Memory as M;
 ghost use Rattle.image.specs.Clauses.{deploy_fits};

@@ -1,5 +1,5 @@
 // A deployment's own words: wired, its D slots, and zeros in all others.
-ghost use Rattle.value.specs.Prelude.{◌<◌, ◌≡◌};
+ghost use Rattle.std.specs.Prelude.{◌<◌, ◌≡◌};
 ghost use Rattle.value.specs.Test.{sweep};
 ghost use Rattle.program.specs.Bytes as B;
 ghost use Rattle.program.specs.Command as C;

@@ -1,6 +1,6 @@
 // The passes of soundness. Each goes over the deployments twice: to change a table for each, and to
 // find the lowest that is unfit then.
-ghost use Rattle.value.specs.Prelude.{◌<◌, ◌≡◌};
+ghost use Rattle.std.specs.Prelude.{◌<◌, ◌≡◌};
 ghost use Rattle.program.specs.Bytes as B;
 ghost use Rattle.image.specs.Memory as M;
 ghost use Rattle.image.specs.Passes as P;

@@ -1,5 +1,5 @@
 // 3.11 Soundness of an image.
-ghost use Rattle.value.specs.Prelude.{◌≡◌};
+ghost use Rattle.std.specs.Prelude.{◌≡◌};
 ghost use Rattle.value.specs.Test.{◌and◌, ◌<?◌, ◌=?◌};
 ghost use Rattle.program.specs.Bytes as B;
 ghost use Rattle.image.specs.Memory as M;

@@ -2,7 +2,7 @@
 // tests each and names its children. The table has a byte for each three words: 0 where no deployment
 // begins, 1 to 3 where one begins that is not named yet, and 4 more than its depth once it is. Where
 // a walk finds a fault it stops: the passes find its place.
-ghost use Rattle.value.specs.Prelude.{ℕ, ◌+◌, ◌≤◌, ◌<◌, ◌≡◌, true, List, [], ◌∷◌, length, replicate};
+ghost use Rattle.std.specs.Prelude.{ℕ, ◌+◌, ◌≤◌, ◌<◌, ◌≡◌, true, List, [], ◌∷◌, length, replicate};
 ghost use Rattle.value.specs.Test.{◌and◌, ◌<?◌};
 ghost use Rattle.program.specs.Bytes as B;
 ghost use Rattle.program.specs.Command as C;

@@ -1,5 +1,5 @@
 // The deployments one after the other: they tile the words from 2 to u.
-ghost use Rattle.value.specs.Prelude.{ℕ, ◌≤◌, ◌<◌, ◌≡◌, ◌≢◌, List, length};
+ghost use Rattle.std.specs.Prelude.{ℕ, ◌≤◌, ◌<◌, ◌≡◌, ◌≢◌, List, length};
 ghost use Rattle.program.specs.Bytes as B;
 ghost use Rattle.program.specs.Clauses.{Facts, Tells};
 ghost use Rattle.image.specs.Memory as M;

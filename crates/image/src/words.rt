@@ -1,5 +1,5 @@
 // Words by their index, and by what they are.
-ghost use Rattle.value.specs.Prelude.{◌+◌, ◌<◌, ◌≡◌, length, set};
+ghost use Rattle.std.specs.Prelude.{◌+◌, ◌<◌, ◌≡◌, length, set};
 ghost use Rattle.value.specs.Value.{value};
 ghost use Rattle.image.specs.Memory as M;
 

@@ -1,5 +1,5 @@
 -- What it is for one reactor to pass its scan: what its rules are held against, where exact acceptance is shown.
-use Rattle.value.specs.Prelude.{ℕ, ◌≡◌, true, List}
+use Rattle.std.specs.Prelude.{ℕ, ◌≡◌, true, List}
 use Rattle.program.specs.Bytes.{commands_in}
 use Rattle.load.specs.Scan.{scan_of, begin_of, complete}
 

@@ -1,7 +1,9 @@
 -- Bits of a standing: the weight that the code uses does for a byte what the power of two does.
 -- Assumes nothing.
-use Rattle.value.specs.Prelude.{ℕ, zero, suc, ◌+◌, ◌/◌, ◌%◌, ◌^◌, ◌≤◌, ◌<◌, ◌≡◌, refl, sym, ◌∙◌, ap, ⊎_elim, false, []}
-use Rattle.value.specs.Prelude.{◌∷◌, get_or, arith}
+use Rattle.std.specs.Prelude.{ℕ, zero, suc, ◌+◌, ◌/◌, ◌%◌, ◌^◌, ◌≤◌, ◌<◌, ◌≡◌, refl, false, []}
+use Rattle.std.proofs.Common.{sym, ◌∙◌, ap, ⊎_elim}
+use Rattle.std.specs.Prelude.{◌∷◌, get_or}
+use Rattle.std.proofs.Common.{arith}
 use native.Mathlib.Nat.{pow-le-pow_right, div-eq_of_lt}
 use Rattle.value.specs.Test.{◌=?◌}
 use Rattle.value.proofs.Tests.{yes, no, lt!, lt×, eq×, eq×?, below}

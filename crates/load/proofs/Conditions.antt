@@ -1,7 +1,8 @@
 -- Laws of the one condition that the code asks of each command: it is what the tests of all refusals come to.
 -- Assumes nothing.
-use Rattle.value.specs.Prelude.{ℕ, ◌+◌, ◌-◌, ◌^◌, ◌≤◌, ◌<◌, ◌≡◌, refl, sym, ◌∙◌, ap, Bool, true, false, not, List}
-use Rattle.value.specs.Prelude.{arith}
+use Rattle.std.specs.Prelude.{ℕ, ◌+◌, ◌-◌, ◌^◌, ◌≤◌, ◌<◌, ◌≡◌, refl, Bool, true, false, not, List}
+use Rattle.std.proofs.Common.{sym, ◌∙◌, ap}
+use Rattle.std.proofs.Common.{arith}
 use Rattle.value.specs.Test.{◌and◌, ◌<?◌, ◌≤?◌, ◌=?◌, need, pick}
 use Rattle.value.specs.Value.{reactor_kind}
 use Rattle.value.proofs.Tests.{both!, both?, eq!, eq?, eq×, le!, le?, lt!, lt?, right×, true_and}

@@ -33,7 +33,7 @@ pub mod First
 pub mod Faults
 pub mod Static
 pub mod StaticFromRules
-use Rattle.value.specs.Prelude.{iff_trans}
+use Rattle.std.proofs.Math.Logic.Iff.{trans as iff_trans}
 use Rattle.load.specs.Rules.{ExactAcceptance}
 use Rattle.load.proofs.Exact.Acceptance.{accepted_parts}
 use Rattle.load.proofs.Exact.Reactor.{rules_exact}

@@ -1,7 +1,9 @@
 -- One turn of the loops over a reactor's commands, and of the loop over the reactors, said of their definitions.
 -- Assumes nothing.
-use Rattle.value.specs.Prelude.{ℕ, zero, suc, ◌+◌, ◌-◌, ◌*◌, ◌≤◌, ◌<◌, ◌≡◌, refl, sym, ◌∙◌, ap, subst, Bool, true}
-use Rattle.value.specs.Prelude.{false, true≢false, List, arith}
+use Rattle.std.specs.Prelude.{ℕ, zero, suc, ◌+◌, ◌-◌, ◌*◌, ◌≤◌, ◌<◌, ◌≡◌, refl, Bool, true}
+use Rattle.std.proofs.Common.{sym, ◌∙◌, ap, subst}
+use Rattle.std.specs.Prelude.{false, List}
+use Rattle.std.proofs.Common.{true≢false, arith}
 use Rattle.value.specs.Test.{pick}
 use Rattle.value.proofs.Tests.{goes, stops}
 use Rattle.program.specs.Bytes.{commands_d, commands_in, commands_at, command_at, entry_at}

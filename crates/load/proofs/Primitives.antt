@@ -1,6 +1,7 @@
 -- A primitive is right where its operands are what its row takes: the code's condition for each sort of row.
 -- Assumes nothing.
-use Rattle.value.specs.Prelude.{ℕ, ◌+◌, ◌≤◌, ◌<◌, ◌≡◌, refl, sym, ◌∙◌, ap, subst, Bool, true, false, not, List, arith}
+use Rattle.std.specs.Prelude.{ℕ, ◌+◌, ◌≤◌, ◌<◌, ◌≡◌, refl, Bool, true, false, not, List}
+use Rattle.std.proofs.Common.{sym, ◌∙◌, ap, subst, arith}
 use Rattle.value.specs.Test.{◌and◌, ◌or◌, ◌<?◌, ◌≤?◌, ◌=?◌}
 use Rattle.value.specs.Primitive.{table, row_of, is_primitive, is_withdrawn, operands, count_of, kinds_fit, kind_given}
 use Rattle.value.specs.declared.Takes.{Takes}

@@ -1,7 +1,9 @@
 -- A command among the D commands, or among the R commands: allowed where it stands in its sequence and is right,
 -- and then taken. Assumes nothing.
-use Rattle.value.specs.Prelude.{ℕ, ◌<◌, ◌≡◌, refl, sym, ◌∙◌, ap, subst, Bool, true, false, true≢false, false≢true, List}
-use Rattle.value.specs.Prelude.{arith}
+use Rattle.std.specs.Prelude.{ℕ, ◌<◌, ◌≡◌, refl, Bool, true, false, List}
+use Rattle.std.proofs.Common.{sym, ◌∙◌, ap, subst, true≢false}
+use Rattle.std.proofs.lemmas.Bool.{false≢true}
+use Rattle.std.proofs.Common.{arith}
 use Rattle.value.specs.Test.{◌and◌, ◌<?◌, pick}
 use Rattle.value.proofs.Tests.{cases, eq?, eq×?, lt!, lt?, lt×, true_and, yes, no}
 use Rattle.program.specs.Bytes.{commands_d}

@@ -1,8 +1,10 @@
 -- Every location but a value's or a cell's has a shape as its kind, and nothing stands past a reactor's
 -- locations: so it is before the first command, and so it stays. With it a Supply that is not refused names one
 -- of a byte's bits. Assumes nothing.
-use Rattle.value.specs.Prelude.{ℕ, zero, suc, ◌≤◌, ◌<◌, ◌≡◌, refl, ◌∙◌, ◌⊎◌, inl, inr, ⊎_elim, Bool, true, false, List}
-use Rattle.value.specs.Prelude.{length, get_or, set, replicate, arith}
+use Rattle.std.specs.Prelude.{ℕ, zero, suc, ◌≤◌, ◌<◌, ◌≡◌, refl, ◌⊎◌, Bool, true, false, List}
+use Rattle.std.proofs.Common.{◌∙◌, inl, inr, ⊎_elim}
+use Rattle.std.specs.Prelude.{length, get_or, set, replicate}
+use Rattle.std.proofs.Common.{arith}
 use lib.ListN.{get_or-eq_default}
 use lib.Seq.{get_or-set_same, get_or-set_other, set_out}
 use Rattle.value.specs.Test.{need, pick, ◌=?◌}

@@ -1,6 +1,7 @@
 -- States that stand alike, the bytes of ports, the state after a command, and its tables past their end.
 -- Assumes nothing.
-use Rattle.value.specs.Prelude.{ℕ, ◌+◌, ◌≤◌, ◌≡◌, refl, sym, ◌∙◌, ap, List, length, get_or, set, arith}
+use Rattle.std.specs.Prelude.{ℕ, ◌+◌, ◌≤◌, ◌≡◌, refl, List, length, get_or, set}
+use Rattle.std.proofs.Common.{sym, ◌∙◌, ap, arith}
 use native.Mathlib.Numerals.{add-one}
 use lib.ListN.{get_or-eq_default}
 use lib.Seq.{set-get_or}

@@ -1,7 +1,10 @@
 -- Header and tables whose bytes are all legal are as the scan asks; and the bytes by rows: globals,
 -- shapes, entries. Assumes nothing.
-use Rattle.value.specs.Prelude.{ℕ, ◌+◌, ◌-◌, ◌≤◌, ◌<◌, ◌≡◌, refl, sym, ◌∙◌, ap, subst, Bool, true, not, false≢true}
-use Rattle.value.specs.Prelude.{List, length, arith}
+use Rattle.std.specs.Prelude.{ℕ, ◌+◌, ◌-◌, ◌≤◌, ◌<◌, ◌≡◌, refl, Bool, true, not}
+use Rattle.std.proofs.Common.{sym, ◌∙◌, ap, subst}
+use Rattle.std.proofs.lemmas.Bool.{false≢true}
+use Rattle.std.specs.Prelude.{List, length}
+use Rattle.std.proofs.Common.{arith}
 use lib.Dec.{eqb}
 use Rattle.value.specs.Test.{sweep, pick, ◌and◌, ◌or◌, ◌≤?◌, ◌<?◌, ◌=?◌}
 use Rattle.value.proofs.Sweeps.{sweeps, sweeps?, sweep_more}

@@ -1,6 +1,6 @@
 -- 5.3 The whole check, a number and a place: the length, the header, the length of the tables, their bytes, the whole
 -- length; then reactor by reactor the commands, and what is missing at the end.
-use Rattle.value.specs.Prelude.{ℕ, zero, suc, ◌+◌, ◌-◌, ◌≡◌, List, length}
+use Rattle.std.specs.Prelude.{ℕ, zero, suc, ◌+◌, ◌-◌, ◌≡◌, List, length}
 use Rattle.value.specs.Test.{◌and◌, ◌≤?◌, ◌=?◌, guard, sweep}
 use Rattle.program.specs.Bytes.{most_bytes, header_end, reactors, main_of, entry_at, tables_end, whole_length, commands_in}
 use Rattle.program.specs.Location.{size_of}

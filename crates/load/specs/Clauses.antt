@@ -1,7 +1,7 @@
 -- What the contracts of the check's code speak of beside the definitions: what the scan rests on, the lent tables as a
 -- state, what is known of a reactor, and what is asked of a command at once. Only proofs rest on this; what is accepted
 -- is said in Scan.antt and Check.antt.
-use Rattle.value.specs.Prelude.{ℕ, ◌+◌, ◌^◌, ◌≤◌, ◌<◌, ◌≡◌, Bool, true, false, List, get_or}
+use Rattle.std.specs.Prelude.{ℕ, ◌+◌, ◌^◌, ◌≤◌, ◌<◌, ◌≡◌, Bool, true, false, List, get_or}
 use Rattle.value.specs.Test.{pick, ◌<?◌, ◌and◌, ◌or◌, ◌=?◌}
 use Rattle.program.specs.Bytes.{shapes, reactors, sources_in, shape_of, commands_in}
 use Rattle.program.specs.declared.Command.{Command}

@@ -1,6 +1,6 @@
 -- 5.2, 5.3 Why a program is refused: of all its faults the first, by number and place.
 -- All is said by positions: nothing here speaks of tests that compute, of their ladder or of the scan.
-use Rattle.value.specs.Prelude.{ℕ, ◌+◌, ◌≤◌, ◌<◌, ◌≡◌, ◌⊎◌, ◌↔◌, ◌≢◌, List, length}
+use Rattle.std.specs.Prelude.{ℕ, ◌+◌, ◌≤◌, ◌<◌, ◌≡◌, ◌⊎◌, ◌↔◌, ◌≢◌, List, length}
 use Rattle.value.specs.Value.{number_kind, truth_kind, reactor_kind}
 use Rattle.value.specs.Primitive.{row_of, table, operands, remainder}
 use Rattle.value.specs.declared.Takes.{Takes}

@@ -1,6 +1,6 @@
 -- The kinds that the check finds are those that the theorem about turns speaks of: `kind_of`, `shape_there`. Proved in
 -- proofs/Exact/Reactor.antt: `kinds_agree`.
-use Rattle.value.specs.Prelude.{ℕ, ◌≤◌, ◌<◌, ◌≡◌, ◌↔◌, true, List}
+use Rattle.std.specs.Prelude.{ℕ, ◌≤◌, ◌<◌, ◌≡◌, ◌↔◌, true, List}
 use Rattle.program.specs.Bytes.{reactors, commands_in}
 use Rattle.program.specs.Location.{command_loc, shape_there}
 use Rattle.program.specs.Kind.{kind_of}

@@ -1,6 +1,6 @@
 -- Every definition of this room opened at once, and of those below it, for theorems that compute: such a theorem says
 -- `unfolding opened`.
-use Rattle.value.specs.Prelude.{ℕ}
+use Rattle.std.specs.Prelude.{ℕ}
 use Rattle.program.specs.Open.{opened as below_opened}
 use Rattle.load.specs.Refusal.{at_command}
 use Rattle.load.specs.Scan.{standing_at, kind_at, stand, is_value, is_cell, is_point, is_deployment, is_supplied}

@@ -1,6 +1,6 @@
 -- 5.16, 5.29 to 5.31 Which number a command out of order has, by the commands before it. `OutOfOrder` does not speak of
 -- the scan; `ExactOrder` holds the scan's test to it.
-use Rattle.value.specs.Prelude.{ℕ, ◌≤◌, ◌<◌, ◌≡◌, ◌↔◌, ◌≢◌, true, List}
+use Rattle.std.specs.Prelude.{ℕ, ◌≤◌, ◌<◌, ◌≡◌, ◌↔◌, ◌≢◌, true, List}
 use Rattle.program.specs.Bytes.{reactors, sources_in, commands_in}
 use Rattle.program.specs.Command.{Cmd, cmd_of, alloc_mono, supply, react, consume, sink, alloc_poly, keep, gives}
 use Rattle.program.specs.Location.{shape_there}

@@ -1,5 +1,5 @@
 -- The bench programs, and ways to change them. What is asked of them stands in crate remus, in the one table of cases.
-use Rattle.value.specs.Prelude.{ℕ, ◌+◌, List, [], ◌∷◌, ◌++◌, set, take, drop, replicate}
+use Rattle.std.specs.Prelude.{ℕ, ◌+◌, List, [], ◌∷◌, ◌++◌, set, take, drop, replicate}
 
 abbrev pub zeros : ℕ → List ℕ
 zeros n = replicate n 0

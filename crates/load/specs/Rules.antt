@@ -1,6 +1,6 @@
 -- 2.30 Which programs are to be accepted, as a proposition. Nothing here speaks of the scan; positions in a reactor's
 -- command list (D then R, from 0) do.
-use Rattle.value.specs.Prelude.{ℕ, ◌+◌, ◌≤◌, ◌<◌, ◌≡◌, ◌⊎◌, ◌↔◌, true, List, length}
+use Rattle.std.specs.Prelude.{ℕ, ◌+◌, ◌≤◌, ◌<◌, ◌≡◌, ◌⊎◌, ◌↔◌, true, List, length}
 use Rattle.value.specs.Value.{number_kind, truth_kind, reactor_kind}
 use Rattle.value.specs.Primitive.{row_of, operands, Offered}
 use Rattle.value.specs.declared.Takes.{Takes}

@@ -1,5 +1,5 @@
 // 5.3 The whole check.
-ghost use Rattle.value.specs.Prelude.{◌≤◌, ◌<◌, ◌≡◌, length, replicate};
+ghost use Rattle.std.specs.Prelude.{◌≤◌, ◌<◌, ◌≡◌, length, replicate};
 ghost use Rattle.value.specs.Test.{◌and◌, ◌≤?◌};
 ghost use Rattle.program.specs.Bytes as B;
 ghost use Rattle.program.specs.Command as C;

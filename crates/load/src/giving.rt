@@ -1,5 +1,5 @@
 // The R commands that give a value: its kind; or REFUSED, which is no kind, where the command is refused.
-ghost use Rattle.value.specs.Prelude.{ℕ, ◌<◌, ◌≡◌, List};
+ghost use Rattle.std.specs.Prelude.{ℕ, ◌<◌, ◌≡◌, List};
 ghost use Rattle.value.specs.Test.{◌<?◌};
 ghost use Rattle.program.specs.Command as C;
 ghost use Rattle.load.specs.Clauses.{state, FactsOf, Giving, one_right, two_right, alike_right, three_right};

@@ -1,5 +1,5 @@
 // What is known of a reactor while its commands are read.
-ghost use Rattle.value.specs.Prelude.{◌+◌, ◌≤◌, ◌<◌, ◌≡◌, length};
+ghost use Rattle.std.specs.Prelude.{◌+◌, ◌≤◌, ◌<◌, ◌≡◌, length};
 ghost use Rattle.program.specs.Bytes as B;
 ghost use Rattle.load.specs.Clauses.{LegalTables, FactsOf};
 

@@ -1,5 +1,5 @@
 // The commands of one reactor, from its first to its end.
-ghost use Rattle.value.specs.Prelude.{ℕ, ◌+◌, ◌*◌, ◌≤◌, ◌<◌, ◌≡◌, true, false, List, length, get_or, replicate};
+ghost use Rattle.std.specs.Prelude.{ℕ, ◌+◌, ◌*◌, ◌≤◌, ◌<◌, ◌≡◌, true, false, List, length, get_or, replicate};
 ghost use Rattle.program.specs.Bytes as B;
 ghost use Rattle.program.specs.Location as L;
 ghost use Rattle.load.specs.Clauses.{LegalTables, Shaped, Within, state, FactsOf, Sweeping, Ran};

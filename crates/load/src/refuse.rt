@@ -1,5 +1,5 @@
 // Whether a command is refused: a test for each of the numbers 3 to 6, 19 to 21 and 25, by the command's code.
-ghost use Rattle.value.specs.Prelude.{ℕ, ◌+◌, ◌≡◌, List};
+ghost use Rattle.std.specs.Prelude.{ℕ, ◌+◌, ◌≡◌, List};
 ghost use Rattle.value.specs.Test.{◌and◌, ◌<?◌, ◌=?◌, need};
 ghost use Rattle.program.specs.Bytes as B;
 ghost use Rattle.program.specs.Command as C;

@@ -1,6 +1,6 @@
 // The standings and kinds of locations. Every function is total: past the tables a location stands
 // as nothing, and no change reaches it.
-ghost use Rattle.value.specs.Prelude.{ℕ, ◌/◌, ◌%◌, ◌^◌, ◌≡◌, get_or, set};
+ghost use Rattle.std.specs.Prelude.{ℕ, ◌/◌, ◌%◌, ◌^◌, ◌≡◌, get_or, set};
 ghost use Rattle.value.specs.Test.{◌=?◌};
 ghost use Rattle.load.specs.Clauses.{byte_bit, state};
 ghost use Rattle.load.specs.Scan as S;

@@ -1,5 +1,5 @@
 // The bytes of the header and the tables: which are legal, and which is the first that is not.
-ghost use Rattle.value.specs.Prelude.{ℕ, ◌+◌, ◌-◌, ◌≤◌, ◌<◌, ◌≡◌, not, length};
+ghost use Rattle.std.specs.Prelude.{ℕ, ◌+◌, ◌-◌, ◌≤◌, ◌<◌, ◌≡◌, not, length};
 ghost use Rattle.value.specs.Test.{sweep, ◌and◌, ◌or◌, ◌<?◌, ◌=?◌};
 ghost use Rattle.program.specs.Bytes as B;
 ghost use Rattle.load.specs.Tables.{between, header_legal, port_legal, shape_legal, main_legal, entry_legal};

@@ -1,6 +1,6 @@
 // One command taken: for each code one condition, and where it holds the change of the tables. Which number
 // a command is refused with is asked of refuse.rt, and only once one is.
-ghost use Rattle.value.specs.Prelude.{ℕ, ◌+◌, ◌≤◌, ◌<◌, ◌≡◌, true, false, List};
+ghost use Rattle.std.specs.Prelude.{ℕ, ◌+◌, ◌≤◌, ◌<◌, ◌≡◌, true, false, List};
 ghost use Rattle.value.specs.Test.{◌<?◌, pick};
 ghost use Rattle.program.specs.Command as C;
 ghost use Rattle.load.specs.Clauses.{LegalTables, Shaped, state, FactsOf, Taking, Making, Stepped, allowed};

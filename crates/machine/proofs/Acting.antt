@@ -1,6 +1,7 @@
 -- What a command's code leaves, as the definition of the command says it.
 -- Assumes nothing.
-use Rattle.value.specs.Prelude.{ℕ, zero, suc, ◌+◌, ◌-◌, ◌*◌, ◌≤◌, ◌<◌, ◌≡◌, sym, ◌∙◌, ap, true, false, List, set, arith}
+use Rattle.std.specs.Prelude.{ℕ, zero, suc, ◌+◌, ◌-◌, ◌*◌, ◌≤◌, ◌<◌, ◌≡◌, true, false, List, set}
+use Rattle.std.proofs.Common.{sym, ◌∙◌, ap, arith}
 use Rattle.value.specs.Value.{value, blank_mark, deployment_mark, is_blank}
 use Rattle.value.specs.declared.Value.{Value}
 use Rattle.value.proofs.Tests.{eq!, eq×}

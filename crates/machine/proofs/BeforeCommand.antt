@@ -1,7 +1,9 @@
 -- What holds before each R command of a run, of the words, the table of places and the counts that the code goes by.
 -- Assumes nothing.
-use Rattle.value.specs.Prelude.{ℕ, suc, ◌+◌, ◌-◌, ◌*◌, ◌≤◌, ◌<◌, ◌≡◌, refl, sym, ◌∙◌, ap, subst, ⊎_elim, true, List}
-use Rattle.value.specs.Prelude.{length, set, arith}
+use Rattle.std.specs.Prelude.{ℕ, suc, ◌+◌, ◌-◌, ◌*◌, ◌≤◌, ◌<◌, ◌≡◌, refl, true, List}
+use Rattle.std.proofs.Common.{sym, ◌∙◌, ap, subst, ⊎_elim}
+use Rattle.std.specs.Prelude.{length, set}
+use Rattle.std.proofs.Common.{arith}
 use lib.ListN.{length-set}
 use Rattle.value.proofs.Tests.{below}
 use Rattle.program.specs.Bytes.{reactors, commands_d, commands_r, commands_at, commands_in, command_at}

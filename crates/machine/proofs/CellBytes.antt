@@ -1,8 +1,10 @@
 -- Cells by the bytes: which D commands are Cells and which R commands Keeps. Where a reactor has no cell, nothing is
 -- kept.
 -- Assumes nothing.
-use Rattle.value.specs.Prelude.{ℕ, zero, suc, ◌+◌, ◌*◌, ◌≤◌, ◌<◌, ◌≡◌, refl, sym, ◌∙◌, ap, ◌⊎◌, inl, inr, ⊎_elim, Bool}
-use Rattle.value.specs.Prelude.{true, false, not, List, length, arith}
+use Rattle.std.specs.Prelude.{ℕ, zero, suc, ◌+◌, ◌*◌, ◌≤◌, ◌<◌, ◌≡◌, refl, ◌⊎◌, Bool}
+use Rattle.std.proofs.Common.{sym, ◌∙◌, ap, inl, inr, ⊎_elim}
+use Rattle.std.specs.Prelude.{true, false, not, List, length}
+use Rattle.std.proofs.Common.{arith}
 use Rattle.value.specs.Test.{◌<?◌, ◌=?◌, sweep}
 use Rattle.value.proofs.Tests.{clash, eq!, eq×, lt×?, not_true, same?}
 use Rattle.value.proofs.Sweeps.{swept, sweeps}

@@ -1,6 +1,7 @@
 -- A chain of deployments, one step further.
 -- Assumes nothing.
-use Rattle.value.specs.Prelude.{ℕ, zero, suc, ◌-◌, ◌≤◌, ◌<◌, ◌≡◌, refl, ap, not, List, arith}
+use Rattle.std.specs.Prelude.{ℕ, zero, suc, ◌-◌, ◌≤◌, ◌<◌, ◌≡◌, refl, not, List}
+use Rattle.std.proofs.Common.{ap, arith}
 use Rattle.value.proofs.Tests.{lt!, lt×, le!, le×, eq!, eq×, goes, stops}
 use Rattle.image.specs.Memory.{reactor, next}
 use Rattle.remus.specs.Exec.{find}

@@ -1,6 +1,7 @@
 -- D commands, one after the other.
 -- Assumes nothing.
-use Rattle.value.specs.Prelude.{ℕ, suc, ◌+◌, ◌-◌, ◌*◌, ◌≤◌, ◌<◌, ◌≡◌, refl, sym, ◌∙◌, ap, List, arith}
+use Rattle.std.specs.Prelude.{ℕ, suc, ◌+◌, ◌-◌, ◌*◌, ◌≤◌, ◌<◌, ◌≡◌, refl, List}
+use Rattle.std.proofs.Common.{sym, ◌∙◌, ap, arith}
 use Rattle.program.specs.Bytes.{commands_d, commands_in, commands_at, command_at}
 use Rattle.program.specs.Command.{bytes_at, bytes_of, cmd_of}
 use Rattle.program.specs.declared.Command.{Command}

@@ -1,6 +1,7 @@
 -- What the table of facts tells of a reactor, and what follows for the places of its commands and slots.
 -- Assumes nothing.
-use Rattle.value.specs.Prelude.{ℕ, suc, ◌+◌, ◌*◌, ◌<◌, ◌≡◌, refl, sym, ◌∙◌, ap, subst, List, arith}
+use Rattle.std.specs.Prelude.{ℕ, suc, ◌+◌, ◌*◌, ◌<◌, ◌≡◌, refl, List}
+use Rattle.std.proofs.Common.{sym, ◌∙◌, ap, subst, arith}
 use native.Mathlib.Numerals.{add-one}
 use Rattle.value.specs.Test.{pick}
 use Rattle.value.specs.Value.{value}

@@ -1,6 +1,7 @@
 -- A run's beginning: before D, past it, and once the deployment is wired.
 -- Assumes nothing.
-use Rattle.value.specs.Prelude.{ℕ, suc, ◌+◌, ◌-◌, ◌<◌, ◌≡◌, refl, sym, ◌∙◌, ap, subst, ◌≢◌, List, arith}
+use Rattle.std.specs.Prelude.{ℕ, suc, ◌+◌, ◌-◌, ◌<◌, ◌≡◌, refl, ◌≢◌, List}
+use Rattle.std.proofs.Common.{sym, ◌∙◌, ap, subst, arith}
 use lib.Seq.{set-set}
 use Rattle.value.proofs.Tests.{yes, no, eq!, eq×}
 use Rattle.program.specs.Bytes.{reactors, commands_d, commands_r, commands_in}

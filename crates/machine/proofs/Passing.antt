@@ -1,8 +1,10 @@
 -- A pass over the deployments that changes each in its own words, and the loops over D slots, R commands and
 -- sinks, one step further.
 -- Assumes nothing.
-use Rattle.value.specs.Prelude.{ℕ, zero, suc, ◌+◌, ◌-◌, ◌*◌, ◌≤◌, ◌<◌, ◌≡◌, refl, sym, ◌∙◌, ap, Bool, true, false, List}
-use Rattle.value.specs.Prelude.{[], ◌∷◌, length, set, arith}
+use Rattle.std.specs.Prelude.{ℕ, zero, suc, ◌+◌, ◌-◌, ◌*◌, ◌≤◌, ◌<◌, ◌≡◌, refl, Bool, true, false, List}
+use Rattle.std.proofs.Common.{sym, ◌∙◌, ap}
+use Rattle.std.specs.Prelude.{[], ◌∷◌, length, set}
+use Rattle.std.proofs.Common.{arith}
 use lib.ListN.{length-set}
 use Rattle.value.specs.Test.{◌<?◌, ◌=?◌, guard}
 use Rattle.value.specs.Value.{value}

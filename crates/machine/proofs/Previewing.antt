@@ -1,6 +1,7 @@
 -- What a preview of an accepted program comes to, once 8 and 22 have let it pass: what the turn does, which runs on a
 -- copy where `ready` finds nothing against it. Assumes nothing.
-use Rattle.value.specs.Prelude.{◌≡◌, refl, sym, ◌∙◌, ap, subst, true, false, List, ℕ, length}
+use Rattle.std.specs.Prelude.{◌≡◌, refl, true, false, List, ℕ, length}
+use Rattle.std.proofs.Common.{sym, ◌∙◌, ap, subst}
 use Rattle.value.specs.Test.{◌=?◌, ◌or◌}
 use Rattle.value.proofs.Tests.{goes, yes}
 use Rattle.answer.specs.Answer.{number_of, refusal_number}

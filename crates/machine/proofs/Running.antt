@@ -1,6 +1,7 @@
 -- How a run goes on, by what the present command comes to.
 -- Assumes nothing.
-use Rattle.value.specs.Prelude.{ℕ, suc, ◌+◌, ◌≡◌, refl, sym, ◌∙◌, ap, ◌≢◌, Bool, true, false, List, arith}
+use Rattle.std.specs.Prelude.{ℕ, suc, ◌+◌, ◌≡◌, refl, ◌≢◌, Bool, true, false, List}
+use Rattle.std.proofs.Common.{sym, ◌∙◌, ap, arith}
 use lib.Seq.{get_or-set_other}
 use Rattle.value.specs.Test.{pick}
 use Rattle.value.proofs.Tests.{yes, no, eq!, eq×}

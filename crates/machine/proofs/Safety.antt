@@ -1,6 +1,7 @@
 -- A sound image of an accepted program is safe for the turn's code, whatever the readings.
 -- Assumes nothing.
-use Rattle.value.specs.Prelude.{ℕ, ◌≤◌, ◌≡◌, sym, ◌∙◌, ap, subst, List, length, arith}
+use Rattle.std.specs.Prelude.{ℕ, ◌≤◌, ◌≡◌, List, length}
+use Rattle.std.proofs.Common.{sym, ◌∙◌, ap, subst, arith}
 use Rattle.program.specs.Bytes.{main_of, commands_in}
 use Rattle.program.specs.Clauses.{Facts}
 use Rattle.program.specs.Location.{source_count}

@@ -1,6 +1,7 @@
 -- A command of D, and one of R, by its code: code that carries out one sequence has no way for the other's.
 -- Assumes nothing.
-use Rattle.value.specs.Prelude.{ℕ, ◌≡◌, ◌∙◌, ap, List, arith}
+use Rattle.std.specs.Prelude.{ℕ, ◌≡◌, List}
+use Rattle.std.proofs.Common.{◌∙◌, ap, arith}
 use Rattle.program.specs.Bytes.{command_at}
 use Rattle.program.specs.Command.{Cmd, D, R, neither, sequence_of, decode, bytes_at, bytes_of, cmd_of}
 use Rattle.program.specs.declared.Command.{Command}

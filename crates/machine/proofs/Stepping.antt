@@ -1,7 +1,9 @@
 -- R commands, one after the other, and the table of places beside them.
 -- Assumes nothing.
-use Rattle.value.specs.Prelude.{ℕ, zero, suc, ◌+◌, ◌-◌, ◌*◌, ◌≤◌, ◌<◌, ◌≡◌, refl, sym, ◌∙◌, ap, ⊎_elim, Bool, true}
-use Rattle.value.specs.Prelude.{false, List, length, set, arith}
+use Rattle.std.specs.Prelude.{ℕ, zero, suc, ◌+◌, ◌-◌, ◌*◌, ◌≤◌, ◌<◌, ◌≡◌, refl, Bool, true}
+use Rattle.std.proofs.Common.{sym, ◌∙◌, ap, ⊎_elim}
+use Rattle.std.specs.Prelude.{false, List, length, set}
+use Rattle.std.proofs.Common.{arith}
 use lib.Seq.{get_or-set_same, get_or-set_other}
 use Rattle.value.specs.Test.{pick}
 use Rattle.value.proofs.Tests.{below}

@@ -1,7 +1,9 @@
 -- Stretches of a list that are lent on and come back, as the definitions put them.
 -- Assumes nothing.
-use Rattle.value.specs.Prelude.{ℕ, suc, ◌+◌, ◌-◌, ◌≤◌, ◌<◌, ◌≡◌, sym, ◌∙◌, ap, List, [], ◌∷◌, ◌++◌, append_assoc}
-use Rattle.value.specs.Prelude.{append-nil, length, set, take, drop, replicate, arith}
+use Rattle.std.specs.Prelude.{ℕ, suc, ◌+◌, ◌-◌, ◌≤◌, ◌<◌, ◌≡◌, List, [], ◌∷◌, ◌++◌}
+use Rattle.std.proofs.Common.{sym, ◌∙◌, ap, append_assoc}
+use Rattle.std.proofs.Common.{append-nil, arith}
+use Rattle.std.specs.Prelude.{length, set, take, drop, replicate}
 use native.Mathlib.Numerals.{add-one}
 use lib.ListN.{length-replicate, take-append-drop}
 use lib.Seq.{drop-length, take-suc-set, drop-set-lt}

@@ -1,6 +1,7 @@
 -- The turn's own steps: how main's run ended, and what the questions say of what is brought.
 -- Assumes nothing.
-use Rattle.value.specs.Prelude.{ℕ, ◌*◌, ◌≤◌, ◌<◌, ◌≡◌, refl, sym, ap, subst, List, length, arith}
+use Rattle.std.specs.Prelude.{ℕ, ◌*◌, ◌≤◌, ◌<◌, ◌≡◌, refl, List, length}
+use Rattle.std.proofs.Common.{sym, ap, subst, arith}
 use Rattle.program.specs.Bytes.{main_of}
 use Rattle.program.specs.Location.{sink_count}
 use Rattle.answer.specs.declared.Refusal.{Refusal}

@@ -1,7 +1,9 @@
 -- Each command, and so each run, leaves words on which u and the time fit a word.
 -- Assumes nothing.
-use Rattle.value.specs.Prelude.{ℕ, zero, suc, ◌+◌, ◌≤◌, ◌<◌, ◌≡◌, sym, subst, ⊎_elim, Bool, true, false, List, [], ◌∷◌}
-use Rattle.value.specs.Prelude.{length, set, arith}
+use Rattle.std.specs.Prelude.{ℕ, zero, suc, ◌+◌, ◌≤◌, ◌<◌, ◌≡◌, Bool, true, false, List, [], ◌∷◌}
+use Rattle.std.proofs.Common.{sym, subst, ⊎_elim}
+use Rattle.std.specs.Prelude.{length, set}
+use Rattle.std.proofs.Common.{arith}
 use lib.ListN.{length-set}
 use lib.Seq.{set_out}
 use Rattle.value.specs.declared.Value.{Value}

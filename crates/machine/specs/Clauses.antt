@@ -1,5 +1,5 @@
 -- What the contracts of a turn's code speak of beside the definitions.
-use Rattle.value.specs.Prelude.{ℕ, suc, ◌+◌, ◌*◌, ◌≤◌, ◌<◌, ◌≡◌, Bool, true, false, not, List, length, get_or}
+use Rattle.std.specs.Prelude.{ℕ, suc, ◌+◌, ◌*◌, ◌≤◌, ◌<◌, ◌≡◌, Bool, true, false, not, List, length, get_or}
 use Rattle.value.specs.Test.{pick, ◌<?◌, sweep}
 use Rattle.program.specs.Command.{Cmd, takes_words, Made, deployment, point, held, nought, made_by, cmd_of, cell, keep}
 use Rattle.program.specs.Command.{alloc_mono, make_poly, constant, global, supply, react, gives, consume, sink, alloc_poly}

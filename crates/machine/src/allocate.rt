@@ -1,7 +1,7 @@
 // The commands that allocate: AllocMono and AllocPoly. A new deployment stands one deeper than its
 // owner: past the limit of depths the turn ends with 15, and else, where it does not fit the words that
 // are left, with 14.
-ghost use Rattle.value.specs.Prelude.{ℕ, ◌+◌, ◌≤◌, ◌<◌, ◌≡◌, true, false, List, length};
+ghost use Rattle.std.specs.Prelude.{ℕ, ◌+◌, ◌≤◌, ◌<◌, ◌≡◌, true, false, List, length};
 ghost use Rattle.value.specs.Test.{◌≤?◌};
 ghost use Rattle.value.specs.Value as W;
 ghost use Rattle.program.specs.Bytes as B;

@@ -1,5 +1,5 @@
 // 10 to 13: what one turn brings, and the clock.
-ghost use Rattle.value.specs.Prelude.{◌+◌, ◌<◌, ◌≡◌};
+ghost use Rattle.std.specs.Prelude.{◌+◌, ◌<◌, ◌≡◌};
 ghost use Rattle.program.specs.Bytes as B;
 ghost use Rattle.program.specs.Kind as K;
 ghost use Rattle.remus.specs.Turn as T;

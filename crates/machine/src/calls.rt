@@ -1,6 +1,6 @@
 // 4.7, 4.23 A turn, and a preview. A turn runs in place; where it is refused, the words before it are brought back.
 // A preview's turn runs in the work memory, on a copy.
-ghost use Rattle.value.specs.Prelude.{◌*◌, ◌≤◌, ◌<◌, ◌≡◌, length};
+ghost use Rattle.std.specs.Prelude.{◌*◌, ◌≤◌, ◌<◌, ◌≡◌, length};
 ghost use Rattle.program.specs.Bytes as B;
 ghost use Rattle.program.specs.Location as L;
 ghost use Rattle.program.specs.Clauses.{Facts};

@@ -1,6 +1,6 @@
 // 6.18 to 6.20 The commands of cells, one function each. What is kept waits in the Keep's own slot until
 // the turn completes: Fetch reads a cell as the turn found it, and a refused turn leaves every cell.
-ghost use Rattle.value.specs.Prelude.{ℕ, ◌+◌, ◌≤◌, ◌<◌, ◌≡◌, List, length};
+ghost use Rattle.std.specs.Prelude.{ℕ, ◌+◌, ◌≤◌, ◌<◌, ◌≡◌, List, length};
 ghost use Rattle.program.specs.Command as C;
 ghost use Rattle.image.specs.Memory as M;
 ghost use Rattle.remus.specs.Cells as Cells;

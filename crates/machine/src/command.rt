@@ -1,7 +1,7 @@
 // 2.32 The commands that neither allocate nor have to do with cells, one function each. They are given
 // the index of each slot's words: `here` is the command's own, a and b those of its operands. Where a
 // command has a result, its own words are in memory, and no operand's lie past them.
-ghost use Rattle.value.specs.Prelude.{ℕ, ◌+◌, ◌≤◌, ◌<◌, ◌≡◌, true, List, length};
+ghost use Rattle.std.specs.Prelude.{ℕ, ◌+◌, ◌≤◌, ◌<◌, ◌≡◌, true, List, length};
 ghost use Rattle.value.specs.Value as W;
 ghost use Rattle.program.specs.Bytes as B;
 ghost use Rattle.program.specs.Command as C;

@@ -1,5 +1,5 @@
 // A command, decoded once and carried out: those of D, and those of R.
-ghost use Rattle.value.specs.Prelude.{ℕ, ◌+◌, ◌≤◌, ◌<◌, ◌≡◌, List, length};
+ghost use Rattle.std.specs.Prelude.{ℕ, ◌+◌, ◌≤◌, ◌<◌, ◌≡◌, List, length};
 ghost use Rattle.program.specs.Bytes as B;
 ghost use Rattle.program.specs.Command as C;
 ghost use Rattle.program.specs.Clauses.{Facts};

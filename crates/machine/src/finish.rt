@@ -1,6 +1,6 @@
 // 6.21 to 6.24 The end of a completed turn: main's sinks go out as pairs, cells take what was kept, all
 // slots but D slots become zero, and there is one turn more.
-ghost use Rattle.value.specs.Prelude.{◌+◌, ◌*◌, ◌≤◌, ◌<◌, ◌≡◌, length};
+ghost use Rattle.std.specs.Prelude.{◌+◌, ◌*◌, ◌≤◌, ◌<◌, ◌≡◌, length};
 ghost use Rattle.program.specs.Bytes as B;
 ghost use Rattle.program.specs.Location as L;
 ghost use Rattle.image.specs.Memory as M;

@@ -1,6 +1,6 @@
 // 6.22 What was kept becomes the content of the cells, deployment by deployment. A deployment that has
 // not run keeps its cells. Where a reactor has no cell it has no Keep: its R commands are not looked at.
-ghost use Rattle.value.specs.Prelude.{ℕ, ◌+◌, ◌*◌, ◌≤◌, ◌<◌, ◌≡◌, List, length};
+ghost use Rattle.std.specs.Prelude.{ℕ, ◌+◌, ◌*◌, ◌≤◌, ◌<◌, ◌≡◌, List, length};
 ghost use Rattle.program.specs.Bytes as B;
 ghost use Rattle.program.specs.Command as C;
 ghost use Rattle.program.specs.Clauses.{Tells};

@@ -1,6 +1,6 @@
 // 6.3 to 6.6 The run of a deployment. One that is not wired carries out D first; at a React a nested one
 // runs whole. The run calls itself for the nested one, and 64 less the depth falls.
-ghost use Rattle.value.specs.Prelude.{ℕ, suc, ◌+◌, ◌-◌, ◌<◌, ◌≡◌, List, length};
+ghost use Rattle.std.specs.Prelude.{ℕ, suc, ◌+◌, ◌-◌, ◌<◌, ◌≡◌, List, length};
 ghost use Rattle.program.specs.Bytes as B;
 ghost use Rattle.program.specs.Clauses.{Tells};
 ghost use Rattle.image.specs.Memory as M;

@@ -1,5 +1,5 @@
 // 6.27 How a refused turn's words are brought back in place, with u as it was.
-ghost use Rattle.value.specs.Prelude.{◌-◌, ◌≡◌, true, false, length, replicate};
+ghost use Rattle.std.specs.Prelude.{◌-◌, ◌≡◌, true, false, length, replicate};
 ghost use Rattle.value.specs.Test.{◌=?◌};
 ghost use Rattle.image.specs.Memory as M;
 ghost use Rattle.image.specs.Clauses.{Tiling};

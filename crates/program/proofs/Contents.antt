@@ -1,6 +1,7 @@
 -- Which contents are legal, and which mark a value has, by the kind's number.
 -- Assumes nothing.
-use Rattle.value.specs.Prelude.{ℕ, zero, suc, ◌-◌, ◌≤◌, ◌<◌, ◌≡◌, refl, sym, ◌∙◌, ap, true, false, List, arith}
+use Rattle.std.specs.Prelude.{ℕ, zero, suc, ◌-◌, ◌≤◌, ◌<◌, ◌≡◌, refl, true, false, List}
+use Rattle.std.proofs.Common.{sym, ◌∙◌, ap, arith}
 use Rattle.value.specs.Test.{◌and◌, ◌<?◌, ◌=?◌}
 use Rattle.value.specs.Value.{mark_of}
 use Rattle.value.proofs.Tests.{lt!, lt×, left×, true_and}

@@ -1,6 +1,7 @@
 -- A command by its code: what holds of each row of the command table holds of what the bytes say.
 -- Assumes nothing.
-use Rattle.value.specs.Prelude.{ℕ, zero, suc, ◌≤◌, ◌<◌, ◌≡◌, ◌⊎◌, inl, inr, ⊎_elim, arith}
+use Rattle.std.specs.Prelude.{ℕ, zero, suc, ◌≤◌, ◌<◌, ◌≡◌, ◌⊎◌}
+use Rattle.std.proofs.Common.{inl, inr, ⊎_elim, arith}
 use Rattle.value.specs.Test.{pick, ◌=?◌}
 use Rattle.value.proofs.Tests.{pick_any, eq?, eq×?, below}
 use Rattle.program.specs.Command.{Cmd, decode, alloc_mono, make_poly, constant, global, supply, react, consume}

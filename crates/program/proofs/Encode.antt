@@ -1,6 +1,8 @@
 -- Commands as bytes: how long they are, where each stands among others, and `reads_back`.
-use Rattle.value.specs.Prelude.{ℕ, zero, suc, ◌+◌, ◌*◌, ◌/◌, ◌%◌, ◌<◌, ◌≡◌, refl, sym, ◌∙◌, ap, List, [], ◌∷◌, ◌++◌}
-use Rattle.value.specs.Prelude.{length, get_or, arith}
+use Rattle.std.specs.Prelude.{ℕ, zero, suc, ◌+◌, ◌*◌, ◌/◌, ◌%◌, ◌<◌, ◌≡◌, refl, List, [], ◌∷◌, ◌++◌}
+use Rattle.std.proofs.Common.{sym, ◌∙◌, ap}
+use Rattle.std.specs.Prelude.{length, get_or}
+use Rattle.std.proofs.Common.{arith}
 use Rattle.value.specs.Test.{pick, ◌=?◌}
 use lib.ListN.{length-append, get_or-append}
 use lib.Seq.{get_or-append-add}

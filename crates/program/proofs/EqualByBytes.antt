@@ -1,6 +1,6 @@
 -- Two headers, and two commands, are equal by their bytes.
 -- Assumes nothing.
-use Rattle.value.specs.Prelude.{◌≡◌}
+use Rattle.std.specs.Prelude.{◌≡◌}
 use Rattle.program.specs.declared.Header.{Header}
 use Rattle.program.specs.declared.Command.{Command}
 

@@ -1,7 +1,9 @@
 -- A table of reactors' numbers: the empty one, one reactor more, and the whole.
 -- Assumes nothing.
-use Rattle.value.specs.Prelude.{ℕ, ◌+◌, ◌≤◌, ◌<◌, ◌≡◌, sym, ◌∙◌, ap, subst, ⊎_elim, ◌≢◌, List, length, get_or, set}
-use Rattle.value.specs.Prelude.{replicate, arith}
+use Rattle.std.specs.Prelude.{ℕ, ◌+◌, ◌≤◌, ◌<◌, ◌≡◌, ◌≢◌, List, length, get_or, set}
+use Rattle.std.proofs.Common.{sym, ◌∙◌, ap, subst, ⊎_elim}
+use Rattle.std.specs.Prelude.{replicate}
+use Rattle.std.proofs.Common.{arith}
 use lib.ListN.{length-set, length-replicate}
 use lib.Seq.{get_or-set_same, get_or-set_other}
 use Rattle.value.proofs.Tests.{same?}

@@ -1,6 +1,7 @@
 -- The tests on values of a kind say what the propositions do: `content_legal_lem` and `legal_kind`.
 -- Assumes nothing.
-use Rattle.value.specs.Prelude.{ℕ, zero, suc, ◌≡◌, refl, ◌⊎◌, inl, inr, ◌↔◌, true, List}
+use Rattle.std.specs.Prelude.{ℕ, zero, suc, ◌≡◌, refl, ◌⊎◌, ◌↔◌, true, List}
+use Rattle.std.proofs.Common.{inl, inr}
 use Rattle.value.specs.Test.{◌and◌, ◌=?◌}
 use Rattle.value.specs.Value.{mark_of, value}
 use Rattle.value.specs.declared.Value.{Value}

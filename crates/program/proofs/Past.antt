@@ -1,6 +1,7 @@
 -- All bytes from the program's end on are 0, so the eight from there are the eight from any later place.
 -- Assumes nothing.
-use Rattle.value.specs.Prelude.{ℕ, ◌+◌, ◌≤◌, ◌≡◌, sym, ◌∙◌, List, length, arith}
+use Rattle.std.specs.Prelude.{ℕ, ◌+◌, ◌≤◌, ◌≡◌, List, length}
+use Rattle.std.proofs.Common.{sym, ◌∙◌, arith}
 use lib.ListN.{get_or-eq_default}
 use Rattle.program.specs.Bytes.{byte}
 use Rattle.program.specs.Command.{bytes_at}

@@ -1,6 +1,7 @@
 -- The entries, and the running sum of the reactors' commands, one reactor further and up to the program's end.
 -- Assumes nothing.
-use Rattle.value.specs.Prelude.{ℕ, zero, suc, ◌+◌, ◌-◌, ◌*◌, ◌≤◌, ◌<◌, ◌≡◌, refl, ◌∙◌, ap, List, arith}
+use Rattle.std.specs.Prelude.{ℕ, zero, suc, ◌+◌, ◌-◌, ◌*◌, ◌≤◌, ◌<◌, ◌≡◌, refl, List}
+use Rattle.std.proofs.Common.{◌∙◌, ap, arith}
 use native.Mathlib.Numerals.{add-one}
 use Rattle.program.specs.Bytes.{shapes, shape_at, entry_at, tables_end, commands_in, commands_at, reactors, main_of}
 use Rattle.program.specs.Bytes.{whole_length}

@@ -1,6 +1,6 @@
 -- What the contracts of the code speak of beside the definitions: the header as one value; and what is asked of a
 -- reactor most often as one number, with a table of such numbers, filled in once for a whole call.
-use Rattle.value.specs.Prelude.{ℕ, ◌/◌, ◌%◌, ◌≤◌, ◌<◌, ◌≡◌, ◌≢◌, List, get_or}
+use Rattle.std.specs.Prelude.{ℕ, ◌/◌, ◌%◌, ◌≤◌, ◌<◌, ◌≡◌, ◌≢◌, List, get_or}
 use Rattle.program.specs.Bytes.{most_reactors, byte, shapes, reactors, globals, commands_d, commands_r, commands_at}
 use Rattle.program.specs.declared.Header.{Header}
 use Rattle.program.specs.Location.{source_count, sink_count, results}

@@ -1,5 +1,5 @@
 -- 2.11 The bytes of a command, for what writes programs: `decode` reads them back.
-use Rattle.value.specs.Prelude.{ℕ, ◌/◌, ◌%◌, ◌<◌, ◌≡◌, List, [], ◌∷◌, ◌++◌}
+use Rattle.std.specs.Prelude.{ℕ, ◌/◌, ◌%◌, ◌<◌, ◌≡◌, List, [], ◌∷◌, ◌++◌}
 use Rattle.program.specs.Command.{Give, Cmd, bytes_at, decode, alloc_mono, make_poly, cell, gives, supply, react, sink}
 use Rattle.program.specs.Command.{alloc_poly, keep, none, constant, global, consume, primitive, fetch}
 

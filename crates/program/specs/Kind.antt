@@ -1,5 +1,5 @@
 -- The kind of each location, and which values are of a kind.
-use Rattle.value.specs.Prelude.{ℕ, zero, suc, ◌-◌, ◌<◌, ◌≡◌, Bool, true, List}
+use Rattle.std.specs.Prelude.{ℕ, zero, suc, ◌-◌, ◌<◌, ◌≡◌, Bool, true, List}
 use Rattle.value.specs.Test.{◌and◌, ◌or◌, pick, ◌<?◌, ◌=?◌}
 use Rattle.value.specs.Value.{mark_of, Content as ContentIn, OfKind as OfKindIn}
 use Rattle.value.specs.Primitive.{row_of, kind_given}

@@ -1,7 +1,7 @@
 -- Every definition of this room opened at once, and of those below it, for theorems that compute: such a theorem says
 -- `unfolding opened`. It alone opens `slot_at` and `size_of` for the rooms above, whose
 -- other theorems go by the laws of slots.
-use Rattle.value.specs.Prelude.{ℕ}
+use Rattle.std.specs.Prelude.{ℕ}
 use Rattle.value.specs.Open.{opened as below_opened}
 use Rattle.program.specs.Bytes.{byte, shapes, reactors, globals, global_kind, shape_at, sources_in, sinks_in}
 use Rattle.program.specs.Bytes.{source_kind, sink_kind, entry_at, shape_of, commands_d, commands_r, main_of, commands_in}

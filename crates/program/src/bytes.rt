@@ -1,6 +1,6 @@
 // The header, 8 bytes (format, shapes, reactors, globals, four zeros), and the kinds of the globals,
 // which follow it.
-ghost use Rattle.value.specs.Prelude.{◌≡◌};
+ghost use Rattle.std.specs.Prelude.{◌≡◌};
 ghost use Rattle.program.specs.Bytes as B;
 ghost use Rattle.program.specs.Clauses.{header_of};
 

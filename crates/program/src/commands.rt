@@ -15,7 +15,7 @@
 //     11 Cell        D  x kind, v first content
 //     12 Fetch       R  b cell
 //     13 Keep        R  a value, b cell
-ghost use Rattle.value.specs.Prelude.{◌+◌, ◌≤◌, ◌≡◌, length};
+ghost use Rattle.std.specs.Prelude.{◌+◌, ◌≤◌, ◌≡◌, length};
 ghost use Rattle.program.specs.Command as C;
 
 use crate::Command;

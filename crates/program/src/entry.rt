@@ -3,7 +3,7 @@
 //
 // A reactor's number is any word: where no reactor has it, an entry is what the bytes there say, 0
 // past the end.
-ghost use Rattle.value.specs.Prelude.{◌+◌, ◌*◌, ◌≤◌, ◌<◌, ◌≡◌};
+ghost use Rattle.std.specs.Prelude.{◌+◌, ◌*◌, ◌≤◌, ◌<◌, ◌≡◌};
 ghost use Rattle.program.specs.Bytes as B;
 
 use crate::bytes::{byte, reactors, shapes};

@@ -3,7 +3,7 @@
 //
 // It is asked for again and again while an image is tested and while deployments run. So the check
 // notes it once for each reactor, in a table that is lent on.
-ghost use Rattle.value.specs.Prelude.{ℕ, ◌+◌, ◌≤◌, ◌<◌, ◌≡◌, ◌≢◌, List};
+ghost use Rattle.std.specs.Prelude.{ℕ, ◌+◌, ◌≤◌, ◌<◌, ◌≡◌, ◌≢◌, List};
 ghost use Rattle.value.specs.Test.{◌=?◌};
 ghost use Rattle.program.specs.Bytes as B;
 ghost use Rattle.program.specs.Location as L;

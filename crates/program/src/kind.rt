@@ -1,5 +1,5 @@
 // Which marks and contents values of a kind have.
-ghost use Rattle.value.specs.Prelude.{◌≡◌};
+ghost use Rattle.std.specs.Prelude.{◌≡◌};
 ghost use Rattle.value.specs.Value as W;
 ghost use Rattle.program.specs.Kind as K;
 

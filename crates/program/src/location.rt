@@ -1,5 +1,5 @@
 // 2.14, 2.46 to 2.48 Locations of a reactor, and the words that a deployment takes.
-ghost use Rattle.value.specs.Prelude.{ℕ, ◌≤◌, ◌<◌, ◌≡◌};
+ghost use Rattle.std.specs.Prelude.{ℕ, ◌≤◌, ◌<◌, ◌≡◌};
 ghost use Rattle.value.specs.Test.{pick};
 ghost use Rattle.program.specs.Bytes as B;
 ghost use Rattle.program.specs.Command as C;

@@ -1,5 +1,5 @@
 // The shapes, 16 bytes each: source count, sink count, seven source kinds, seven sink kinds.
-ghost use Rattle.value.specs.Prelude.{◌+◌, ◌<◌, ◌≡◌};
+ghost use Rattle.std.specs.Prelude.{◌+◌, ◌<◌, ◌≡◌};
 ghost use Rattle.program.specs.Bytes as B;
 
 use crate::bytes::{byte, globals};

@@ -1,8 +1,10 @@
 -- The end of a completed turn: what waits in the Keeps' slots goes into their cells (`kept_all`, `cell_then`). Every
 -- other slot stays (`kept_alike`), and what is whole stays whole (`kept_whole`), so that clearing leaves a sound image
 -- (`finished_sound`).
-use Rattle.value.specs.Prelude.{ℕ, zero, suc, ◌+◌, ◌≤◌, ◌<◌, ◌≡◌, refl, sym, ◌∙◌, ap, subst, ◌⊎◌, inl, inr, ◌≢◌, true}
-use Rattle.value.specs.Prelude.{false, List, arith}
+use Rattle.std.specs.Prelude.{ℕ, zero, suc, ◌+◌, ◌≤◌, ◌<◌, ◌≡◌, refl, ◌⊎◌, ◌≢◌, true}
+use Rattle.std.proofs.Common.{sym, ◌∙◌, ap, subst, inl, inr}
+use Rattle.std.specs.Prelude.{false, List}
+use Rattle.std.proofs.Common.{arith}
 use Rattle.value.specs.Test.{pick}
 use Rattle.value.specs.Value.{blank, is_blank}
 use Rattle.value.specs.declared.Value.{Value}

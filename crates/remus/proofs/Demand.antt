@@ -1,7 +1,8 @@
 -- Demand 3, whole: `demand_three`, for every accepted program, every memory on which its start succeeds and
 -- every list of turns; and `demand_once`, for one turn on any sound image. With `soundness_kept` and
 -- `refused_undone`. Assumes nothing.
-use Rattle.value.specs.Prelude.{ℕ, ◌≤◌, ◌≡◌, refl, sym, ap, subst, ◌⊎◌, inl, inr, List, length, arith}
+use Rattle.std.specs.Prelude.{ℕ, ◌≤◌, ◌≡◌, refl, ◌⊎◌, List, length}
+use Rattle.std.proofs.Common.{sym, ap, subst, inl, inr, arith}
 use Rattle.load.specs.Check.{IsAccepted}
 use Rattle.load.specs.Rules.{Rules}
 use Rattle.answer.specs.declared.Refusal.{Refusal}

@@ -1,6 +1,7 @@
 -- A turn is refused before its first step exactly for its first fault: `first_fault`, and with it `turn_numbers`.
-use Rattle.value.specs.Prelude.{ℕ, ◌≡◌, refl, sym, ◌∙◌, ap, subst, inl, inr, ⊎_elim, ◌↔◌, ◌≢◌, false, List, length}
-use Rattle.value.specs.Prelude.{arith}
+use Rattle.std.specs.Prelude.{ℕ, ◌≡◌, refl, ◌↔◌, ◌≢◌, false, List, length}
+use Rattle.std.proofs.Common.{sym, ◌∙◌, ap, subst, inl, inr, ⊎_elim}
+use Rattle.std.proofs.Common.{arith}
 use Rattle.value.proofs.Tests.{cases, same?, goes, stops, says×}
 use Rattle.load.specs.Check.{check_of, IsAccepted}
 use Rattle.answer.specs.Answer.{refusal_number, refusal_place, number_of}

@@ -1,6 +1,7 @@
 -- What a turn brings: 10 to 13 refuse it exactly for its first fault (`asking`), and not at all just where it is as it
 -- should be (`fits`).
-use Rattle.value.specs.Prelude.{ℕ, ◌+◌, ◌*◌, ◌<◌, ◌≡◌, refl, sym, subst, inl, inr, ◌↔◌, ◌≢◌, Bool, List, length, arith}
+use Rattle.std.specs.Prelude.{ℕ, ◌+◌, ◌*◌, ◌<◌, ◌≡◌, refl, ◌↔◌, ◌≢◌, Bool, List, length}
+use Rattle.std.proofs.Common.{sym, subst, inl, inr, arith}
 use Rattle.value.specs.Test.{◌<?◌, ◌=?◌}
 use Rattle.value.proofs.Tests.{cases, clash, lt!, lt×, lt?, lt×?, le!, le×, le?, eq!, eq×, eq?, goes, stops, guards}
 use Rattle.value.proofs.Tests.{Says, says_lt, says_le, says_eq, says×, says_guard}

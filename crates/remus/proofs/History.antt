@@ -1,7 +1,8 @@
 -- What cells hold over a list of turns: from what holds of each turn (`Lasting`) to what every Fetch reads (`history`).
 -- One turn leads a cell from its content to the next (`leads`).
-use Rattle.value.specs.Prelude.{ℕ, ◌≤◌, ◌<◌, ◌≡◌, refl, sym, ◌∙◌, ap, subst, ◌⊎◌, inl, inr, List, [], ◌∷◌, length}
-use Rattle.value.specs.Prelude.{arith}
+use Rattle.std.specs.Prelude.{ℕ, ◌≤◌, ◌<◌, ◌≡◌, refl, ◌⊎◌, List, [], ◌∷◌, length}
+use Rattle.std.proofs.Common.{sym, ◌∙◌, ap, subst, inl, inr}
+use Rattle.std.proofs.Common.{arith}
 use Rattle.value.specs.declared.Value.{Value}
 use Rattle.value.proofs.Tests.{below}
 use Rattle.program.specs.Command.{Cmd, fetch, gives}

@@ -1,6 +1,6 @@
 -- What has to be known of the walk inside one turn, p the program, w the words before it, t what it brings: the
 -- hypotheses from which the turn's claim follows.
-use Rattle.value.specs.Prelude.{ℕ, ◌+◌, ◌-◌, ◌≤◌, ◌<◌, ◌≡◌, ◌≢◌, List, length}
+use Rattle.std.specs.Prelude.{ℕ, ◌+◌, ◌-◌, ◌≤◌, ◌<◌, ◌≡◌, ◌≢◌, List, length}
 use Rattle.value.specs.declared.Value.{Value}
 use Rattle.program.specs.Bytes.{main_of}
 use Rattle.program.specs.Command.{Cmd, fetch, gives}

@@ -1,5 +1,6 @@
 -- Lists of turns: from what holds of each turn on a sound image to the claim about a whole list.
-use Rattle.value.specs.Prelude.{ℕ, ◌+◌, ◌≤◌, ◌≡◌, refl, sym, ◌∙◌, ap, subst, List, [], ◌∷◌, length, arith}
+use Rattle.std.specs.Prelude.{ℕ, ◌+◌, ◌≤◌, ◌≡◌, refl, List, [], ◌∷◌, length}
+use Rattle.std.proofs.Common.{sym, ◌∙◌, ap, subst, arith}
 use Rattle.program.specs.Bytes.{main_of}
 use Rattle.program.specs.Location.{size_of}
 use Rattle.load.specs.Rules.{HeaderRule}

@@ -1,5 +1,6 @@
 -- The walk's result of a turn is one: a step is a function, so that two ends that the walk comes to are the same.
-use Rattle.value.specs.Prelude.{ℕ, ◌≡◌, refl, sym, ap, subst, ◌⊎◌, inl, inr, List, [], arith}
+use Rattle.std.specs.Prelude.{ℕ, ◌≡◌, refl, ◌⊎◌, List, []}
+use Rattle.std.proofs.Common.{sym, ap, subst, inl, inr, arith}
 use Rattle.answer.specs.declared.Refusal.{Refusal}
 use Rattle.image.specs.Memory.{used}
 use Rattle.remus.specs.Clear.{finished, sunk}

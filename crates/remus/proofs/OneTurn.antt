@@ -1,5 +1,6 @@
 -- One turn: from what holds inside it to its claim, and to what the list of turns needs of it.
-use Rattle.value.specs.Prelude.{ℕ, ◌+◌, ◌≤◌, ◌≡◌, refl, sym, ◌∙◌, ap, subst, ◌↔◌, ◌≢◌, true, List, length, arith}
+use Rattle.std.specs.Prelude.{ℕ, ◌+◌, ◌≤◌, ◌≡◌, refl, ◌↔◌, ◌≢◌, true, List, length}
+use Rattle.std.proofs.Common.{sym, ◌∙◌, ap, subst, arith}
 use Rattle.value.proofs.Tests.{goes}
 use Rattle.load.specs.Check.{IsAccepted}
 use Rattle.answer.specs.declared.Refusal.{Refusal}

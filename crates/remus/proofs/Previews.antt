@@ -1,7 +1,9 @@
 -- What a preview shows and leaves: `preview_foretells`, `preview_refused_leaves`, `work_length_fault`,
 -- `preview_numbers`; and that a turn which runs ends with 0, 14 or 15 (`run_number`). Assumes nothing.
-use Rattle.value.specs.Prelude.{ℕ, ◌+◌, ◌*◌, ◌≤◌, ◌≡◌, refl, sym, ◌∙◌, ap, subst, ◌⊎◌, inl, inr, ⊎_elim, ◌≢◌, true}
-use Rattle.value.specs.Prelude.{false, List, ◌++◌, length, drop, arith}
+use Rattle.std.specs.Prelude.{ℕ, ◌+◌, ◌*◌, ◌≤◌, ◌≡◌, refl, ◌⊎◌, ◌≢◌, true}
+use Rattle.std.proofs.Common.{sym, ◌∙◌, ap, subst, inl, inr, ⊎_elim}
+use Rattle.std.specs.Prelude.{false, List, ◌++◌, length, drop}
+use Rattle.std.proofs.Common.{arith}
 use lib.Seq.{drop-append_seam}
 use Rattle.value.specs.Test.{guard}
 use Rattle.value.proofs.Tests.{cases, same?, eq!, eq×, goes, stops, yes, no, says×, Says, says_eq, says_or}

@@ -1,6 +1,7 @@
 -- No word of memory or sink space is changed by a refused turn, whatever it is handed: `refused_keeps`.
 -- Assumes nothing.
-use Rattle.value.specs.Prelude.{ℕ, ◌≡◌, refl, subst, ◌≢◌, List, length}
+use Rattle.std.specs.Prelude.{ℕ, ◌≡◌, refl, ◌≢◌, List, length}
+use Rattle.std.proofs.Common.{subst}
 use Rattle.value.proofs.Tests.{cases, goes, stops}
 use Rattle.load.specs.Check.{check_of}
 use Rattle.answer.specs.declared.Answer.{Answer}

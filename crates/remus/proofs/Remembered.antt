@@ -1,6 +1,7 @@
 -- What a completed turn leaves (`finish`): each word of memory, in a cell what its Keep kept, if its deployment has
 -- run, and else what it had (`cells`); and the same deployments.
-use Rattle.value.specs.Prelude.{ℕ, ◌+◌, ◌≤◌, ◌≡◌, refl, sym, ◌∙◌, ap, subst, ◌⊎◌, inl, inr, ◌≢◌, List, [], length}
+use Rattle.std.specs.Prelude.{ℕ, ◌+◌, ◌≤◌, ◌≡◌, refl, ◌⊎◌, ◌≢◌, List, [], length}
+use Rattle.std.proofs.Common.{sym, ◌∙◌, ap, subst, inl, inr}
 use Rattle.value.specs.declared.Value.{Value}
 use Rattle.value.proofs.Tests.{no}
 use Rattle.program.specs.Command.{cell, keep}

@@ -1,5 +1,6 @@
 -- Main's sinks as a completed turn writes them: pairs in order, further words as they were.
-use Rattle.value.specs.Prelude.{ℕ, zero, suc, ◌+◌, ◌*◌, ◌≤◌, ◌<◌, ◌≡◌, refl, ◌∙◌, ap, List, ◌∷◌, length, get_or, arith}
+use Rattle.std.specs.Prelude.{ℕ, zero, suc, ◌+◌, ◌*◌, ◌≤◌, ◌<◌, ◌≡◌, refl, List, ◌∷◌, length, get_or}
+use Rattle.std.proofs.Common.{◌∙◌, ap, arith}
 use Rattle.program.specs.Bytes.{main_of}
 use Rattle.program.specs.Location.{sink_count, sink_loc}
 use Rattle.image.specs.Memory.{main_at, word, mark, content}

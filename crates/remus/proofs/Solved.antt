@@ -5,7 +5,8 @@ pub mod Next
 pub mod Commands
 pub mod Steps
 pub mod Turns
-use Rattle.value.specs.Prelude.{ℕ, ◌<◌, ◌≡◌, refl, sym, ◌∙◌, ap, subst, inl, inr, List, []}
+use Rattle.std.specs.Prelude.{ℕ, ◌<◌, ◌≡◌, refl, List, []}
+use Rattle.std.proofs.Common.{sym, ◌∙◌, ap, subst, inl, inr}
 use Rattle.value.specs.Value.{deployment_mark, value}
 use Rattle.value.specs.declared.Value.{Value}
 use Rattle.program.specs.Bytes.{commands_in}

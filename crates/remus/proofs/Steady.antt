@@ -1,7 +1,9 @@
 -- A turn of an accepted program on a sound image is steady: `steady`. The walk's invariant holds before each command of
 -- the recursive run, since the walk comes there with the run's words. Assumes nothing.
-use Rattle.value.specs.Prelude.{ℕ, zero, suc, ◌+◌, ◌-◌, ◌≤◌, ◌<◌, ◌≡◌, refl, ◌∙◌, ◌⊎◌, inl, inr, List, [], ◌∷◌, ◌++◌}
-use Rattle.value.specs.Prelude.{length, arith}
+use Rattle.std.specs.Prelude.{ℕ, zero, suc, ◌+◌, ◌-◌, ◌≤◌, ◌<◌, ◌≡◌, refl, ◌⊎◌, List, [], ◌∷◌, ◌++◌}
+use Rattle.std.proofs.Common.{◌∙◌, inl, inr}
+use Rattle.std.specs.Prelude.{length}
+use Rattle.std.proofs.Common.{arith}
 use Rattle.program.specs.Bytes.{reactors, commands_in}
 use Rattle.program.specs.Command.{Cmd, cmd_of, bytes_of, supply, consume, gives}
 use Rattle.program.specs.Location.{command_loc, size_of}

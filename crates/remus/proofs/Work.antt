@@ -1,8 +1,10 @@
 -- A completed turn runs no deployment twice, and at most 160 commands for each that stands at its end: `work`. The
 -- commands carried out are at most those behind in the open deployments and 160 for each deployment that has run; and
 -- no two of these are the same. Assumes nothing.
-use Rattle.value.specs.Prelude.{ℕ, ◌+◌, ◌*◌, ◌≤◌, ◌<◌, ◌≡◌, refl, sym, ◌∙◌, ap, inl, inr, ⊎_elim, List, [], ◌∷◌}
-use Rattle.value.specs.Prelude.{◌++◌, length, arith}
+use Rattle.std.specs.Prelude.{ℕ, ◌+◌, ◌*◌, ◌≤◌, ◌<◌, ◌≡◌, refl, List, [], ◌∷◌}
+use Rattle.std.proofs.Common.{sym, ◌∙◌, ap, inl, inr, ⊎_elim}
+use Rattle.std.specs.Prelude.{◌++◌, length}
+use Rattle.std.proofs.Common.{arith}
 use mathlib.Core.List.Memᴰ.{cases_cons as in_cons}
 use mathlib.Core.List.Memᴰ.{not-nil as in_nil}
 use mathlib.Core.List.{Memᴰ}

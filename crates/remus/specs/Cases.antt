@@ -1,6 +1,6 @@
 -- The bench cases in one table with one claim: what each row asks, the definitions answer as the row says.
-use Rattle.value.specs.Prelude.{ℕ, zero, suc, ◌+◌, ◌*◌, ◌≡◌, refl, true, false, List, [], ◌∷◌, ◌++◌, set, take}
-use Rattle.value.specs.Prelude.{replicate}
+use Rattle.std.specs.Prelude.{ℕ, zero, suc, ◌+◌, ◌*◌, ◌≡◌, refl, true, false, List, [], ◌∷◌, ◌++◌, set, take}
+use Rattle.std.specs.Prelude.{replicate}
 use Rattle.std.specs.Prelude.{ℤ, pos, negsuc}
 use Rattle.value.specs.Test.{pick, ◌=?◌}
 use Rattle.value.specs.Value.{blank_mark, kept_mark, value, blank, number, truth}

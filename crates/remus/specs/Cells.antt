@@ -1,6 +1,6 @@
 -- 6.20, 6.22 Cells in a turn. What is kept waits in the Keep's own slot and goes into the cell when the turn completes,
 -- so that a Fetch reads what the cell held as the turn began, and a refused turn changes none.
-use Rattle.value.specs.Prelude.{ℕ, zero, suc, ◌+◌, List}
+use Rattle.std.specs.Prelude.{ℕ, zero, suc, ◌+◌, List}
 use Rattle.value.specs.Test.{pick, ◌=?◌}
 use Rattle.value.specs.Value.{value, blank, is_blank, kept_mark}
 use Rattle.value.specs.declared.Value.{Value}

@@ -1,5 +1,5 @@
 -- 6.34 One statement about any list of turns of an accepted program, from memory that its start has made ready.
-use Rattle.value.specs.Prelude.{ℕ, ◌+◌, ◌-◌, ◌*◌, ◌≤◌, ◌<◌, ◌≡◌, ◌↔◌, ◌≢◌, List, [], ◌∷◌, length}
+use Rattle.std.specs.Prelude.{ℕ, ◌+◌, ◌-◌, ◌*◌, ◌≤◌, ◌<◌, ◌≡◌, ◌↔◌, ◌≢◌, List, [], ◌∷◌, length}
 use Rattle.value.specs.Value.{blank, mark_of, value}
 use Rattle.value.specs.declared.Value.{Value}
 use Rattle.program.specs.Bytes.{globals, main_of}

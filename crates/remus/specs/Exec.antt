@@ -1,5 +1,5 @@
 -- What one command does. The recursive run and the walk both come from this, so that a command's meaning is said once.
-use Rattle.value.specs.Prelude.{ℕ, zero, suc, ◌+◌, ◌-◌, ◌*◌, Bool, true, false, not, List, length}
+use Rattle.std.specs.Prelude.{ℕ, zero, suc, ◌+◌, ◌-◌, ◌*◌, Bool, true, false, not, List, length}
 use Rattle.value.specs.Test.{pick, ◌<?◌, ◌≤?◌, ◌=?◌, guard}
 use Rattle.value.specs.Value.{number_mark, deployment_mark, point_mark, mark_of, value, blank, is_blank}
 use Rattle.value.specs.Primitive as Op

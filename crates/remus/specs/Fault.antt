@@ -1,7 +1,7 @@
 -- 5.6 For which fault a turn is refused before its first step, by number and place. Each case says what its fault is
 -- and that what comes before it is right, so that nothing here speaks of a ladder of tests. Proved in
 -- proofs/FirstFault.antt: `first_fault`, `turn_numbers`.
-use Rattle.value.specs.Prelude.{ℕ, ◌+◌, ◌*◌, ◌≤◌, ◌<◌, ◌≡◌, ◌⊎◌, ◌↔◌, ◌≢◌, List, length}
+use Rattle.std.specs.Prelude.{ℕ, ◌+◌, ◌*◌, ◌≤◌, ◌<◌, ◌≡◌, ◌⊎◌, ◌↔◌, ◌≢◌, List, length}
 use Rattle.program.specs.Bytes.{globals, global_kind, main_of}
 use Rattle.program.specs.Location.{sink_count}
 use Rattle.program.specs.Kind.{OfKind}

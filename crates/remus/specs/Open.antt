@@ -1,6 +1,6 @@
 -- Every definition of this room opened at once, and of those below it, for theorems that compute: such a theorem says
 -- `unfolding opened`.
-use Rattle.value.specs.Prelude.{ℕ}
+use Rattle.std.specs.Prelude.{ℕ}
 use Rattle.image.specs.Open.{opened as below_opened}
 use Rattle.remus.specs.Cells.{pending, kept, keep_by, keep_from, keep_one, keep_of}
 use Rattle.remus.specs.Exec.{global_value, find, there, allocated, branched, chosen, operated, supplied, reacted}

@@ -1,6 +1,6 @@
 -- A point of the walk is the moment before a step: what the next command reads (6.29), whether it can be carried out
 -- (6.31), and what it allocates (6.9).
-use Rattle.value.specs.Prelude.{ℕ, ◌+◌, ◌≤◌, ◌<◌, ◌≡◌, ◌≢◌, true, false, List, ◌∷◌}
+use Rattle.std.specs.Prelude.{ℕ, ◌+◌, ◌≤◌, ◌<◌, ◌≡◌, ◌≢◌, true, false, List, ◌∷◌}
 use Rattle.value.specs.Value.{blank, is_blank, deployment_mark}
 use Rattle.value.specs.Primitive.{operands, Offered}
 use Rattle.program.specs.Bytes.{reactors, globals, global_kind, shape_of, commands_in}

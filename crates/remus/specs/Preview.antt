@@ -1,5 +1,5 @@
 -- 4.23 The call preview, whole: answer and every lent word. It tries a turn on a copy of the memory.
-use Rattle.value.specs.Prelude.{ℕ, ◌≡◌, ◌≢◌, ◌⊎◌, ◌↔◌, Bool, List, length}
+use Rattle.std.specs.Prelude.{ℕ, ◌≡◌, ◌≢◌, ◌⊎◌, ◌↔◌, Bool, List, length}
 use Rattle.value.specs.Test.{pick, ◌=?◌, ◌or◌, guard}
 use Rattle.answer.specs.Answer.{number_of}
 use Rattle.answer.specs.declared.Answer.{Answer}

@@ -1,5 +1,5 @@
 -- 6.5, 6.6 The run, by recursion: a nested deployment is run whole before the outer one goes on.
-use Rattle.value.specs.Prelude.{ℕ, zero, suc, ◌+◌, ◌-◌, List}
+use Rattle.std.specs.Prelude.{ℕ, zero, suc, ◌+◌, ◌-◌, List}
 use Rattle.program.specs.Bytes.{commands_in}
 use Rattle.answer.specs.declared.Refusal.{Refusal}
 use Rattle.answer.specs.declared.Refusal.TheVariants.{TooDeep}

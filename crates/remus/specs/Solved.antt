@@ -1,5 +1,5 @@
 -- 6.37 The values of a completed turn solve the equations of its commands, in each deployment that ran.
-use Rattle.value.specs.Prelude.{ℕ, ◌≤◌, ◌<◌, ◌≡◌, true, false, List, length}
+use Rattle.std.specs.Prelude.{ℕ, ◌≤◌, ◌<◌, ◌≡◌, true, false, List, length}
 use Rattle.value.specs.Value.{deployment_mark, mark_of, value, blank, is_blank}
 use Rattle.value.specs.Primitive as P
 use Rattle.value.specs.declared.Value.{Value}

@@ -4,7 +4,7 @@
 -- reads past its own location; an allocation is of one of the program's reactors; a Supply comes to a source that its
 -- deployment has, and a Consume's deployment has one of the program's reactors; no run is deeper than 64. It holds in
 -- each turn of an accepted program on a sound image: `steady` in proofs/Steady.antt.
-use Rattle.value.specs.Prelude.{ℕ, zero, suc, ◌+◌, ◌-◌, ◌≤◌, ◌<◌, ◌≡◌, true, false, List, length}
+use Rattle.std.specs.Prelude.{ℕ, zero, suc, ◌+◌, ◌-◌, ◌≤◌, ◌<◌, ◌≡◌, true, false, List, length}
 use Rattle.value.specs.Value.{is_blank}
 use Rattle.program.specs.Bytes.{reactors, commands_d, commands_in}
 use Rattle.program.specs.Command.{Cmd, cmd_of, sequence_of, D, R, alloc_mono, make_poly, constant, global, supply, react}

@@ -1,5 +1,5 @@
 -- The call turn, whole: answer and every lent word.
-use Rattle.value.specs.Prelude.{ℕ, ◌+◌, ◌*◌, List, length}
+use Rattle.std.specs.Prelude.{ℕ, ◌+◌, ◌*◌, List, length}
 use Rattle.value.specs.Test.{◌<?◌, ◌≤?◌, ◌=?◌, guard, sweep}
 use Rattle.value.specs.Value.{value}
 use Rattle.value.specs.declared.Value.{Value}

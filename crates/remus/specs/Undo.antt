@@ -1,5 +1,5 @@
 -- 6.27 How the words of a refused turn are brought back in place, from those at its end and the u of its beginning.
-use Rattle.value.specs.Prelude.{ℕ, zero, suc, ◌+◌, ◌-◌, ◌≡◌, Bool, true, false, List, length, replicate}
+use Rattle.std.specs.Prelude.{ℕ, zero, suc, ◌+◌, ◌-◌, ◌≡◌, Bool, true, false, List, length, replicate}
 use Rattle.value.specs.Test.{◌≤?◌, ◌=?◌, guard}
 use Rattle.value.specs.Value.{value, point_mark}
 use Rattle.program.specs.Bytes.{reactors, commands_d}

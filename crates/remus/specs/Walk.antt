@@ -1,6 +1,6 @@
 -- Section 6 of the manual step by step: the walk. Beside words it has the open deployments (6.1), the newest first, and
 -- notes (6.28).
-use Rattle.value.specs.Prelude.{ℕ, zero, suc, ◌+◌, ◌≡◌, Bool, true, false, List, [], ◌∷◌, ◌++◌, length}
+use Rattle.std.specs.Prelude.{ℕ, zero, suc, ◌+◌, ◌≡◌, Bool, true, false, List, [], ◌∷◌, ◌++◌, length}
 use Rattle.value.specs.Test.{◌=?◌}
 use Rattle.program.specs.Bytes.{commands_in}
 use Rattle.program.specs.Command.{Cmd, cmd_of, alloc_mono, make_poly, supply, react, sink, alloc_poly, cell, keep, none}

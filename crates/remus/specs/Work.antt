@@ -1,6 +1,6 @@
 -- 6.36 A completed turn runs no deployment twice, and so at most 160 commands for each deployment that stands at its
 -- end.
-use Rattle.value.specs.Prelude.{ℕ, ◌+◌, ◌*◌, ◌≤◌, ◌≡◌, List, ◌∷◌, length}
+use Rattle.std.specs.Prelude.{ℕ, ◌+◌, ◌*◌, ◌≤◌, ◌≡◌, List, ◌∷◌, length}
 use Rattle.program.specs.Command.{Cmd}
 use Rattle.load.specs.Check.{IsAccepted}
 use Rattle.image.specs.Memory.{most_words, used, starts_below}

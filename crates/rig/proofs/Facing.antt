@@ -1,6 +1,7 @@
 -- A call's answer as one number, with the words then.
 -- Assumes nothing.
-use Rattle.value.specs.Prelude.{ℕ, ◌≡◌, refl, ap, List}
+use Rattle.std.specs.Prelude.{ℕ, ◌≡◌, refl, List}
+use Rattle.std.proofs.Common.{ap}
 use Rattle.answer.specs.Answer.{place_of, number_of}
 use Rattle.answer.specs.declared.Answer.{Answer}
 use Rattle.image.specs.Start as Start

@@ -1,7 +1,9 @@
 -- No turn writes past the first 14 words of the sink space, nor reads any of it.
 -- Assumes nothing.
-use Rattle.value.specs.Prelude.{ℕ, ◌+◌, ◌*◌, ◌/◌, ◌≤◌, min, ◌≡◌, refl, sym, ◌∙◌, ap, List, ◌++◌, append_assoc, length}
-use Rattle.value.specs.Prelude.{take, drop, arith}
+use Rattle.std.specs.Prelude.{ℕ, ◌+◌, ◌*◌, ◌/◌, ◌≤◌, min, ◌≡◌, refl, List, ◌++◌, length}
+use Rattle.std.proofs.Common.{sym, ◌∙◌, ap, append_assoc}
+use Rattle.std.specs.Prelude.{take, drop}
+use Rattle.std.proofs.Common.{arith}
 use lib.ListN.{length-append, take-append-drop}
 use lib.Seq.{length-take-le, drop-append-le}
 use Rattle.value.specs.Test.{◌≤?◌}

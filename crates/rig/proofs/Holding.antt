@@ -1,7 +1,9 @@
 -- Bytes that are given words: `hold_same`, and that words which are their own already make no difference.
 -- Assumes nothing.
-use Rattle.value.specs.Prelude.{ℕ, suc, ◌*◌, ◌/◌, ◌%◌, ◌≤◌, ◌<◌, ◌≡◌, refl, sym, ◌∙◌, ap, List, [], ◌∷◌, ◌++◌}
-use Rattle.value.specs.Prelude.{length, take, drop, arith}
+use Rattle.std.specs.Prelude.{ℕ, suc, ◌*◌, ◌/◌, ◌%◌, ◌≤◌, ◌<◌, ◌≡◌, refl, List, [], ◌∷◌, ◌++◌}
+use Rattle.std.proofs.Common.{sym, ◌∙◌, ap}
+use Rattle.std.specs.Prelude.{length, take, drop}
+use Rattle.std.proofs.Common.{arith}
 use lib.Seq.{take-length}
 use Rattle.rig.specs.Words.{word, words_of, bytes_of, holding}
 use Rattle.rig.specs.Laws.{Bytes, HeldSame}

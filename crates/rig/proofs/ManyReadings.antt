@@ -1,6 +1,7 @@
 -- More readings than any program takes: refused as 63 words are, but for their number.
 -- Assumes nothing.
-use Rattle.value.specs.Prelude.{ℕ, ◌*◌, ◌/◌, ◌≤◌, ◌<◌, ◌≡◌, refl, sym, ◌∙◌, ap, ◌≢◌, List, length, take, arith}
+use Rattle.std.specs.Prelude.{ℕ, ◌*◌, ◌/◌, ◌≤◌, ◌<◌, ◌≡◌, refl, ◌≢◌, List, length, take}
+use Rattle.std.proofs.Common.{sym, ◌∙◌, ap, arith}
 use lib.Seq.{length-take-le}
 use Rattle.value.specs.Test.{◌=?◌}
 use Rattle.value.proofs.Tests.{cases, eq×, eq!, eq?, no, yes, stops, goes}

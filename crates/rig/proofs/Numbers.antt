@@ -1,6 +1,7 @@
 -- The check's refusals have other numbers than those for lengths of memory and readings.
 -- Assumes nothing.
-use Rattle.value.specs.Prelude.{ℕ, ◌≡◌, ap, subst, inl, inr, ◌≢◌, List, arith}
+use Rattle.std.specs.Prelude.{ℕ, ◌≡◌, ◌≢◌, List}
+use Rattle.std.proofs.Common.{ap, subst, inl, inr, arith}
 use Rattle.load.specs.Check.{check_of}
 use Rattle.answer.specs.Answer.{number_of, refusal_number}
 use Rattle.load.specs.Fault.{CheckNumber}

@@ -1,7 +1,9 @@
 -- The laws of specs/Laws.antt.
 -- Assumes nothing.
-use Rattle.value.specs.Prelude.{ℕ, suc, ◌+◌, ◌-◌, ◌*◌, ◌/◌, ◌%◌, ◌<◌, min, ◌≡◌, refl, sym, ◌∙◌, ap, List, [], ◌∷◌, ◌++◌}
-use Rattle.value.specs.Prelude.{length, get_or, drop, arith}
+use Rattle.std.specs.Prelude.{ℕ, suc, ◌+◌, ◌-◌, ◌*◌, ◌/◌, ◌%◌, ◌<◌, min, ◌≡◌, refl, List, [], ◌∷◌, ◌++◌}
+use Rattle.std.proofs.Common.{sym, ◌∙◌, ap}
+use Rattle.std.specs.Prelude.{length, get_or, drop}
+use Rattle.std.proofs.Common.{arith}
 use lib.ListN.{length-append, length-drop}
 use lib.Seq.{get_or-append-add, get_or-drop}
 use Rattle.value.specs.Test.{pick, ◌<?◌}

@@ -1,6 +1,7 @@
 -- A call in a room of words; and a memory of more words than any room has: refused by the check, else 8.
 -- Assumes nothing.
-use Rattle.value.specs.Prelude.{ℕ, ◌/◌, ◌<◌, ◌≡◌, refl, sym, ◌∙◌, ap, true, false, List, [], ◌++◌, length, arith}
+use Rattle.std.specs.Prelude.{ℕ, ◌/◌, ◌<◌, ◌≡◌, refl, true, false, List, [], ◌++◌, length}
+use Rattle.std.proofs.Common.{sym, ◌∙◌, ap, arith}
 use Rattle.value.specs.Test.{pick}
 use Rattle.value.proofs.Tests.{eq×, eq!, no, yes, stops, left×, right×, le×}
 use Rattle.load.specs.Check.{check_of}

@@ -1,6 +1,7 @@
 -- A preview on bytes: a turn in a room, or what its lengths are refused for.
 -- Assumes nothing.
-use Rattle.value.specs.Prelude.{ℕ, ◌/◌, ◌≡◌, refl, sym, ◌∙◌, subst, Bool, true, false, List, length, arith}
+use Rattle.std.specs.Prelude.{ℕ, ◌/◌, ◌≡◌, refl, Bool, true, false, List, length}
+use Rattle.std.proofs.Common.{sym, ◌∙◌, subst, arith}
 use Rattle.value.specs.Test.{pick, ◌=?◌, ◌and◌}
 use Rattle.value.proofs.Tests.{cases, clash, eq!, eq?, both!, both?, yes, no}
 use Rattle.answer.specs.Answer.{number_of, place_of}

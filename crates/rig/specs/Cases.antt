@@ -1,5 +1,5 @@
 -- 4.22 Calls on bytes by computing: the clock on slices whose last bytes make no word.
-use Rattle.value.specs.Prelude.{ℕ, ◌+◌, ◌*◌, ◌≡◌, refl, List, [], ◌∷◌, ◌++◌, replicate}
+use Rattle.std.specs.Prelude.{ℕ, ◌+◌, ◌*◌, ◌≡◌, refl, List, [], ◌∷◌, ◌++◌, replicate}
 use Rattle.load.specs.Check.{check_of}
 use Rattle.load.specs.Programs.{clock}
 use Rattle.remus.specs.Open.{opened as below_opened}

@@ -1,5 +1,5 @@
 -- What the contracts of the code speak of beside the definitions: what it answers and stores on the way.
-use Rattle.value.specs.Prelude.{ℕ, ◌+◌, ◌/◌, ◌%◌, ◌≤◌, ◌≡◌, Bool, true, List, length, set}
+use Rattle.std.specs.Prelude.{ℕ, ◌+◌, ◌/◌, ◌%◌, ◌≤◌, ◌≡◌, Bool, true, List, length, set}
 use Rattle.value.specs.Test.{pick, ◌=?◌}
 use Rattle.answer.specs.declared.Answer.{Answer}
 use Rattle.answer.specs.declared.Answer.TheVariants.{Done, Refused}

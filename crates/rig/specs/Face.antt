@@ -1,5 +1,5 @@
 -- 4.18 What a C caller gets: the calls on the words that its bytes hold.
-use Rattle.value.specs.Prelude.{ℕ, List}
+use Rattle.std.specs.Prelude.{ℕ, List}
 use Rattle.answer.specs.Answer.{place_of, number_of}
 use Rattle.answer.specs.declared.Answer.{Answer}
 use Rattle.image.specs.Start as Start

@@ -1,5 +1,5 @@
 -- What holds of words in bytes and of packed answers, in other words than the definitions have.
-use Rattle.value.specs.Prelude.{ℕ, ◌*◌, ◌/◌, ◌%◌, ◌≤◌, ◌<◌, min, ◌≡◌, ◌⊎◌, ◌≢◌, List, ◌++◌, length, get_or, drop}
+use Rattle.std.specs.Prelude.{ℕ, ◌*◌, ◌/◌, ◌%◌, ◌≤◌, ◌<◌, min, ◌≡◌, ◌⊎◌, ◌≢◌, List, ◌++◌, length, get_or, drop}
 use Rattle.answer.specs.Answer.{number_of}
 use Rattle.rig.specs.Words.{words_of, holding, packed, most_place}
 use Rattle.rig.specs.Face.{start_bytes, turn_bytes, preview_bytes}

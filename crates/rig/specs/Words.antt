@@ -1,5 +1,5 @@
 -- 4.15, 4.16, 4.19 Words in a C caller's bytes, and an answer as one number.
-use Rattle.value.specs.Prelude.{ℕ, ◌+◌, ◌*◌, ◌/◌, ◌%◌, List, [], ◌∷◌, ◌++◌, length, drop}
+use Rattle.std.specs.Prelude.{ℕ, ◌+◌, ◌*◌, ◌/◌, ◌%◌, List, [], ◌∷◌, ◌++◌, length, drop}
 use Rattle.value.specs.Test.{pick, ◌<?◌}
 
 -- a word of four bytes, low byte first

@@ -1,5 +1,5 @@
 // Words in bytes. The loops have no test but their end's, so that they are done many words at a time.
-ghost use Rattle.value.specs.Prelude.{◌+◌, ◌*◌, ◌≤◌, ◌<◌, ◌≡◌, length, get_or, take};
+ghost use Rattle.std.specs.Prelude.{◌+◌, ◌*◌, ◌≤◌, ◌<◌, ◌≡◌, length, get_or, take};
 ghost use Rattle.rig.specs.Words.{word, words_of, holding};
 ghost use Rattle.rig.specs.Clauses.{put_at};
 

@@ -1,6 +1,6 @@
 // The calls on bytes. Where the length of a slice is no multiple of four, its last bytes make no word: no
 // call reads or writes them.
-ghost use Rattle.value.specs.Prelude.{◌≡◌};
+ghost use Rattle.std.specs.Prelude.{◌≡◌};
 ghost use Rattle.rig.specs.Face.{one_number, faced, turn_faced, preview_faced, start_bytes};
 ghost use Rattle.rig.specs.Face.{turn_bytes, preview_bytes};
 ghost use Rattle.rig.specs.Clauses.{unfit_of};

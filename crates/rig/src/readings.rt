@@ -1,5 +1,5 @@
 // A turn or a preview with readings of bytes.
-ghost use Rattle.value.specs.Prelude.{◌*◌, ◌≤◌, ◌≡◌, length, take};
+ghost use Rattle.std.specs.Prelude.{◌*◌, ◌≤◌, ◌≡◌, length, take};
 ghost use Rattle.rig.specs.Words.{words_of};
 ghost use Rattle.rig.specs.Clauses.{Level, Runs, call_held};
 ghost use Rattle.rig.specs.Face.{faced};

@@ -1,7 +1,7 @@
 // A call on a memory of bytes, in a room of words. A preview reads its source and may write memory, which is then
 // its work memory; the other calls do not look at the source. There are rooms of six sizes, so that a small memory
 // takes a small stack.
-ghost use Rattle.value.specs.Prelude.{◌/◌, ◌≤◌, ◌≡◌, length};
+ghost use Rattle.std.specs.Prelude.{◌/◌, ◌≤◌, ◌≡◌, length};
 ghost use Rattle.rig.specs.Clauses.{room_of, Level, call_of, saves, call_held};
 ghost use Rattle.rig.specs.Face.{faced};
 

@@ -1,5 +1,5 @@
 // A turn or a preview with sink space of bytes. No turn writes past the first 14 words of it, so no others are copied.
-ghost use Rattle.value.specs.Prelude.{◌/◌, min, ◌≡◌, length};
+ghost use Rattle.std.specs.Prelude.{◌/◌, min, ◌≡◌, length};
 ghost use Rattle.rig.specs.Words.{words_of};
 ghost use Rattle.rig.specs.Clauses.{Level, Runs, call_held, sinks_held};
 ghost use Rattle.rig.specs.Face.{faced};

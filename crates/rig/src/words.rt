@@ -1,5 +1,5 @@
 // The calls on a caller's own words: nothing is copied.
-ghost use Rattle.value.specs.Prelude.{◌≡◌};
+ghost use Rattle.std.specs.Prelude.{◌≡◌};
 ghost use Rattle.image.specs.Start.{start_of};
 ghost use Rattle.remus.specs.Turn.{turn_of};
 ghost use Rattle.remus.specs.Preview.{preview_of};

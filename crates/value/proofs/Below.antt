@@ -1,6 +1,8 @@
 -- A test at each number below n: computed at once, and read off at one.
-use Rattle.value.specs.Prelude.{ℕ, zero, suc, ◌<◌, ◌≡◌, refl, ◌∙◌, ap, ⊎_elim, Bool, true, false, ◌&&◌}
-use Rattle.value.specs.Prelude.{false≢true, arith}
+use Rattle.std.specs.Prelude.{ℕ, zero, suc, ◌<◌, ◌≡◌, refl, Bool, true, false, ◌&&◌}
+use Rattle.std.proofs.Common.{◌∙◌, ap, ⊎_elim}
+use Rattle.std.proofs.lemmas.Bool.{false≢true}
+use Rattle.std.proofs.Common.{arith}
 use Rattle.std.proofs.Common.{le_of_suc-le-suc, not-suc-le-zero, eq-or-lt_of_le}
 
 -- t holds at each number below n

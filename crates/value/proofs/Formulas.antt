@@ -1,6 +1,7 @@
 -- The formulas of specs/Formula.antt are what primitives 7 and 11 mean, and stay in 32 bits; and primitive 12 by the
 -- formula of 11. Assumes nothing.
-use Rattle.value.specs.Prelude.{ℕ, ◌*◌, ◌≡◌, refl, Bool, true, false, not, arith}
+use Rattle.std.specs.Prelude.{ℕ, ◌*◌, ◌≡◌, refl, Bool, true, false, not}
+use Rattle.std.proofs.Common.{arith}
 use mir.Val.{bool_byte}
 use Rattle.value.specs.Test.{pick}
 use Rattle.value.specs.Value.{value, blank, truth, truth_mark, is_blank, is_truth, is_true}

@@ -1,8 +1,10 @@
 -- Signed integers as the machine has them: bits, read by `to_z` and written by `of_z`. What is read back, which
 -- results fit, and what the operations of specs/Primitive.antt are where they fit. All signed reasoning of the
 -- crate is here. Assumes nothing.
-use Rattle.value.specs.Prelude.{ℕ, zero, suc, ◌+◌, ◌-◌, ◌*◌, ◌/◌, ◌%◌, ◌^◌, ◌≤◌, ◌<◌, ◌≡◌, refl, sym, ◌∙◌, ap}
-use Rattle.value.specs.Prelude.{subst, Bool, true, false, not, cond, arith}
+use Rattle.std.specs.Prelude.{ℕ, zero, suc, ◌+◌, ◌-◌, ◌*◌, ◌/◌, ◌%◌, ◌^◌, ◌≤◌, ◌<◌, ◌≡◌, refl}
+use Rattle.std.proofs.Common.{sym, ◌∙◌, ap}
+use Rattle.std.proofs.Common.{subst, arith}
+use Rattle.std.specs.Prelude.{Bool, true, false, not, cond}
 use Rattle.std.proofs.Common.{T, eqb, ltb, ℤ, pos, negsuc, ◌+ℤ◌, ◌-ℤ◌, ◌*ℤ◌, neg_ℤ, nat_abs, mul-le-mul, zero-add, div-le_self, div-one, to_z-of_z, Fits-lit, w32, w64, Fits, SFits, to_z, of_z, ltb-false, ltb-true, le-ltb, eq-eqb, ne_eqb, eqb-true}
 use native.Mathlib.Nat.{div-lt_self}
 use borrow.Author.Tests.{eqb-false}

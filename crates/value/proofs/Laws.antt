@@ -1,6 +1,9 @@
 -- What each primitive gives: `primitive_laws`. Assumes nothing.
-use Rattle.value.specs.Prelude.{ℕ, suc, ◌+◌, ◌-◌, ◌≤◌, ◌<◌, ◌≡◌, refl, sym, ◌∙◌, ap, subst, inl, inr, ⊎_elim, ◌≢◌}
-use Rattle.value.specs.Prelude.{Bool, true, false, not, true≢false, false≢true, arith}
+use Rattle.std.specs.Prelude.{ℕ, suc, ◌+◌, ◌-◌, ◌≤◌, ◌<◌, ◌≡◌, refl, ◌≢◌}
+use Rattle.std.proofs.Common.{sym, ◌∙◌, ap, subst, inl, inr, ⊎_elim}
+use Rattle.std.specs.Prelude.{Bool, true, false, not}
+use Rattle.std.proofs.Common.{true≢false, arith}
+use Rattle.std.proofs.lemmas.Bool.{false≢true}
 use Rattle.std.proofs.Common.{eqb, ℤ, pos, negsuc, ◌+ℤ◌, nat_abs, ltb-false, ltb-true, lt-ltb, eqb-true}
 use lib.IntN.{pos-ne-negsuc}
 use lib.Signed.{lt_z, quot_z}

@@ -1,7 +1,9 @@
 -- Legal operands give a legal result of the table's kind: `primitive_of_kind`, and every content is a word:
 -- `primitive_word`. Both are one argument, row by row, over a family of values: `primitive_is`. Assumes nothing.
-use Rattle.value.specs.Prelude.{ℕ, zero, suc, ◌^◌, ◌≤◌, ◌<◌, ◌≡◌, refl, sym, subst, inl, inr, Bool, true, false}
-use Rattle.value.specs.Prelude.{not, List, [], ◌∷◌, get_or, arith}
+use Rattle.std.specs.Prelude.{ℕ, zero, suc, ◌^◌, ◌≤◌, ◌<◌, ◌≡◌, refl, Bool, true, false}
+use Rattle.std.proofs.Common.{sym, subst, inl, inr}
+use Rattle.std.specs.Prelude.{not, List, [], ◌∷◌, get_or}
+use Rattle.std.proofs.Common.{arith}
 use Rattle.std.proofs.Common.{ℤ, pos, negsuc, ◌+ℤ◌, ◌-ℤ◌, ◌*ℤ◌}
 use lib.Signed.{lt_z, quot_z}
 use Rattle.value.proofs.Integers.{in32_fits, round_in}

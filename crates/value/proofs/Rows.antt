@@ -1,5 +1,6 @@
 -- Rows of the table of primitives, by number. Assumes nothing.
-use Rattle.value.specs.Prelude.{ℕ, zero, suc, ◌+◌, ◌≤◌, ◌<◌, ◌≡◌, refl, subst, ⊎_elim, ◌≢◌, arith}
+use Rattle.std.specs.Prelude.{ℕ, zero, suc, ◌+◌, ◌≤◌, ◌<◌, ◌≡◌, refl, ◌≢◌}
+use Rattle.std.proofs.Common.{subst, ⊎_elim, arith}
 use Rattle.std.proofs.Common.{eq-or-lt_of_le}
 use lib.ListN.{get_or-eq_default}
 use Rattle.value.specs.Primitive.{table, none, row_of, primitive}

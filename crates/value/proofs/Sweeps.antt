@@ -1,7 +1,9 @@
 -- Laws of a sweep: the first place where a test fails. `swept` says what it finds, `sweeps` when it comes to its end,
 -- and the three that follow take it one place at a time, as a loop does. Assumes nothing.
-use Rattle.value.specs.Prelude.{ℕ, zero, suc, ◌+◌, ◌-◌, ◌≤◌, ◌<◌, ◌≡◌, refl, sym, ◌∙◌, subst, ◌↔◌, Bool, true}
-use Rattle.value.specs.Prelude.{false, arith}
+use Rattle.std.specs.Prelude.{ℕ, zero, suc, ◌+◌, ◌-◌, ◌≤◌, ◌<◌, ◌≡◌, refl, ◌↔◌, Bool, true}
+use Rattle.std.proofs.Common.{sym, ◌∙◌, subst}
+use Rattle.std.specs.Prelude.{false}
+use Rattle.std.proofs.Common.{arith}
 use Rattle.value.specs.Test.{guard, sweep, ◌<?◌, ◌=?◌, ◌and◌}
 use Rattle.value.proofs.Tests.{cases, same_test, both?, both!, clash, lt?, lt×?, eq?, eq!, goes, stops}
 

@@ -3,8 +3,11 @@
 -- `lt×?` the fact from its failing; and so for `le`, `eq`, `both`, `or`. A return after tests reads `yes _ (eq!
 -- ..) (no _ (lt× ..) ..)`, test by test in the definition's order, and one of a ladder `goes _ _ (le! ..) (stops
 -- _ (le× ..) refl)`. Assumes nothing.
-use Rattle.value.specs.Prelude.{ℕ, suc, ◌≤◌, ◌<◌, ◌≡◌, refl, sym, ◌∙◌, ap, ◌⊎◌, inl, inr, ◌↔◌, ◌≢◌, Bool, true}
-use Rattle.value.specs.Prelude.{false, not, ◌&&◌, ◌||◌, true≢false, false≢true, arith}
+use Rattle.std.specs.Prelude.{ℕ, suc, ◌≤◌, ◌<◌, ◌≡◌, refl, ◌⊎◌, ◌↔◌, ◌≢◌, Bool, true}
+use Rattle.std.proofs.Common.{sym, ◌∙◌, ap, inl, inr}
+use Rattle.std.specs.Prelude.{false, not, ◌&&◌, ◌||◌}
+use Rattle.std.proofs.Common.{true≢false, arith}
+use Rattle.std.proofs.lemmas.Bool.{false≢true}
 use Rattle.std.proofs.Common.{eqb, ltb, leb, ltb-false, ltb-true, le-ltb, lt-ltb, eq-eqb, ne_eqb, eqb-true, le-leb, leb-false, leb-true}
 use borrow.Author.Tests.{lt-leb}
 use borrow.Author.Tests.{eqb-false}

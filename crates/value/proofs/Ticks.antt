@@ -1,7 +1,9 @@
 -- Primitive 13 is the difference of specs/Ticks.antt: `exact_difference`. An integer z is told by two naturals, as
 -- `over z` less `under z`, so that each equation becomes one of sums of naturals. Assumes nothing.
-use Rattle.value.specs.Prelude.{ℕ, zero, suc, ◌+◌, ◌-◌, ◌*◌, ◌/◌, ◌%◌, ◌^◌, ◌≤◌, ◌<◌, ◌≡◌, refl, sym, ◌∙◌, ap}
-use Rattle.value.specs.Prelude.{◌↔◌, true, arith}
+use Rattle.std.specs.Prelude.{ℕ, zero, suc, ◌+◌, ◌-◌, ◌*◌, ◌/◌, ◌%◌, ◌^◌, ◌≤◌, ◌<◌, ◌≡◌, refl}
+use Rattle.std.proofs.Common.{sym, ◌∙◌, ap}
+use Rattle.std.specs.Prelude.{◌↔◌, true}
+use Rattle.std.proofs.Common.{arith}
 use Rattle.std.proofs.Common.{ltb, ℤ, pos, negsuc, ◌+ℤ◌, ◌-ℤ◌, ◌*ℤ◌, neg_ℤ, mod-lt, div-add-mod', w32, to_z, of_z, ltb-false, ltb-true}
 use lib.IntN.{sub_ℕ}
 use Rattle.value.specs.Value.{blank, number, is_number, int_of}

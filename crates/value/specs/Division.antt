@@ -1,6 +1,6 @@
 -- 1.14 What a quotient is, said without dividing: times the divisor, and with a rest that is smaller than the divisor
 -- and has the dividend's sign or is 0, it makes up the dividend.
-use Rattle.value.specs.Prelude.{ℕ, ◌<◌, ◌≡◌, ◌↔◌, ◌≢◌, int_div, unsigned_abs}
+use Rattle.std.specs.Prelude.{ℕ, ◌<◌, ◌≡◌, ◌↔◌, ◌≢◌, int_div, unsigned_abs}
 use Rattle.std.specs.Prelude.{ℤ, pos, negsuc, ◌+ℤ◌, ◌*ℤ◌, neg_ℤ}
 
 -- n with the sign of x

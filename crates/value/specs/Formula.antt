@@ -1,6 +1,6 @@
 -- 1.25 Primitives 7 and 11 by sums and products, as the code works them out, and that this is what they mean.
 -- `bool_byte t` is the word of the truth t, 0 or 1.
-use Rattle.value.specs.Prelude.{ℕ, ◌+◌, ◌-◌, ◌*◌, ◌^◌, ◌≤◌, ◌<◌, ◌≡◌, Bool}
+use Rattle.std.specs.Prelude.{ℕ, ◌+◌, ◌-◌, ◌*◌, ◌^◌, ◌≤◌, ◌<◌, ◌≡◌, Bool}
 use mir.Val.{bool_byte}
 use Rattle.value.specs.Value.{value, truth_mark, is_truth, is_true}
 use Rattle.value.specs.Primitive.{primitive}

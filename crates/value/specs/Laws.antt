@@ -1,7 +1,7 @@
 -- 1.10 What each primitive gives, by its number, in other words than its definition has. Integers are held to one
 -- another by sums, differences and products alone. Of 4, which is withdrawn, there is no law. Proved as
 -- `primitive_laws` in proofs/Laws.antt.
-use Rattle.value.specs.Prelude.{ℕ, suc, ◌≤◌, ◌<◌, ◌≡◌, ◌⊎◌, ◌≢◌, true, false}
+use Rattle.std.specs.Prelude.{ℕ, suc, ◌≤◌, ◌<◌, ◌≡◌, ◌⊎◌, ◌≢◌, true, false}
 use Rattle.std.specs.Prelude.{ℤ, pos, negsuc, ◌+ℤ◌, ◌-ℤ◌, ◌*ℤ◌}
 use Rattle.value.specs.Value.{blank_mark, number_mark, blank, number, truth, int_of}
 use Rattle.value.specs.Division.{Division}

@@ -1,4 +1,3 @@
-pub mod Prelude
 pub mod Test
 pub mod Value
 pub mod Division

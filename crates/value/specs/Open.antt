@@ -1,6 +1,6 @@
 -- Every definition of this room opened at once, for theorems that compute: such a theorem says
 -- `unfolding opened`.
-use Rattle.value.specs.Prelude.{ℕ}
+use Rattle.std.specs.Prelude.{ℕ}
 use Rattle.value.specs.Test.{pick, ◌<?◌, ◌≤?◌, ◌=?◌, ◌and◌, ◌or◌, guard, sweep}
 use Rattle.value.specs.Value.{mark_of, is_blank, is_number, is_truth, is_true}
 use Rattle.value.specs.Primitive.{within, quotient, goes_round, operation, on_numbers, on_truth, settles, settled_by}

@@ -1,7 +1,7 @@
 -- 1.10 The primitives: ONE table, a row for each number from 0 on, with what it takes, what it gives and what it means.
 -- Laws.antt says the meanings in other words.
-use Rattle.value.specs.Prelude.{ℕ, ◌+◌, ◌-◌, ◌%◌, ◌^◌, ◌<◌, ◌≢◌, Bool, true, false, not, ◌&&◌, List, [], ◌∷◌, ◌==◌, int_div, int_lt}
-use Rattle.value.specs.Prelude.{length, get_or}
+use Rattle.std.specs.Prelude.{ℕ, ◌+◌, ◌-◌, ◌%◌, ◌^◌, ◌<◌, ◌≢◌, Bool, true, false, not, ◌&&◌, List, [], ◌∷◌, ◌==◌, int_div, int_lt}
+use Rattle.std.specs.Prelude.{length, get_or}
 use Rattle.std.specs.Bool.{beq}
 use Rattle.std.specs.Prelude.{ℤ, pos, negsuc, ◌+ℤ◌, ◌-ℤ◌, ◌*ℤ◌}
 use Rattle.std.specs.Int.{w32}

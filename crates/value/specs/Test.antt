@@ -1,7 +1,7 @@
 -- Tests on numbers, and a choice by a test. Shut, so that proofs go by the laws of proofs/Tests.antt and a stuck test
 -- stays an atom. A call's arguments are computed before the call: `pick` is for small answers; what recurses goes by
 -- `guard` or by clauses on the test.
-use Rattle.value.specs.Prelude.{ℕ, zero, suc, ◌+◌, Bool, true, false, ◌==◌, nat_le, nat_lt}
+use Rattle.std.specs.Prelude.{ℕ, zero, suc, ◌+◌, Bool, true, false, ◌==◌, nat_le, nat_lt}
 
 -- t ? x : y
 unfoldable pub pick : {A : Type 0} → Bool → A → A → A

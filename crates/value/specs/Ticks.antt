@@ -1,6 +1,6 @@
 -- 1.24 What primitive 13 gives for two numbers, said without words or wrapping: the number in 32 bits that is congruent
 -- to their difference modulo 2^32.
-use Rattle.value.specs.Prelude.{◌^◌, ◌≡◌, ◌↔◌, true}
+use Rattle.std.specs.Prelude.{◌^◌, ◌≡◌, ◌↔◌, true}
 use Rattle.std.specs.Prelude.{ℤ, pos, ◌+ℤ◌, ◌-ℤ◌, ◌*ℤ◌}
 use Rattle.value.specs.Value.{number, is_number, int_of}
 use Rattle.value.specs.Primitive.{in32, primitive}

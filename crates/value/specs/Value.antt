@@ -1,5 +1,5 @@
 -- 1.1 to 1.7 Values in two words, and kinds.
-use Rattle.value.specs.Prelude.{ℕ, zero, suc, ◌+◌, ◌<◌, ◌≡◌, ◌⊎◌, Bool}
+use Rattle.std.specs.Prelude.{ℕ, zero, suc, ◌+◌, ◌<◌, ◌≡◌, ◌⊎◌, Bool}
 use Rattle.std.specs.Prelude.{ℤ}
 use Rattle.std.specs.Int.{w32}
 use mir.Val.{to_z, of_z, bool_byte}

@@ -1,6 +1,6 @@
 // The primitives on two numbers, as integers. Sums and products go by 64 bits, which hold them, and are then
 // brought back to 32.
-ghost use Rattle.value.specs.Prelude.{◌≡◌};
+ghost use Rattle.std.specs.Prelude.{◌≡◌};
 ghost use Rattle.std.specs.Prelude.{◌+ℤ◌, ◌-ℤ◌, ◌*ℤ◌, neg_ℤ};
 ghost use Rattle.value.specs.Value.{number};
 ghost use Rattle.value.specs.Primitive.{within, quotient, goes_round, operation};

@@ -1,5 +1,5 @@
 // 1.25 Truths as numbers, 0 or 1, so that sums and products stand where a test would.
-ghost use Rattle.value.specs.Prelude.{◌≡◌};
+ghost use Rattle.std.specs.Prelude.{◌≡◌};
 ghost use Rattle.value.specs.Formula.{one_minus, mixed};
 
 // The word of the other truth.

@@ -1,6 +1,6 @@
 // Integers of 32 bits and the words that hold them in two's complement. A cast between the signs
 // wants a number that both have, so `signed` and `word` are the ways across; they compile to nothing.
-ghost use Rattle.value.specs.Prelude.{◌≡◌, unsigned_abs};
+ghost use Rattle.std.specs.Prelude.{◌≡◌, unsigned_abs};
 ghost use Rattle.std.specs.Prelude.{nat_abs};
 ghost use Rattle.std.specs.Int.{w32};
 ghost use Rattle.std.proofs.Common.{to_z, of_z};

@@ -11,7 +11,7 @@ mod integer;
 mod primitives;
 mod table;
 
-ghost use Rattle.value.specs.Prelude.{◌≡◌};
+ghost use Rattle.std.specs.Prelude.{◌≡◌};
 ghost use Rattle.value.specs.Value as W;
 
 pub use integer::{magnitude, signed, word};

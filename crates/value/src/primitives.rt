@@ -1,5 +1,5 @@
 // The primitives on values, by number.
-ghost use Rattle.value.specs.Prelude.{◌≡◌};
+ghost use Rattle.std.specs.Prelude.{◌≡◌};
 ghost use Rattle.std.proofs.Math.Bool as Bool;
 ghost use Rattle.value.specs.Primitive as Op;
 

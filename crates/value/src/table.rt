@@ -1,5 +1,5 @@
 // The columns of the table of primitives that the load check reads.
-ghost use Rattle.value.specs.Prelude.{◌≡◌};
+ghost use Rattle.std.specs.Prelude.{◌≡◌};
 ghost use Rattle.value.specs.Primitive as Op;
 
 use crate::Takes;

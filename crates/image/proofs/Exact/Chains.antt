@@ -1,7 +1,10 @@
 -- Chains: the test of a branch point's chain, by a table of the reactors met, against `Chain`; and the list of
 -- its members against `OnChain`.
-use Rattle.value.specs.Prelude.{ℕ, zero, suc, ◌+◌, ◌≤◌, ◌<◌, ◌≡◌, refl, sym, ◌∙◌, subst, ⊎_elim, ◌↔◌, ◌≢◌, Bool, true}
-use Rattle.value.specs.Prelude.{false≢true, List, ◌∷◌, length, get_or, set, replicate, arith}
+use Rattle.std.specs.Prelude.{ℕ, zero, suc, ◌+◌, ◌≤◌, ◌<◌, ◌≡◌, refl, ◌↔◌, ◌≢◌, Bool, true}
+use Rattle.std.proofs.Common.{sym, ◌∙◌, subst, ⊎_elim}
+use Rattle.std.proofs.lemmas.Bool.{false≢true}
+use Rattle.std.specs.Prelude.{List, ◌∷◌, length, get_or, set, replicate}
+use Rattle.std.proofs.Common.{arith}
 use mathlib.Core.List.Memᴰ.{cases_cons as in_cons}
 use mathlib.Core.List.Memᴰ.{head as first}
 use mathlib.Core.List.Memᴰ.{tail as later}

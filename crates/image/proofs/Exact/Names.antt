@@ -1,6 +1,8 @@
 -- Names: the lists of children against `Owner`, and the table that counts names against `NamedOnce`.
-use Rattle.value.specs.Prelude.{ℕ, zero, suc, ◌+◌, ◌/◌, ◌≤◌, ◌<◌, min, ◌≡◌, refl, sym, ◌∙◌, ap, subst, ◌↔◌, ◌≢◌, true}
-use Rattle.value.specs.Prelude.{List, [], ◌∷◌, ◌++◌, length, arith}
+use Rattle.std.specs.Prelude.{ℕ, zero, suc, ◌+◌, ◌/◌, ◌≤◌, ◌<◌, min, ◌≡◌, refl, ◌↔◌, ◌≢◌, true}
+use Rattle.std.proofs.Common.{sym, ◌∙◌, ap, subst}
+use Rattle.std.specs.Prelude.{List, [], ◌∷◌, ◌++◌, length}
+use Rattle.std.proofs.Common.{arith}
 use mathlib.Core.List.Memᴰ.{head as first}
 use mathlib.Core.List.Memᴰ.{not-nil as in_nil}
 use mathlib.Core.List.Memᴰ.{tail as later}

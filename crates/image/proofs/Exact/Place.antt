@@ -1,6 +1,9 @@
 -- Exact place: the ladder of soundness stops where the image is at fault.
-use Rattle.value.specs.Prelude.{ℕ, ◌+◌, ◌≤◌, ◌<◌, ◌≡◌, refl, sym, ◌∙◌, ap, subst, ◌⊎◌, inl, inr, ◌↔◌, ◌≢◌, Bool, true}
-use Rattle.value.specs.Prelude.{false, true≢false, false≢true, List, length, arith}
+use Rattle.std.specs.Prelude.{ℕ, ◌+◌, ◌≤◌, ◌<◌, ◌≡◌, refl, ◌⊎◌, ◌↔◌, ◌≢◌, Bool, true}
+use Rattle.std.proofs.Common.{sym, ◌∙◌, ap, subst, inl, inr}
+use Rattle.std.specs.Prelude.{false, List, length}
+use Rattle.std.proofs.Common.{true≢false, arith}
+use Rattle.std.proofs.lemmas.Bool.{false≢true}
 use Rattle.value.specs.Test.{guard, ◌=?◌}
 use Rattle.value.proofs.Tests.{cases, eq!, eq×, eq?, eq×?, says×}
 use Rattle.program.specs.Bytes.{reactors, most_reactors, main_of}

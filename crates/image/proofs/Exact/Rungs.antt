@@ -1,6 +1,8 @@
 -- What the tests of the ladder of soundness say: the frame, main before any turn, and the passes.
-use Rattle.value.specs.Prelude.{ℕ, suc, ◌+◌, ◌-◌, ◌≤◌, ◌<◌, ◌≡◌, refl, sym, ◌∙◌, subst, ◌↔◌, ◌≢◌, Bool, true, false}
-use Rattle.value.specs.Prelude.{List, [], ◌∷◌, length, arith}
+use Rattle.std.specs.Prelude.{ℕ, suc, ◌+◌, ◌-◌, ◌≤◌, ◌<◌, ◌≡◌, refl, ◌↔◌, ◌≢◌, Bool, true, false}
+use Rattle.std.proofs.Common.{sym, ◌∙◌, subst}
+use Rattle.std.specs.Prelude.{List, [], ◌∷◌, length}
+use Rattle.std.proofs.Common.{arith}
 use mathlib.Core.List.Memᴰ.{head as first_in}
 use mathlib.Core.List.Memᴰ.{tail as later}
 use Rattle.value.specs.Test.{◌and◌, ◌<?◌, ◌=?◌}

@@ -1,5 +1,6 @@
 -- One deployment's own words: the test of each, against what a sound image asks of it.
-use Rattle.value.specs.Prelude.{ℕ, ◌<◌, ◌≡◌, refl, sym, ◌∙◌, ap, subst, ◌↔◌, true, List, arith}
+use Rattle.std.specs.Prelude.{ℕ, ◌<◌, ◌≡◌, refl, ◌↔◌, true, List}
+use Rattle.std.proofs.Common.{sym, ◌∙◌, ap, subst, arith}
 use Rattle.value.proofs.Tests.{lt!, lt?, eq!, eq?, both!, both?}
 use Rattle.value.proofs.Sweeps.{sweeps?}
 use Rattle.program.specs.Bytes.{commands_d}

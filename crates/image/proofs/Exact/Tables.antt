@@ -1,7 +1,9 @@
 -- The folds of the passes: the lowest place at which a test fails, and tables changed for
 -- each of a list, entry by entry.
-use Rattle.value.specs.Prelude.{ℕ, ◌/◌, ◌<◌, ◌≡◌, refl, ◌∙◌, ap, ◌↔◌, ◌≢◌, Bool, true, List, [], ◌∷◌, length, get_or, set}
-use Rattle.value.specs.Prelude.{replicate, arith}
+use Rattle.std.specs.Prelude.{ℕ, ◌/◌, ◌<◌, ◌≡◌, refl, ◌↔◌, ◌≢◌, Bool, true, List, [], ◌∷◌, length, get_or, set}
+use Rattle.std.proofs.Common.{◌∙◌, ap}
+use Rattle.std.specs.Prelude.{replicate}
+use Rattle.std.proofs.Common.{arith}
 use mathlib.Core.List.Memᴰ.{head as first}
 use mathlib.Core.List.Memᴰ.{not-nil as in_nil}
 use mathlib.Core.List.Memᴰ.{tail as later}

@@ -1,6 +1,7 @@
 -- Two images alike in headers and D slots, but for what cells hold: what the deployments, chains, names and depths of
 -- one are, those of the other are (`alike_tiles`, `alike_grown`).
-use Rattle.value.specs.Prelude.{ℕ, ◌<◌, ◌≡◌, sym, ◌∙◌, inl, ◌≢◌, List, arith}
+use Rattle.std.specs.Prelude.{ℕ, ◌<◌, ◌≡◌, ◌≢◌, List}
+use Rattle.std.proofs.Common.{sym, ◌∙◌, inl, arith}
 use Rattle.program.specs.Bytes.{commands_d}
 use Rattle.program.specs.Command.{Cmd, cmd_of, alloc_mono, make_poly, cell}
 use Rattle.program.specs.Location.{command_loc}

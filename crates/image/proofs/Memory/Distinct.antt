@@ -1,5 +1,6 @@
 -- A chain, on which no reactor comes twice, has at most as many members as the program has reactors.
-use Rattle.value.specs.Prelude.{ℕ, ◌+◌, ◌≤◌, ◌≡◌, refl, ⊎_elim, ◌≢◌, List, [], ◌∷◌, length, arith}
+use Rattle.std.specs.Prelude.{ℕ, ◌+◌, ◌≤◌, ◌≡◌, refl, ◌≢◌, List, [], ◌∷◌, length}
+use Rattle.std.proofs.Common.{⊎_elim, arith}
 use mathlib.Core.List.Memᴰ.{cases_cons as in_cons}
 use mathlib.Core.List.Memᴰ.{not-nil as in_nil}
 use Rattle.program.specs.Bytes.{reactors}

@@ -1,5 +1,6 @@
 -- What is done to each deployment in turn, from the first to the last.
-use Rattle.value.specs.Prelude.{ℕ, zero, suc, ◌+◌, ◌≤◌, ◌<◌, ◌≡◌, refl, List, [], ◌∷◌, length, arith}
+use Rattle.std.specs.Prelude.{ℕ, zero, suc, ◌+◌, ◌≤◌, ◌<◌, ◌≡◌, refl, List, [], ◌∷◌, length}
+use Rattle.std.proofs.Common.{arith}
 use Rattle.value.proofs.Tests.{lt!, lt×, goes, stops}
 use Rattle.image.specs.Memory.{main_at, size_at, starts_from, starts_below}
 use Rattle.image.specs.Passes.{over}

@@ -1,6 +1,8 @@
 -- Words put together, and words with a stretch put in: what stands where.
-use Rattle.value.specs.Prelude.{ℕ, ◌+◌, ◌-◌, ◌≤◌, ◌<◌, ◌≡◌, refl, sym, ◌∙◌, ap, List, ◌++◌, length, get_or, take, drop}
-use Rattle.value.specs.Prelude.{replicate, arith}
+use Rattle.std.specs.Prelude.{ℕ, ◌+◌, ◌-◌, ◌≤◌, ◌<◌, ◌≡◌, refl, List, ◌++◌, length, get_or, take, drop}
+use Rattle.std.proofs.Common.{sym, ◌∙◌, ap}
+use Rattle.std.specs.Prelude.{replicate}
+use Rattle.std.proofs.Common.{arith}
 use lib.ListN.{length-append, length-drop, get_or-append}
 use lib.Seq.{length-take-le, get_or-append-add, get_or-take, get_or-drop}
 use Rattle.image.specs.Memory.{word, patch}

@@ -1,6 +1,7 @@
 -- Acceptance is that the header, the tables and the length are right and that every
 -- reactor is accepted. Assumes nothing.
-use Rattle.value.specs.Prelude.{ℕ, ◌≤◌, ◌<◌, ◌↔◌, List, arith}
+use Rattle.std.specs.Prelude.{ℕ, ◌≤◌, ◌<◌, ◌↔◌, List}
+use Rattle.std.proofs.Common.{arith}
 use Rattle.program.specs.Bytes.{reactors, tables_end, commands_at, whole_length}
 use Rattle.load.specs.Check.{IsAccepted}
 use Rattle.load.specs.Rules.{TablesRight}

@@ -1,6 +1,7 @@
 -- Before the first command the tables hold what they should: sources are values, own sinks are not set.
-use Rattle.value.specs.Prelude.{ℕ, zero, suc, ◌≤◌, ◌<◌, ◌≡◌, refl, sym, ◌∙◌, subst, ◌⊎◌, inl, inr, List, replicate}
-use Rattle.value.specs.Prelude.{arith}
+use Rattle.std.specs.Prelude.{ℕ, zero, suc, ◌≤◌, ◌<◌, ◌≡◌, refl, ◌⊎◌, List, replicate}
+use Rattle.std.proofs.Common.{sym, ◌∙◌, subst, inl, inr}
+use Rattle.std.proofs.Common.{arith}
 use native.Mathlib.Nat.{not-suc-le-zero}
 use lib.ListN.{length-replicate}
 use Rattle.program.specs.Bytes.{reactors, shape_of, source_kind}

@@ -1,5 +1,6 @@
 -- Where the commands of reactors lie, and that main is the last reactor.
-use Rattle.value.specs.Prelude.{ℕ, zero, suc, ◌≤◌, ◌<◌, ◌≡◌, ap, List, arith}
+use Rattle.std.specs.Prelude.{ℕ, zero, suc, ◌≤◌, ◌<◌, ◌≡◌, List}
+use Rattle.std.proofs.Common.{ap, arith}
 use native.Mathlib.Nat.{le_of_eq}
 use Rattle.value.specs.Test.{◌<?◌}
 use Rattle.value.proofs.Tests.{cases, lt?, lt×?}

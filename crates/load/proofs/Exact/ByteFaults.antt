@@ -1,6 +1,8 @@
 -- The lowest byte that fails its test is the lowest at fault: in the header, and where that is right in the tables.
-use Rattle.value.specs.Prelude.{ℕ, ◌+◌, ◌-◌, ◌*◌, ◌≤◌, ◌<◌, ◌≡◌, refl, sym, ◌∙◌, ap, subst, ⊎_elim, ◌↔◌, Bool, false}
-use Rattle.value.specs.Prelude.{not, List, arith}
+use Rattle.std.specs.Prelude.{ℕ, ◌+◌, ◌-◌, ◌*◌, ◌≤◌, ◌<◌, ◌≡◌, refl, ◌↔◌, Bool, false}
+use Rattle.std.proofs.Common.{sym, ◌∙◌, ap, subst, ⊎_elim}
+use Rattle.std.specs.Prelude.{not, List}
+use Rattle.std.proofs.Common.{arith}
 use native.Mathlib.Nat.{mul-le-mul_left, mul-suc}
 use Rattle.value.specs.Test.{sweep, ◌<?◌, ◌=?◌, ◌or◌}
 use Rattle.value.specs.Value.{reactor_kind}

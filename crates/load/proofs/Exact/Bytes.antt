@@ -1,7 +1,8 @@
 -- Which bytes of the header and the tables are legal, against the rules: each byte passes
 -- its test where the rules hold.
-use Rattle.value.specs.Prelude.{ℕ, ◌+◌, ◌-◌, ◌*◌, ◌≤◌, ◌<◌, ◌≡◌, refl, sym, ◌∙◌, ap, ap₂, subst, ◌↔◌, true, not, List}
-use Rattle.value.specs.Prelude.{arith}
+use Rattle.std.specs.Prelude.{ℕ, ◌+◌, ◌-◌, ◌*◌, ◌≤◌, ◌<◌, ◌≡◌, refl, ◌↔◌, true, not, List}
+use Rattle.std.proofs.Common.{sym, ◌∙◌, ap, ap₂, subst}
+use Rattle.std.proofs.Common.{arith}
 use native.Mathlib.Nat.{le_trans}
 use Rattle.value.specs.Test.{pick, ◌=?◌, ◌≤?◌, ◌<?◌, ◌and◌, ◌or◌}
 use Rattle.value.specs.Value.{reactor_kind, truth_kind}

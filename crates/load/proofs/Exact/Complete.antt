@@ -1,6 +1,9 @@
 -- The test at a reactor's end: every standing may stay exactly where no React, AllocPoly, Keep or Sink is missing.
-use Rattle.value.specs.Prelude.{ℕ, ◌≤◌, ◌<◌, ◌≡◌, refl, sym, ◌∙◌, ap, subst, ◌⊎◌, inl, inr, ◌↔◌, iff_trans, true, false}
-use Rattle.value.specs.Prelude.{List, arith}
+use Rattle.std.specs.Prelude.{ℕ, ◌≤◌, ◌<◌, ◌≡◌, refl, ◌⊎◌, ◌↔◌, true, false}
+use Rattle.std.proofs.Common.{sym, ◌∙◌, ap, subst, inl, inr}
+use Rattle.std.proofs.Math.Logic.Iff.{trans as iff_trans}
+use Rattle.std.specs.Prelude.{List}
+use Rattle.std.proofs.Common.{arith}
 use lib.ListN.{get_or-eq_default}
 use Rattle.value.specs.Test.{sweep, ◌<?◌}
 use Rattle.value.proofs.Sweeps.{swept, sweeps}

@@ -1,6 +1,9 @@
 -- A program is refused for its first fault, with its place: `first_fault`, and with it `check_numbers`.
-use Rattle.value.specs.Prelude.{ℕ, zero, suc, ◌+◌, ◌-◌, ◌≤◌, ◌<◌, ◌≡◌, refl, sym, ◌∙◌, ap, subst₂, inl, inr, ⊎_elim}
-use Rattle.value.specs.Prelude.{◌↔◌, iff_trans, ◌≢◌, Bool, true, false, List, length, arith}
+use Rattle.std.specs.Prelude.{ℕ, zero, suc, ◌+◌, ◌-◌, ◌≤◌, ◌<◌, ◌≡◌, refl}
+use Rattle.std.proofs.Common.{sym, ◌∙◌, ap, subst₂, inl, inr, ⊎_elim}
+use Rattle.std.specs.Prelude.{◌↔◌, ◌≢◌, Bool, true, false, List, length}
+use Rattle.std.proofs.Math.Logic.Iff.{trans as iff_trans}
+use Rattle.std.proofs.Common.{arith}
 use Rattle.value.specs.Test.{pick, guard, sweep, ◌and◌, ◌≤?◌, ◌=?◌}
 use Rattle.value.proofs.Tests.{cases, clash, below, same?, le!, le×, eq!, eq?, eq×, both!, both?, goes, stops, Says}
 use Rattle.value.proofs.Tests.{says_le, says_eq, says_and, says×, says_guard}

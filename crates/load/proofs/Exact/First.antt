@@ -1,5 +1,8 @@
 -- A command is refused for the first test that it fails, where the tables hold what they should: `refusal_first`.
-use Rattle.value.specs.Prelude.{ℕ, ◌≤◌, ◌≡◌, refl, sym, ◌∙◌, subst, inl, inr, ⊎_map, ◌↔◌, iff_trans, ◌≢◌, List, arith}
+use Rattle.std.specs.Prelude.{ℕ, ◌≤◌, ◌≡◌, refl, ◌↔◌, ◌≢◌, List}
+use Rattle.std.proofs.Common.{sym, ◌∙◌, subst, inl, inr, arith}
+use Rattle.std.proofs.Math.Logic.{⊎_map}
+use Rattle.std.proofs.Math.Logic.Iff.{trans as iff_trans}
 use Rattle.value.specs.Test.{need, ◌<?◌}
 use Rattle.value.proofs.Tests.{cases, Says, says×, says_rung}
 use Rattle.program.specs.Bytes.{commands_d, commands_in}

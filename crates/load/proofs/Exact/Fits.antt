@@ -1,6 +1,6 @@
 -- The rules, read as the check reads them: what one command asks of those before it. `Fits p r k c`: c may be command
 -- k of reactor r.
-use Rattle.value.specs.Prelude.{ℕ, ◌<◌, ◌≡◌, List}
+use Rattle.std.specs.Prelude.{ℕ, ◌<◌, ◌≡◌, List}
 use Rattle.program.specs.Bytes.{sources_in, commands_in}
 use Rattle.program.specs.Command.{Cmd, cmd_of, bytes_of, sequence_of, alloc_mono, make_poly, constant, global, supply, react}
 use Rattle.program.specs.Command.{consume, sink, alloc_poly, primitive, cell, fetch, keep, none, gives, Class, a_value}

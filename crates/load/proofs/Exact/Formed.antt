@@ -1,6 +1,8 @@
 -- The tests of a command's bytes, number 3: they say that the bytes not named are zero, and
 -- the ranges and constants right.
-use Rattle.value.specs.Prelude.{ℕ, zero, suc, ◌+◌, ◌<◌, ◌≡◌, inl, inr, ◌↔◌, iff_trans, List, arith}
+use Rattle.std.specs.Prelude.{ℕ, zero, suc, ◌+◌, ◌<◌, ◌≡◌, ◌↔◌, List}
+use Rattle.std.proofs.Common.{inl, inr, arith}
+use Rattle.std.proofs.Math.Logic.Iff.{trans as iff_trans}
 use Rattle.value.specs.Test.{◌≤?◌, ◌=?◌, ◌or◌}
 use Rattle.value.specs.Primitive.{is_primitive}
 use Rattle.value.proofs.Tests.{Says, says_lt, says_le, says_eq, says_true, says_false, says_and, says_or, cases, le?}

@@ -1,7 +1,10 @@
 -- What the scan's tables hold after the first k commands, location by location; and what its
 -- tests on a location therefore say.
-use Rattle.value.specs.Prelude.{ℕ, suc, ◌+◌, ◌^◌, ◌≤◌, ◌<◌, ◌≡◌, refl, sym, subst, subst₂, ◌⊎◌, inl, inr, ◌↔◌}
-use Rattle.value.specs.Prelude.{iff_trans, List, arith}
+use Rattle.std.specs.Prelude.{ℕ, suc, ◌+◌, ◌^◌, ◌≤◌, ◌<◌, ◌≡◌, refl, ◌⊎◌, ◌↔◌}
+use Rattle.std.proofs.Common.{sym, subst, subst₂, inl, inr}
+use Rattle.std.proofs.Math.Logic.Iff.{trans as iff_trans}
+use Rattle.std.specs.Prelude.{List}
+use Rattle.std.proofs.Common.{arith}
 use Rattle.value.proofs.Tests.{Says, says_eq, says_le, says_and}
 use Rattle.program.specs.Bytes.{shapes, sources_in, commands_in}
 use Rattle.program.specs.Command.{Cmd, alloc_mono, make_poly, supply, react, sink, alloc_poly, cell, keep, none, gives}

@@ -1,5 +1,6 @@
 -- The ladder of the check: a program is accepted where it passes each step.
-use Rattle.value.specs.Prelude.{ℕ, zero, suc, ◌+◌, ◌-◌, ◌≤◌, ◌<◌, ◌≡◌, refl, ap, ◌↔◌, true, List, length, arith}
+use Rattle.std.specs.Prelude.{ℕ, zero, suc, ◌+◌, ◌-◌, ◌≤◌, ◌<◌, ◌≡◌, refl, ◌↔◌, true, List, length}
+use Rattle.std.proofs.Common.{ap, arith}
 use Rattle.value.proofs.Tests.{le!, le?, eq!, eq?, both!, both?, guards}
 use Rattle.value.proofs.Sweeps.{from_more, Passes, sweeps?}
 use Rattle.program.specs.Bytes.{most_bytes, header_end, reactors, main_of, entry_at, tables_end, whole_length, commands_in}

@@ -1,7 +1,8 @@
 -- Exact order: where the tables hold what they should, a command out of order has the number that those before it
 -- call for.
-use Rattle.value.specs.Prelude.{ℕ, ◌≡◌, refl, sym, ◌∙◌, ap, subst, inl, inr, ◌↔◌, ◌≢◌, Bool, true, false, not, List}
-use Rattle.value.specs.Prelude.{arith}
+use Rattle.std.specs.Prelude.{ℕ, ◌≡◌, refl, ◌↔◌, ◌≢◌, Bool, true, false, not, List}
+use Rattle.std.proofs.Common.{sym, ◌∙◌, ap, subst, inl, inr}
+use Rattle.std.proofs.Common.{arith}
 use Rattle.value.specs.Test.{need, ◌<?◌, ◌=?◌}
 use Rattle.value.proofs.Tests.{cases, yes, no, lt×, le!, le×, eq!, eq×, lt×?, eq?, eq×?, picks}
 use Rattle.program.specs.Bytes.{sources_in}

@@ -1,6 +1,11 @@
 -- The check of one command, where the tables hold what they should: it refuses nothing exactly where the command fits.
-use Rattle.value.specs.Prelude.{ℕ, suc, ◌≤◌, ◌<◌, ◌≡◌, refl, sym, subst, subst₂, subst₃, ◌⊎◌, ⊎_map, ◌↔◌, iff_trans}
-use Rattle.value.specs.Prelude.{Bool, List, arith}
+use Rattle.std.specs.Prelude.{ℕ, suc, ◌≤◌, ◌<◌, ◌≡◌, refl, ◌⊎◌, ◌↔◌}
+use Rattle.std.proofs.Common.{sym, subst, subst₂}
+use Rattle.std.proofs.Math.Path.{subst₃}
+use Rattle.std.proofs.Math.Logic.{⊎_map}
+use Rattle.std.proofs.Math.Logic.Iff.{trans as iff_trans}
+use Rattle.std.specs.Prelude.{Bool, List}
+use Rattle.std.proofs.Common.{arith}
 use Rattle.value.specs.Test.{need, ◌<?◌, ◌=?◌}
 use Rattle.value.specs.Value.{number_kind, truth_kind, reactor_kind}
 use Rattle.value.specs.Primitive.{row_of, operands, count_of, kinds_fit, is_withdrawn}

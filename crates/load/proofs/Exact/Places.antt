@@ -1,6 +1,8 @@
 -- Where a location lies, and what class of thing stands there after the first k commands of reactor r.
-use Rattle.value.specs.Prelude.{ℕ, suc, ◌+◌, ◌-◌, ◌≤◌, ◌<◌, ◌≡◌, refl, sym, ◌∙◌, ap, subst, inl, inr, ◌↔◌, true≢false}
-use Rattle.value.specs.Prelude.{List, arith}
+use Rattle.std.specs.Prelude.{ℕ, suc, ◌+◌, ◌-◌, ◌≤◌, ◌<◌, ◌≡◌, refl, ◌↔◌}
+use Rattle.std.proofs.Common.{sym, ◌∙◌, ap, subst, inl, inr, true≢false}
+use Rattle.std.specs.Prelude.{List}
+use Rattle.std.proofs.Common.{arith}
 use native.Mathlib.Numerals.{lt_of_le_of_ne}
 use Rattle.value.specs.Test.{pick, ◌<?◌, ◌≤?◌, ◌and◌}
 use Rattle.value.proofs.Tests.{cases, yes, no, lt!, lt×, le!, lt?, lt×?, le?, both!, both?}

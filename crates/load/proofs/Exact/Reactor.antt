@@ -1,7 +1,10 @@
 -- `reactor_exact`: the scan of one reactor accepts exactly what the rules say. `kinds_agree`: what
 -- its kind table holds on the way.
-use Rattle.value.specs.Prelude.{ℕ, zero, suc, ◌+◌, ◌≤◌, ◌<◌, ◌≡◌, refl, sym, ◌∙◌, ap, subst, ⊎_elim, ◌↔◌, iff_trans}
-use Rattle.value.specs.Prelude.{List, arith}
+use Rattle.std.specs.Prelude.{ℕ, zero, suc, ◌+◌, ◌≤◌, ◌<◌, ◌≡◌, refl, ◌↔◌}
+use Rattle.std.proofs.Common.{sym, ◌∙◌, ap, subst, ⊎_elim}
+use Rattle.std.proofs.Math.Logic.Iff.{trans as iff_trans}
+use Rattle.std.specs.Prelude.{List}
+use Rattle.std.proofs.Common.{arith}
 use native.Mathlib.Nat.{eq-or-lt_of_le}
 use Rattle.program.specs.Bytes.{reactors, commands_in}
 use Rattle.program.specs.Command.{cmd_of}

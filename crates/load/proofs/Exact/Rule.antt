@@ -1,5 +1,7 @@
 -- The rules of one reactor, stated over positions, are the rules read command by command: ReactorRule ↔ Stepwise.
-use Rattle.value.specs.Prelude.{ℕ, ◌≤◌, ◌<◌, ◌≡◌, refl, sym, ◌∙◌, ap, subst, ◌⊎◌, inl, inr, ⊎_map, ◌↔◌, List, arith}
+use Rattle.std.specs.Prelude.{ℕ, ◌≤◌, ◌<◌, ◌≡◌, refl, ◌⊎◌, ◌↔◌, List}
+use Rattle.std.proofs.Common.{sym, ◌∙◌, ap, subst, inl, inr, arith}
+use Rattle.std.proofs.Math.Logic.{⊎_map}
 use native.Mathlib.Nat.{lt_trans}
 use Rattle.value.specs.Test.{◌<?◌}
 use Rattle.value.specs.Primitive.{row_of, operands, count_of}

@@ -1,5 +1,6 @@
 -- How far a scan of n commands goes: on past those that it takes, and no further than the first that it refuses.
-use Rattle.value.specs.Prelude.{ℕ, zero, suc, ◌+◌, ◌<◌, ◌≡◌, refl, sym, ◌∙◌, ap, ⊎_elim, ◌≢◌, List, arith}
+use Rattle.std.specs.Prelude.{ℕ, zero, suc, ◌+◌, ◌<◌, ◌≡◌, refl, ◌≢◌, List}
+use Rattle.std.proofs.Common.{sym, ◌∙◌, ap, ⊎_elim, arith}
 use Rattle.value.proofs.Tests.{same?}
 use Rattle.program.specs.Bytes.{command_at}
 use Rattle.program.specs.Command.{Cmd, cmd_of, decode, bytes_of}

@@ -1,5 +1,6 @@
 -- Which commands of a reactor came before position k: none with P, or some; and a number that tells which.
-use Rattle.value.specs.Prelude.{ℕ, suc, ◌≤◌, ◌<◌, ◌≡◌, sym, ◌∙◌, subst, ◌⊎◌, inl, inr, ◌↔◌, List, arith}
+use Rattle.std.specs.Prelude.{ℕ, suc, ◌≤◌, ◌<◌, ◌≡◌, ◌⊎◌, ◌↔◌, List}
+use Rattle.std.proofs.Common.{sym, ◌∙◌, subst, inl, inr, arith}
 use native.Mathlib.Nat.{not-suc-le-zero}
 use Rattle.value.specs.Test.{◌<?◌}
 use Rattle.value.proofs.Tests.{cases, lt?, lt×?}

@@ -1,6 +1,7 @@
 -- A standing and a kind written at a location: what is read there, and elsewhere. A right program's
 -- locations are within the tables.
-use Rattle.value.specs.Prelude.{ℕ, ◌≤◌, ◌<◌, ◌≡◌, refl, sym, ◌∙◌, subst, List, length, arith}
+use Rattle.std.specs.Prelude.{ℕ, ◌≤◌, ◌<◌, ◌≡◌, refl, List, length}
+use Rattle.std.proofs.Common.{sym, ◌∙◌, subst, arith}
 use lib.ListN.{length-set}
 use lib.Seq.{get_or-set_same, get_or-set_other}
 use Rattle.program.specs.Bytes.{reactors, shape_of, commands_in}

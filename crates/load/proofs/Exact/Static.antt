@@ -1,6 +1,7 @@
 -- What the rules give of one reactor, position by position, for a proof about its run. `Static`: what stands before
 -- each command. `Single`: what comes once.
-use Rattle.value.specs.Prelude.{ℕ, ◌≤◌, ◌<◌, ◌≡◌, sym, ◌∙◌, ap, subst, ◌⊎◌, true, false, List, arith}
+use Rattle.std.specs.Prelude.{ℕ, ◌≤◌, ◌<◌, ◌≡◌, ◌⊎◌, true, false, List}
+use Rattle.std.proofs.Common.{sym, ◌∙◌, ap, subst, arith}
 use Rattle.value.specs.Value.{reactor_kind, truth_kind}
 use Rattle.value.specs.Primitive.{row_of, operands, kind_given, Offered}
 use Rattle.program.specs.Bytes.{shapes, reactors, globals, global_kind, shape_of, sources_in, sinks_in, commands_d}

@@ -1,6 +1,9 @@
 -- The static facts follow from the rules.
-use Rattle.value.specs.Prelude.{ℕ, suc, ◌≤◌, ◌<◌, ◌≡◌, refl, sym, ◌∙◌, ap, subst, inl, inr, ⊎_map, false, true≢false}
-use Rattle.value.specs.Prelude.{List, arith}
+use Rattle.std.specs.Prelude.{ℕ, suc, ◌≤◌, ◌<◌, ◌≡◌, refl, false}
+use Rattle.std.proofs.Common.{sym, ◌∙◌, ap, subst, inl, inr, true≢false}
+use Rattle.std.proofs.Math.Logic.{⊎_map}
+use Rattle.std.specs.Prelude.{List}
+use Rattle.std.proofs.Common.{arith}
 use native.Mathlib.Nat.{lt_trans}
 use Rattle.value.specs.Value.{truth_kind}
 use Rattle.program.specs.Bytes.{reactors, shape_of, sources_in, source_kind, sink_kind, commands_d, commands_in}

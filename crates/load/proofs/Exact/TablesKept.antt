@@ -1,6 +1,8 @@
 -- A command that fits keeps the tables right: what they hold before it, they hold after it.
-use Rattle.value.specs.Prelude.{ℕ, suc, ◌+◌, ◌^◌, ◌≤◌, ◌<◌, ◌≡◌, refl, sym, ◌∙◌, ap, subst, inl, inr, ⊎_map, List}
-use Rattle.value.specs.Prelude.{arith}
+use Rattle.std.specs.Prelude.{ℕ, suc, ◌+◌, ◌^◌, ◌≤◌, ◌<◌, ◌≡◌, refl, List}
+use Rattle.std.proofs.Common.{sym, ◌∙◌, ap, subst, inl, inr}
+use Rattle.std.proofs.Math.Logic.{⊎_map}
+use Rattle.std.proofs.Common.{arith}
 use native.Mathlib.Nat.{lt_of_lt_of_le}
 use Rattle.value.specs.Test.{◌=?◌}
 use Rattle.value.proofs.Tests.{cases, eq?, eq×?}

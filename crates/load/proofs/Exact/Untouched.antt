@@ -1,5 +1,6 @@
 -- One command more: what holds at a location that it does not touch, and at its own.
-use Rattle.value.specs.Prelude.{ℕ, zero, suc, ◌≤◌, ◌<◌, ◌≡◌, refl, sym, ◌∙◌, ap, subst, inl, inr, List, arith}
+use Rattle.std.specs.Prelude.{ℕ, zero, suc, ◌≤◌, ◌<◌, ◌≡◌, refl, List}
+use Rattle.std.proofs.Common.{sym, ◌∙◌, ap, subst, inl, inr, arith}
 use native.Mathlib.Nat.{not-suc-le-zero}
 use Rattle.program.specs.Bytes.{sources_in, shapes, commands_in}
 use Rattle.program.specs.Command.{Cmd, cmd_of, alloc_mono, make_poly, supply, react, sink, alloc_poly, cell, keep, none}

@@ -1,6 +1,8 @@
 -- Bytes by where they stand: in parts, in rows of one width, in columns.
-use Rattle.value.specs.Prelude.{ℕ, zero, suc, ◌+◌, ◌-◌, ◌*◌, ◌/◌, ◌%◌, ◌≤◌, ◌<◌, ◌≡◌, ◌∙◌, ap, ap₂, subst, subst₂, ◌↔◌}
-use Rattle.value.specs.Prelude.{Bool, true, arith}
+use Rattle.std.specs.Prelude.{ℕ, zero, suc, ◌+◌, ◌-◌, ◌*◌, ◌/◌, ◌%◌, ◌≤◌, ◌<◌, ◌≡◌, ◌↔◌}
+use Rattle.std.proofs.Common.{◌∙◌, ap, ap₂, subst, subst₂}
+use Rattle.std.specs.Prelude.{Bool, true}
+use Rattle.std.proofs.Common.{arith}
 use native.Mathlib.Nat.{div-add-mod', mod-lt, div-lt_iff_lt-mul, mul-add-div, div-eq_of_lt, mul-add-mod_self_left}
 use native.Mathlib.Nat.{mod-eq_of_lt, mul_comm, mul-suc, mul-le-mul_left, add-zero}
 use Rattle.value.specs.Test.{pick, ◌<?◌}

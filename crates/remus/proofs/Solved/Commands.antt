@@ -1,7 +1,9 @@
 -- The commands that store one value keep the equations, and add their own: those that give a value (`give_on`), Supply
 -- (`supply_on`), Sink (`sink_on`), and those in whose own slot no equation is (`own_on`).
-use Rattle.value.specs.Prelude.{ℕ, zero, suc, ◌+◌, ◌≤◌, ◌<◌, ◌≡◌, refl, sym, ◌∙◌, ap, ◌⊎◌, inl, inr, Bool, true, false}
-use Rattle.value.specs.Prelude.{List, ◌∷◌, ◌++◌, length, arith}
+use Rattle.std.specs.Prelude.{ℕ, zero, suc, ◌+◌, ◌≤◌, ◌<◌, ◌≡◌, refl, ◌⊎◌, Bool, true, false}
+use Rattle.std.proofs.Common.{sym, ◌∙◌, ap, inl, inr}
+use Rattle.std.specs.Prelude.{List, ◌∷◌, ◌++◌, length}
+use Rattle.std.proofs.Common.{arith}
 use Rattle.value.specs.Value.{deployment_mark, value, mark_of}
 use Rattle.value.specs.Primitive.{operands}
 use Rattle.value.specs.declared.Value.{Value}

@@ -1,7 +1,8 @@
 -- The equations of a turn: what each command says of the values at its locations. A slot is held (`Held`) once its
 -- value is final: its command is behind, or it is a source or a sink that is noted. A change that writes no final slot
 -- keeps what is held (`held_on`), and so each equation (`equation_on`).
-use Rattle.value.specs.Prelude.{ℕ, ◌≤◌, ◌<◌, ◌≡◌, ◌∙◌, ◌⊎◌, inl, inr, ◌≢◌, true, false, List}
+use Rattle.std.specs.Prelude.{ℕ, ◌≤◌, ◌<◌, ◌≡◌, ◌⊎◌, ◌≢◌, true, false, List}
+use Rattle.std.proofs.Common.{◌∙◌, inl, inr}
 use Rattle.value.specs.Value.{deployment_mark, mark_of, value, blank, is_blank}
 use Rattle.value.specs.Primitive as P
 use Rattle.value.specs.Primitive.{operands}

@@ -1,8 +1,10 @@
 -- At the topmost's next command: what it reads is held (`value_held` .. `sink_held`), its own slot is not final
 -- (`own_spared`), and after a change that writes no final slot there are the equations again, if its own is among them
 -- (`equations_next`).
-use Rattle.value.specs.Prelude.{ℕ, ◌+◌, ◌<◌, ◌≡◌, refl, sym, ◌∙◌, ap, ◌⊎◌, inl, inr, ◌≢◌, true, false≢true, List, ◌∷◌}
-use Rattle.value.specs.Prelude.{arith}
+use Rattle.std.specs.Prelude.{ℕ, ◌+◌, ◌<◌, ◌≡◌, refl, ◌⊎◌, ◌≢◌, true, List, ◌∷◌}
+use Rattle.std.proofs.Common.{sym, ◌∙◌, ap, inl, inr}
+use Rattle.std.proofs.lemmas.Bool.{false≢true}
+use Rattle.std.proofs.Common.{arith}
 use Rattle.value.specs.Value.{deployment_mark}
 use Rattle.value.specs.declared.Value.{Value}
 use Rattle.program.specs.Bytes.{commands_in}

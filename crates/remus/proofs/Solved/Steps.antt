@@ -1,7 +1,9 @@
 -- Every command of the walk keeps the equations, and adds its own (`every_command`). Here those that open, make or
 -- choose a deployment; the others are in Commands.
-use Rattle.value.specs.Prelude.{ℕ, zero, suc, ◌+◌, ◌-◌, ◌≤◌, ◌<◌, ◌≡◌, refl, sym, ◌∙◌, ◌⊎◌, inl, inr, Bool, true}
-use Rattle.value.specs.Prelude.{false, List, ◌∷◌, ◌++◌, length, arith}
+use Rattle.std.specs.Prelude.{ℕ, zero, suc, ◌+◌, ◌-◌, ◌≤◌, ◌<◌, ◌≡◌, refl, ◌⊎◌, Bool, true}
+use Rattle.std.proofs.Common.{sym, ◌∙◌, inl, inr}
+use Rattle.std.specs.Prelude.{false, List, ◌∷◌, ◌++◌, length}
+use Rattle.std.proofs.Common.{arith}
 use Rattle.value.specs.Test.{◌≤?◌}
 use Rattle.value.specs.Value.{deployment_mark, point_mark, mark_of, value, blank, is_blank}
 use Rattle.value.specs.declared.Value.{Value}

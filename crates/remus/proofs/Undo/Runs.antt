@@ -1,5 +1,6 @@
 -- The recursive run keeps what is unbroken, however it ends.
-use Rattle.value.specs.Prelude.{ℕ, zero, suc, ◌+◌, ◌≤◌, ◌<◌, ◌≡◌, refl, ap, ◌≢◌, List, arith}
+use Rattle.std.specs.Prelude.{ℕ, zero, suc, ◌+◌, ◌≤◌, ◌<◌, ◌≡◌, refl, ◌≢◌, List}
+use Rattle.std.proofs.Common.{ap, arith}
 use Rattle.value.specs.Test.{◌=?◌, ◌<?◌}
 use Rattle.value.proofs.Tests.{cases, lt?, lt×?, eq×, eq?, eq×?, no, picks}
 use Rattle.program.specs.Bytes.{commands_d, commands_in}

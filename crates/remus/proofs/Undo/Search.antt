@@ -1,5 +1,6 @@
 -- A chain that has new members before old ones: `below` goes along it to the first old one.
-use Rattle.value.specs.Prelude.{ℕ, zero, suc, ◌+◌, ◌≤◌, ◌<◌, ◌≡◌, refl, sym, ◌∙◌, ap, List, arith}
+use Rattle.std.specs.Prelude.{ℕ, zero, suc, ◌+◌, ◌≤◌, ◌<◌, ◌≡◌, refl, List}
+use Rattle.std.proofs.Common.{sym, ◌∙◌, ap, arith}
 use Rattle.value.proofs.Tests.{le!, le×, goes, stops}
 use Rattle.program.specs.Bytes.{reactors}
 use Rattle.image.specs.Memory.{main_at, used, next}

@@ -1,6 +1,7 @@
 -- What a turn never breaks, whatever its readings: `Unbroken` holds of the words at each moment, `Later` between the
 -- words of two moments. Both are kept by a change of memory that writes no more than a command may.
-use Rattle.value.specs.Prelude.{ℕ, ◌≤◌, ◌<◌, ◌≡◌, refl, ◌∙◌, ◌⊎◌, inl, inr, ◌≢◌, List, length, arith}
+use Rattle.std.specs.Prelude.{ℕ, ◌≤◌, ◌<◌, ◌≡◌, refl, ◌⊎◌, ◌≢◌, List, length}
+use Rattle.std.proofs.Common.{◌∙◌, inl, inr, arith}
 use Rattle.value.specs.Value.{deployment_mark}
 use Rattle.program.specs.Bytes.{shape_of, commands_d, commands_in}
 use Rattle.program.specs.Command.{make_poly}

@@ -1,5 +1,6 @@
 -- A change of memory that writes, makes and wires no more than is allowed keeps what is unbroken, and is later.
-use Rattle.value.specs.Prelude.{ℕ, ◌≤◌, ◌<◌, ◌≡◌, sym, ◌∙◌, ◌⊎◌, inl, inr, ◌≢◌, List, arith}
+use Rattle.std.specs.Prelude.{ℕ, ◌≤◌, ◌<◌, ◌≡◌, ◌⊎◌, ◌≢◌, List}
+use Rattle.std.proofs.Common.{sym, ◌∙◌, inl, inr, arith}
 use Rattle.value.specs.Value.{blank, deployment_mark}
 use Rattle.program.specs.Bytes.{commands_d, commands_in}
 use Rattle.program.specs.Command.{cmd_of, make_poly}

@@ -1,7 +1,9 @@
 -- Keep comes to what it should (`keep_outcome`): its value waits in its own slot, and its cell is noted. A value as it
 -- waits is never blank (`pending_full`), and taken back it is the value again (`kept-pending`).
-use Rattle.value.specs.Prelude.{ℕ, zero, suc, ◌+◌, ◌≤◌, ◌<◌, ◌≡◌, refl, sym, ◌∙◌, subst, inl, inr, false, List, ◌∷◌}
-use Rattle.value.specs.Prelude.{◌++◌, length, arith}
+use Rattle.std.specs.Prelude.{ℕ, zero, suc, ◌+◌, ◌≤◌, ◌<◌, ◌≡◌, refl, false, List, ◌∷◌}
+use Rattle.std.proofs.Common.{sym, ◌∙◌, subst, inl, inr}
+use Rattle.std.specs.Prelude.{◌++◌, length}
+use Rattle.std.proofs.Common.{arith}
 use Rattle.value.specs.Test.{pick, ◌=?◌}
 use Rattle.value.specs.Value.{mark_of, kept_mark, value, blank, is_blank}
 use Rattle.value.specs.declared.Value.{Value}

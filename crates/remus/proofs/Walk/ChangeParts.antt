@@ -1,5 +1,6 @@
 -- A change taken apart: a deployment after it is an old or a new one, and of two sides one may be none.
-use Rattle.value.specs.Prelude.{ℕ, sym, subst, ◌⊎◌, inl, inr, ⊎_elim, List}
+use Rattle.std.specs.Prelude.{ℕ, ◌⊎◌, List}
+use Rattle.std.proofs.Common.{sym, subst, inl, inr, ⊎_elim}
 use Rattle.image.specs.Memory.{reactor}
 use Rattle.image.specs.Sound.{Deployed}
 use Rattle.image.proofs.Memory.Changes.{Change}

@@ -1,6 +1,8 @@
 -- The D commands: MakePoly, AllocMono and Cell come to what they should.
-use Rattle.value.specs.Prelude.{ℕ, suc, ◌+◌, ◌-◌, ◌≤◌, ◌<◌, ◌≡◌, refl, sym, ◌∙◌, ap, ◌⊎◌, inl, inr, ◌≢◌, Bool, true}
-use Rattle.value.specs.Prelude.{false, List, ◌∷◌, ◌++◌, length, arith}
+use Rattle.std.specs.Prelude.{ℕ, suc, ◌+◌, ◌-◌, ◌≤◌, ◌<◌, ◌≡◌, refl, ◌⊎◌, ◌≢◌, Bool, true}
+use Rattle.std.proofs.Common.{sym, ◌∙◌, ap, inl, inr}
+use Rattle.std.specs.Prelude.{false, List, ◌∷◌, ◌++◌, length}
+use Rattle.std.proofs.Common.{arith}
 use Rattle.value.specs.Test.{◌<?◌, ◌≤?◌}
 use Rattle.value.specs.Value.{deployment_mark, point_mark, truth_kind, mark_of, value, blank}
 use Rattle.value.proofs.Tests.{lt?, lt×?, le?, le×?, same?}

@@ -5,8 +5,10 @@
 -- is too deep or has no room, and only there (`stops`, `stops_deep`, `stops_full`); as main leaves, its sinks are noted
 -- (`written`), what was kept waits (`keepable_end`) and the image is whole (`whole`); the used words grow by what is
 -- allocated (`made`).
-use Rattle.value.specs.Prelude.{ℕ, ◌+◌, ◌-◌, ◌≤◌, ◌<◌, ◌≡◌, refl, sym, ◌∙◌, ap, subst, ◌⊎◌, inl, inr, ◌≢◌, List, []}
-use Rattle.value.specs.Prelude.{◌∷◌, length, arith}
+use Rattle.std.specs.Prelude.{ℕ, ◌+◌, ◌-◌, ◌≤◌, ◌<◌, ◌≡◌, refl, ◌⊎◌, ◌≢◌, List, []}
+use Rattle.std.proofs.Common.{sym, ◌∙◌, ap, subst, inl, inr}
+use Rattle.std.specs.Prelude.{◌∷◌, length}
+use Rattle.std.proofs.Common.{arith}
 use Rattle.value.specs.declared.Value.{Value}
 use Rattle.program.specs.Bytes.{main_of, commands_in}
 use Rattle.program.specs.Command.{Cmd, sequence_of, fetch, gives}

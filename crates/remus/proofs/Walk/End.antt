@@ -1,6 +1,7 @@
 -- As main leaves: its sinks are all noted, every deployment is wired, what was kept waits in the Keeps' slots
 -- (`keepable`), and the image is whole.
-use Rattle.value.specs.Prelude.{ℕ, ◌<◌, ◌≡◌, refl, ◌⊎◌, inl, inr, ◌≢◌, List, [], ◌∷◌}
+use Rattle.std.specs.Prelude.{ℕ, ◌<◌, ◌≡◌, refl, ◌⊎◌, ◌≢◌, List, [], ◌∷◌}
+use Rattle.std.proofs.Common.{inl, inr}
 use Rattle.value.specs.Value.{blank}
 use Rattle.value.proofs.Tests.{same?}
 use Rattle.program.specs.Bytes.{main_of, shape_of, commands_d, commands_in}

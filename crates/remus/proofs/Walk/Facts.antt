@@ -1,5 +1,6 @@
 -- What the rules give of each reactor, as the walk's proofs use it.
-use Rattle.value.specs.Prelude.{ℕ, ◌≤◌, ◌<◌, ◌≡◌, ◌⊎◌, inl, inr, List, arith}
+use Rattle.std.specs.Prelude.{ℕ, ◌≤◌, ◌<◌, ◌≡◌, ◌⊎◌, List}
+use Rattle.std.proofs.Common.{inl, inr, arith}
 use Rattle.value.proofs.Tests.{below}
 use Rattle.program.specs.Bytes.{reactors, main_of, commands_d, commands_in}
 use Rattle.program.specs.Command.{Cmd, cmd_of, sequence_of, D, R}

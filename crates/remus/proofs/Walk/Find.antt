@@ -1,5 +1,6 @@
 -- `find` finds the deployment of a reactor on a chain exactly where there is one: the count of reactors is enough.
-use Rattle.value.specs.Prelude.{ℕ, zero, suc, ◌≤◌, ◌≡◌, refl, ap, subst, ◌≢◌, not, List, arith}
+use Rattle.std.specs.Prelude.{ℕ, zero, suc, ◌≤◌, ◌≡◌, refl, ◌≢◌, not, List}
+use Rattle.std.proofs.Common.{ap, subst, arith}
 use Rattle.value.specs.Test.{◌=?◌}
 use Rattle.value.proofs.Tests.{cases, lt!, lt×, eq?, eq×?, goes, stops}
 use Rattle.program.specs.Bytes.{reactors}

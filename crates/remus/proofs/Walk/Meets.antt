@@ -1,8 +1,9 @@
 -- The walk from a state whose topmost deployment opens comes to that one's leaving with the words of the
 -- recursive run, or to a step that stops as the run does. The bound on the pile's height is what keeps the
 -- run from having no level left.
-use Rattle.value.specs.Prelude.{ℕ, zero, suc, ◌+◌, ◌-◌, ◌≤◌, ◌<◌, ◌≡◌, refl, ◌∙◌, ap, Bool, List, ◌∷◌, ◌++◌, length}
-use Rattle.value.specs.Prelude.{arith}
+use Rattle.std.specs.Prelude.{ℕ, zero, suc, ◌+◌, ◌-◌, ◌≤◌, ◌<◌, ◌≡◌, refl, Bool, List, ◌∷◌, ◌++◌, length}
+use Rattle.std.proofs.Common.{◌∙◌, ap}
+use Rattle.std.proofs.Common.{arith}
 use Rattle.value.proofs.Tests.{eq!, eq×}
 use Rattle.program.specs.Bytes.{commands_in}
 use Rattle.program.specs.Command.{cmd_of}

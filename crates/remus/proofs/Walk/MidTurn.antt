@@ -2,7 +2,7 @@
 -- (carried out in this turn, or skipped since their deployment was wired before) and E the deployments that are open or
 -- have run. Each note, opening and unwired deployment has its cause in a command that is behind, so nothing comes
 -- twice; causes stay, and so does all the rest.
-use Rattle.value.specs.Prelude.{ℕ, ◌≤◌, ◌<◌, ◌≡◌, ◌⊎◌, false, List}
+use Rattle.std.specs.Prelude.{ℕ, ◌≤◌, ◌<◌, ◌≡◌, ◌⊎◌, false, List}
 use Rattle.value.specs.Value.{blank, is_blank, deployment_mark}
 use Rattle.program.specs.Bytes.{main_of, commands_d, commands_in}
 use Rattle.program.specs.Command.{Cmd, cmd_of, alloc_mono, make_poly, supply, react, sink, alloc_poly, cell, keep, none}

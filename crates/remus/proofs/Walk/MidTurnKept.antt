@@ -1,5 +1,6 @@
 -- A step keeps what holds in the middle of a turn: `mid_turn_kept` takes from `Step` what each part of it needs.
-use Rattle.value.specs.Prelude.{ℕ, ◌+◌, ◌≤◌, ◌<◌, ◌≡◌, refl, sym, ◌∙◌, ◌⊎◌, inl, inr, ◌≢◌, true, List, arith}
+use Rattle.std.specs.Prelude.{ℕ, ◌+◌, ◌≤◌, ◌<◌, ◌≡◌, refl, ◌⊎◌, ◌≢◌, true, List}
+use Rattle.std.proofs.Common.{sym, ◌∙◌, inl, inr, arith}
 use Rattle.value.specs.Value.{blank}
 use Rattle.program.specs.Bytes.{reactors, commands_d, commands_in}
 use Rattle.program.specs.Command.{Cmd, takes_words, cmd_of, alloc_mono, make_poly, supply, react}

@@ -1,7 +1,8 @@
 -- What a turn's states remember of its beginning and of its Keeps (`Past`), and that a step keeps this (`past_on`): a
 -- cell of a wired deployment, or of one whose Cell is behind, holds what it held before the turn; in the slot of a
 -- Keep behind waits what its operand was as it was carried out. `its_cell` finds the Cell of a cell.
-use Rattle.value.specs.Prelude.{ℕ, ◌<◌, ◌≡◌, refl, sym, ◌∙◌, ap, subst, ◌⊎◌, inl, inr, ◌≢◌, List, arith}
+use Rattle.std.specs.Prelude.{ℕ, ◌<◌, ◌≡◌, refl, ◌⊎◌, ◌≢◌, List}
+use Rattle.std.proofs.Common.{sym, ◌∙◌, ap, subst, inl, inr, arith}
 use Rattle.value.specs.Value.{mark_of, value}
 use Rattle.value.specs.declared.Value.{Value}
 use Rattle.program.specs.Bytes.{commands_d}

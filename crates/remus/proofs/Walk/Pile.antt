@@ -1,6 +1,7 @@
 -- The pile, and the invariant of a turn's states: `Inv`. A command is behind if its
 -- deployment is open past it, or has run.
-use Rattle.value.specs.Prelude.{ℕ, ◌+◌, ◌≤◌, ◌<◌, ◌≡◌, refl, ◌⊎◌, inl, inr, ◌≢◌, List, [], ◌∷◌, length, arith}
+use Rattle.std.specs.Prelude.{ℕ, ◌+◌, ◌≤◌, ◌<◌, ◌≡◌, refl, ◌⊎◌, ◌≢◌, List, [], ◌∷◌, length}
+use Rattle.std.proofs.Common.{inl, inr, arith}
 use Rattle.program.specs.Bytes.{commands_d, commands_in}
 use Rattle.image.specs.Memory.{most_depth, main_at, used, turns, reactor, wired}
 use Rattle.image.specs.Sound.{Deployed, Owner, Depth}

@@ -1,5 +1,6 @@
 -- At every point the next command can be carried out (`can_here`) and reads well (`reads_here`).
-use Rattle.value.specs.Prelude.{ℕ, ◌≤◌, ◌<◌, ◌≡◌, refl, sym, ◌∙◌, ◌⊎◌, inl, inr, true, List, ◌∷◌, arith}
+use Rattle.std.specs.Prelude.{ℕ, ◌≤◌, ◌<◌, ◌≡◌, refl, ◌⊎◌, true, List, ◌∷◌}
+use Rattle.std.proofs.Common.{sym, ◌∙◌, inl, inr, arith}
 use Rattle.value.specs.Value.{deployment_mark}
 use Rattle.value.specs.Primitive.{operands}
 use Rattle.value.proofs.Tests.{eq?}

@@ -1,5 +1,6 @@
 -- Readings that 10 and 11 do not refuse are legal: every global is of its declared kind.
-use Rattle.value.specs.Prelude.{ℕ, zero, suc, ◌+◌, ◌≡◌, refl, sym, inr, List, arith}
+use Rattle.std.specs.Prelude.{ℕ, zero, suc, ◌+◌, ◌≡◌, refl, List}
+use Rattle.std.proofs.Common.{sym, inr, arith}
 use Rattle.value.specs.Value.{mark_of, number_kind}
 use Rattle.value.proofs.Tests.{eq!, yes}
 use Rattle.program.specs.Bytes.{global_kind}

@@ -1,7 +1,10 @@
 -- Each kind of step keeps the invariant, given what it does: a wiring (`ready_kept`), the topmost's next command
 -- (`advance`), an opening (`call_kept`), a leaving (`leave_kept`).
-use Rattle.value.specs.Prelude.{ℕ, suc, ◌+◌, ◌≤◌, ◌<◌, ◌≡◌, refl, sym, ◌∙◌, subst, ◌⊎◌, inl, inr, ⊎_map, ◌≢◌, List, ◌∷◌}
-use Rattle.value.specs.Prelude.{length, arith}
+use Rattle.std.specs.Prelude.{ℕ, suc, ◌+◌, ◌≤◌, ◌<◌, ◌≡◌, refl, ◌⊎◌, ◌≢◌, List, ◌∷◌}
+use Rattle.std.proofs.Common.{sym, ◌∙◌, subst, inl, inr}
+use Rattle.std.proofs.Math.Logic.{⊎_map}
+use Rattle.std.specs.Prelude.{length}
+use Rattle.std.proofs.Common.{arith}
 use Rattle.value.specs.Test.{◌=?◌}
 use Rattle.value.specs.Value.{deployment_mark}
 use Rattle.value.proofs.Tests.{cases, eq!, eq×, eq?, eq×?, yes, no, same?}

@@ -1,7 +1,10 @@
 -- The topmost deployment, and what is behind and entered before and after its next command, as it leaves, and as
 -- another is opened on it.
-use Rattle.value.specs.Prelude.{ℕ, ◌+◌, ◌≤◌, ◌<◌, ◌≡◌, refl, sym, ◌∙◌, ◌⊎◌, inl, inr, ⊎_map, ◌≢◌, List, ◌∷◌}
-use Rattle.value.specs.Prelude.{length, arith}
+use Rattle.std.specs.Prelude.{ℕ, ◌+◌, ◌≤◌, ◌<◌, ◌≡◌, refl, ◌⊎◌, ◌≢◌, List, ◌∷◌}
+use Rattle.std.proofs.Common.{sym, ◌∙◌, inl, inr}
+use Rattle.std.proofs.Math.Logic.{⊎_map}
+use Rattle.std.specs.Prelude.{length}
+use Rattle.std.proofs.Common.{arith}
 use Rattle.value.proofs.Tests.{same?}
 use Rattle.program.specs.Bytes.{commands_in}
 use Rattle.program.specs.Command.{Cmd, sequence_of, D, alloc_mono, make_poly, supply, react, sink, alloc_poly, cell, keep}

@@ -1,7 +1,9 @@
 -- A step from a state with the invariant: what every command comes to (`every_command`), and so every step
 -- (`step_outcome`), with what it leaves of slots and wirings (`Passed`).
-use Rattle.value.specs.Prelude.{ℕ, suc, ◌+◌, ◌-◌, ◌≤◌, ◌<◌, ◌≡◌, refl, sym, ◌∙◌, ap, ◌⊎◌, inl, inr, ◌≢◌, Bool, true}
-use Rattle.value.specs.Prelude.{false, List, [], ◌∷◌, ◌++◌, length, arith}
+use Rattle.std.specs.Prelude.{ℕ, suc, ◌+◌, ◌-◌, ◌≤◌, ◌<◌, ◌≡◌, refl, ◌⊎◌, ◌≢◌, Bool, true}
+use Rattle.std.proofs.Common.{sym, ◌∙◌, ap, inl, inr}
+use Rattle.std.specs.Prelude.{false, List, [], ◌∷◌, ◌++◌, length}
+use Rattle.std.proofs.Common.{arith}
 use Rattle.value.specs.Test.{◌=?◌}
 use Rattle.value.proofs.Tests.{eq?, eq×?, same?}
 use Rattle.program.specs.Bytes.{globals, global_kind, commands_d, commands_in}

@@ -1,6 +1,9 @@
 -- What a command leaves alone (`Writes`): of other commands' slots it writes a branch point's only. And what Cell and
 -- Keep leave in their own (`Gave`).
-use Rattle.value.specs.Prelude.{ℕ, ◌<◌, ◌≡◌, refl, ◌⊎◌, inl, ⊎_map, ◌≢◌, true, false≢true, List}
+use Rattle.std.specs.Prelude.{ℕ, ◌<◌, ◌≡◌, refl, ◌⊎◌, ◌≢◌, true, List}
+use Rattle.std.proofs.Common.{inl}
+use Rattle.std.proofs.Math.Logic.{⊎_map}
+use Rattle.std.proofs.lemmas.Bool.{false≢true}
 use Rattle.value.specs.Value.{mark_of, value}
 use Rattle.program.specs.Bytes.{commands_in}
 use Rattle.program.specs.Command.{Cmd, gives_value, takes_words, alloc_mono, make_poly, supply, react, sink, alloc_poly}

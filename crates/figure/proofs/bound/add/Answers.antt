@@ -1,4 +1,4 @@
-use Rattle.value.specs.Prelude.{arith}
+use Rattle.std.proofs.Common.{arith}
 use Rattle.figure.proofs.Capping.{capped_low, capped_high}
 use Rattle.figure.proofs.bound.add.Goals as goal
 

@@ -1,4 +1,5 @@
-use Rattle.value.specs.Prelude.{ℕ, ◌+◌, ◌*◌, ◌≡◌, ◌∙◌, ap, ap₂, List, arith}
+use Rattle.std.specs.Prelude.{ℕ, ◌+◌, ◌*◌, ◌≡◌, List}
+use Rattle.std.proofs.Common.{◌∙◌, ap, ap₂, arith}
 use Rattle.program.specs.Bytes.{byte, commands_d, commands_at}
 use Rattle.image.specs.Clauses.{made_of}
 use Rattle.image.proofs.MadeByBytes.{made_at}

@@ -1,4 +1,4 @@
-use Rattle.value.specs.Prelude.{ℕ, ◌+◌, ◌-◌, ◌≤◌, ◌≡◌, List}
+use Rattle.std.specs.Prelude.{ℕ, ◌+◌, ◌-◌, ◌≤◌, ◌≡◌, List}
 use Rattle.program.specs.Bytes.{commands_at}
 use Rattle.program.specs.Command.{made_by, cmd_of}
 use Rattle.figure.specs.Bound.{sum_below, shape_sum, share}

@@ -1,4 +1,5 @@
-use Rattle.value.specs.Prelude.{◌+◌, ◌-◌, ◌≡◌, ◌∙◌, ap, get_or, arith}
+use Rattle.std.specs.Prelude.{◌+◌, ◌-◌, ◌≡◌, get_or}
+use Rattle.std.proofs.Common.{◌∙◌, ap, arith}
 use Rattle.value.proofs.Zeros.{zeros_at}
 use Rattle.program.specs.Bytes.{reactors}
 use Rattle.figure.specs.Bound.{bounds_after, bound_of}

@@ -1,4 +1,4 @@
-use Rattle.value.specs.Prelude.{◌-◌, ◌≤◌, get_or}
+use Rattle.std.specs.Prelude.{◌-◌, ◌≤◌, get_or}
 use Rattle.figure.specs.Bound.{bounds_after}
 use Rattle.figure.specs.Clauses.{Capped}
 use Rattle.figure.proofs.bound.bounds.Given as goal

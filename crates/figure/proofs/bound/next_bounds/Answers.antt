@@ -1,4 +1,5 @@
-use Rattle.value.specs.Prelude.{◌≡◌, refl, ◌∙◌, ap, arith}
+use Rattle.std.specs.Prelude.{◌≡◌, refl}
+use Rattle.std.proofs.Common.{◌∙◌, ap, arith}
 use lib.ListN.{length-set}
 use Rattle.value.proofs.Zeros.{zeros_at}
 use Rattle.program.specs.Bytes.{reactors}

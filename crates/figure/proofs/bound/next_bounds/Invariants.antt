@@ -1,4 +1,4 @@
-use Rattle.value.specs.Prelude.{ℕ, ◌-◌, ◌≤◌, ◌≡◌, length}
+use Rattle.std.specs.Prelude.{ℕ, ◌-◌, ◌≤◌, ◌≡◌, length}
 use Rattle.figure.specs.Bound.{bound_by}
 use Rattle.figure.specs.Clauses.{Capped, up_to}
 use Rattle.figure.proofs.bound.next_bounds.Given as goal

@@ -1,4 +1,6 @@
-use Rattle.value.specs.Prelude.{◌≤◌, ◌<◌, ◌≡◌, ⊎_elim, false≢true, arith}
+use Rattle.std.specs.Prelude.{◌≤◌, ◌<◌, ◌≡◌}
+use Rattle.std.proofs.Common.{⊎_elim, arith}
+use Rattle.std.proofs.lemmas.Bool.{false≢true}
 use Rattle.value.proofs.Tests.{below}
 use Rattle.figure.proofs.bound.same.Goals as goal
 

@@ -1,4 +1,4 @@
-use Rattle.value.specs.Prelude.{ℕ, ◌-◌, ◌≤◌, ◌<◌, ◌≡◌, get_or}
+use Rattle.std.specs.Prelude.{ℕ, ◌-◌, ◌≤◌, ◌<◌, ◌≡◌, get_or}
 use Rattle.figure.proofs.bound.same.Given as goal
 
 abbrev pub invariant-loop-q : goal.invariant-loop-q

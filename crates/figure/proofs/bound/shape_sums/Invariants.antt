@@ -1,4 +1,4 @@
-use Rattle.value.specs.Prelude.{ℕ, ◌-◌, ◌≤◌, ◌≡◌, length}
+use Rattle.std.specs.Prelude.{ℕ, ◌-◌, ◌≤◌, ◌≡◌, length}
 use Rattle.figure.specs.Bound.{sum_below}
 use Rattle.figure.specs.Clauses.{Capped}
 use Rattle.figure.proofs.Capping.{of_shape}

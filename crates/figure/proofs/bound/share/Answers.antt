@@ -1,4 +1,5 @@
-use Rattle.value.specs.Prelude.{◌≡◌, ◌∙◌, ap, arith}
+use Rattle.std.specs.Prelude.{◌≡◌}
+use Rattle.std.proofs.Common.{◌∙◌, ap, arith}
 use Rattle.program.specs.Command.{Made}
 use Rattle.image.proofs.MadeByBytes.{made_mono, made_point}
 use Rattle.figure.specs.Bound.{share}

@@ -1,4 +1,5 @@
-use Rattle.value.specs.Prelude.{refl, sym, ap}
+use Rattle.std.specs.Prelude.{refl}
+use Rattle.std.proofs.Common.{sym, ap}
 use Rattle.answer.specs.Answer.{number_of}
 use Rattle.load.specs.Check.{checked}
 use Rattle.load.proofs.Exact.{exact}

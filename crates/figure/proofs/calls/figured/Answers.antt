@@ -1,4 +1,5 @@
-use Rattle.value.specs.Prelude.{ℕ, ◌+◌, ◌≤◌, ◌<◌, ◌≡◌, refl, ◌∙◌, ap, not, List, get_or, arith}
+use Rattle.std.specs.Prelude.{ℕ, ◌+◌, ◌≤◌, ◌<◌, ◌≡◌, refl, not, List, get_or}
+use Rattle.std.proofs.Common.{◌∙◌, ap, arith}
 use Rattle.value.proofs.Tests.{eq!, eq×, le!, le×, goes, stops}
 use Rattle.value.proofs.Sweeps.{swept}
 use Rattle.program.specs.Bytes.{reactors, main_of}

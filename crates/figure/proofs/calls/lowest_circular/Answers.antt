@@ -1,4 +1,5 @@
-use Rattle.value.specs.Prelude.{refl, arith}
+use Rattle.std.specs.Prelude.{refl}
+use Rattle.std.proofs.Common.{arith}
 use Rattle.program.specs.Bytes.{main_of}
 use Rattle.figure.proofs.calls.lowest_circular.Goals as goal
 

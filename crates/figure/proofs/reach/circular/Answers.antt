@@ -1,4 +1,5 @@
-use Rattle.value.specs.Prelude.{refl, ◌∙◌, arith}
+use Rattle.std.specs.Prelude.{refl}
+use Rattle.std.proofs.Common.{◌∙◌, arith}
 use Rattle.value.proofs.Tests.{same_eq, same_and, same_or}
 use Rattle.figure.specs.Steps.{circular}
 use Rattle.figure.specs.Clauses.{cell}

@@ -1,4 +1,4 @@
-use Rattle.value.specs.Prelude.{arith}
+use Rattle.std.proofs.Common.{arith}
 use Rattle.figure.proofs.Joining.{first_ways, next_ways, all_ways}
 use Rattle.figure.proofs.reach.close.Goals as goal
 

@@ -1,4 +1,4 @@
-use Rattle.value.specs.Prelude.{ℕ, ◌-◌, ◌≤◌, ◌≡◌, List, length}
+use Rattle.std.specs.Prelude.{ℕ, ◌-◌, ◌≤◌, ◌≡◌, List, length}
 use Rattle.program.specs.Bytes.{reactors}
 use Rattle.figure.specs.Steps.{leads, found, reached_below}
 use Rattle.figure.specs.Clauses.{table_bytes, Table}

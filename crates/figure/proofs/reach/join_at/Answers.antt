@@ -1,4 +1,4 @@
-use Rattle.value.specs.Prelude.{sym, ◌∙◌, arith}
+use Rattle.std.proofs.Common.{sym, ◌∙◌, arith}
 use Rattle.value.proofs.Tests.{eq!, eq×}
 use Rattle.figure.specs.Clauses.{cell}
 use Rattle.figure.proofs.Joining.{none_joined, all_joined, tells, joined, left}

@@ -1,4 +1,4 @@
-use Rattle.value.specs.Prelude.{ℕ, ◌-◌, ◌≤◌, ◌≡◌, Bool, length}
+use Rattle.std.specs.Prelude.{ℕ, ◌-◌, ◌≤◌, ◌≡◌, Bool, length}
 use Rattle.value.specs.Test.{pick, ◌<?◌}
 use Rattle.figure.specs.Clauses.{table_bytes, Table, through_at}
 use Rattle.figure.proofs.reach.join_at.Given as goal

@@ -1,5 +1,6 @@
-use Rattle.value.specs.Prelude.{ℕ, ◌+◌, ◌*◌, ◌<◌, ◌≡◌, refl, sym, ◌∙◌, inl, inr, ⊎_elim, List, set}
-use Rattle.value.specs.Prelude.{arith}
+use Rattle.std.specs.Prelude.{ℕ, ◌+◌, ◌*◌, ◌<◌, ◌≡◌, refl, List, set}
+use Rattle.std.proofs.Common.{sym, ◌∙◌, inl, inr, ⊎_elim}
+use Rattle.std.proofs.Common.{arith}
 use Rattle.value.proofs.Tests.{yes, no, eq!, eq×, same?}
 use Rattle.figure.specs.Clauses.{cell, Changed, joined_at}
 use Rattle.figure.proofs.Cells.{unchanged, changed_as_is, changed_next, changed_all}

@@ -1,4 +1,4 @@
-use Rattle.value.specs.Prelude.{◌-◌, ◌≤◌}
+use Rattle.std.specs.Prelude.{◌-◌, ◌≤◌}
 use Rattle.figure.specs.Clauses.{Changed, joined_at}
 use Rattle.figure.proofs.reach.join_row.Given as goal
 

@@ -1,4 +1,5 @@
-use Rattle.value.specs.Prelude.{◌≡◌, sym, ◌∙◌, ap, not, arith}
+use Rattle.std.specs.Prelude.{◌≡◌, not}
+use Rattle.std.proofs.Common.{sym, ◌∙◌, ap, arith}
 use Rattle.value.specs.Test.{sweep}
 use Rattle.value.proofs.Sweeps.{sweep_found, sweep_next, sweep_done}
 use Rattle.figure.specs.Figure.{lowest_circular}

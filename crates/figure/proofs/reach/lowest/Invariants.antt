@@ -1,4 +1,4 @@
-use Rattle.value.specs.Prelude.{ℕ, ◌-◌, ◌≤◌, ◌≡◌, not, Bool, List}
+use Rattle.std.specs.Prelude.{ℕ, ◌-◌, ◌≤◌, ◌≡◌, not, Bool, List}
 use Rattle.value.specs.Test.{sweep}
 use Rattle.program.specs.Bytes.{reactors, main_of}
 use Rattle.figure.specs.Steps.{found, reached, circular}

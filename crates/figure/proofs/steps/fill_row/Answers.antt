@@ -1,4 +1,4 @@
-use Rattle.value.specs.Prelude.{◌∙◌, ap, arith}
+use Rattle.std.proofs.Common.{◌∙◌, ap, arith}
 use Rattle.figure.specs.Clauses.{flag_of}
 use Rattle.figure.proofs.Cells.{unchanged, changed_next, changed_all}
 use Rattle.figure.proofs.steps.fill_row.Goals as goal

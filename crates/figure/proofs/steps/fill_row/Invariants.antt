@@ -1,4 +1,4 @@
-use Rattle.value.specs.Prelude.{◌-◌, ◌≤◌}
+use Rattle.std.specs.Prelude.{◌-◌, ◌≤◌}
 use Rattle.figure.specs.Steps.{leads}
 use Rattle.figure.specs.Clauses.{flag_of, Changed}
 use Rattle.figure.proofs.steps.fill_row.Given as goal

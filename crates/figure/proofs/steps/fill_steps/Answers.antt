@@ -1,4 +1,5 @@
-use Rattle.value.specs.Prelude.{◌<◌, arith}
+use Rattle.std.specs.Prelude.{◌<◌}
+use Rattle.std.proofs.Common.{arith}
 use Rattle.figure.proofs.Cells.{row_next}
 use Rattle.figure.proofs.steps.fill_steps.Goals as goal
 

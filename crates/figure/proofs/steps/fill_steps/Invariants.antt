@@ -1,4 +1,4 @@
-use Rattle.value.specs.Prelude.{ℕ, ◌-◌, ◌≤◌, ◌<◌, ◌≡◌, length}
+use Rattle.std.specs.Prelude.{ℕ, ◌-◌, ◌≤◌, ◌<◌, ◌≡◌, length}
 use Rattle.figure.specs.Steps.{leads}
 use Rattle.figure.specs.Clauses.{table_bytes, cell, flag_of}
 use Rattle.figure.proofs.steps.fill_steps.Given as goal

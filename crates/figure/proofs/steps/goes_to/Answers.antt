@@ -1,4 +1,5 @@
-use Rattle.value.specs.Prelude.{refl, ◌∙◌, ap, arith, false, ◌≡◌}
+use Rattle.std.specs.Prelude.{refl, false, ◌≡◌}
+use Rattle.std.proofs.Common.{◌∙◌, ap, arith}
 use Rattle.value.proofs.Tests.{same_eq}
 use Rattle.program.specs.Command.{Made}
 use Rattle.image.proofs.MadeByBytes.{made_mono, made_point}

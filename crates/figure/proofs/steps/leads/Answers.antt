@@ -1,4 +1,5 @@
-use Rattle.value.specs.Prelude.{ℕ, ◌+◌, ◌*◌, ◌≡◌, refl, ◌∙◌, ap, ◌||◌, Bool, List, arith}
+use Rattle.std.specs.Prelude.{ℕ, ◌+◌, ◌*◌, ◌≡◌, refl, ◌||◌, Bool, List}
+use Rattle.std.proofs.Common.{◌∙◌, ap, arith}
 use Rattle.value.proofs.Tests.{same_or}
 use Rattle.program.specs.Bytes.{byte, commands_at}
 use Rattle.program.specs.Command.{made_by, cmd_of}

@@ -1,4 +1,4 @@
-use Rattle.value.specs.Prelude.{ℕ, ◌-◌, ◌≤◌, ◌≡◌}
+use Rattle.std.specs.Prelude.{ℕ, ◌-◌, ◌≤◌, ◌≡◌}
 use Rattle.program.specs.Bytes.{commands_at}
 use Rattle.program.specs.Command.{made_by, cmd_of}
 use Rattle.figure.specs.Steps.{anywhere, goes_to}

@@ -1,4 +1,4 @@
-use Rattle.value.specs.Prelude.{refl}
+use Rattle.std.specs.Prelude.{refl}
 use Rattle.haai.specs.Writing.{deployment_loc}
 use Rattle.haai.proofs.Cursor.deployment_loc.Goals as goal
 

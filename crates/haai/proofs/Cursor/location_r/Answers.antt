@@ -1,4 +1,4 @@
-use Rattle.value.specs.Prelude.{refl}
+use Rattle.std.specs.Prelude.{refl}
 use Rattle.haai.specs.Writing.{location_r}
 use Rattle.haai.proofs.Cursor.location_r.Goals as goal
 

@@ -1,4 +1,4 @@
-use Rattle.value.specs.Prelude.{refl}
+use Rattle.std.specs.Prelude.{refl}
 use Rattle.haai.specs.Writing.{place_d}
 use Rattle.haai.proofs.Cursor.place_d.Goals as goal
 

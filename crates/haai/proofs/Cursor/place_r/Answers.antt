@@ -1,4 +1,4 @@
-use Rattle.value.specs.Prelude.{refl}
+use Rattle.std.specs.Prelude.{refl}
 use Rattle.haai.specs.Writing.{place_r}
 use Rattle.haai.proofs.Cursor.place_r.Goals as goal
 

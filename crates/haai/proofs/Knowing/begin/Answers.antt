@@ -1,4 +1,4 @@
-use Rattle.value.specs.Prelude.{refl}
+use Rattle.std.specs.Prelude.{refl}
 use Rattle.haai.proofs.Knowing.begin.Goals as goal
 
 pub returns : goal.returns

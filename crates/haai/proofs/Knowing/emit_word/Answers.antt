@@ -1,4 +1,5 @@
-use Rattle.value.specs.Prelude.{ℕ, ◌≡◌, ◌∙◌, ap, arith}
+use Rattle.std.specs.Prelude.{ℕ, ◌≡◌}
+use Rattle.std.proofs.Common.{◌∙◌, ap, arith}
 use Rattle.haai.specs.Word.{bytes_of}
 use Rattle.haai.specs.Writing.{cursor_of, adds}
 use Rattle.haai.specs.declared.Cursor.{Cursor}

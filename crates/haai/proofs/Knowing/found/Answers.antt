@@ -1,4 +1,5 @@
-use Rattle.value.specs.Prelude.{ℕ, refl, ap}
+use Rattle.std.specs.Prelude.{ℕ, refl}
+use Rattle.std.proofs.Common.{ap}
 use Rattle.value.proofs.Tests.{same_eq}
 use Rattle.haai.specs.Tables.{found_of}
 use Rattle.haai.proofs.Placed.{blamed_fault}

@@ -1,4 +1,4 @@
-use Rattle.value.specs.Prelude.{sym, ◌∙◌, ap}
+use Rattle.std.proofs.Common.{sym, ◌∙◌, ap}
 use Rattle.value.proofs.Tests.{yes, no}
 use Rattle.haai.specs.Grammar.{step_at}
 use Rattle.haai.specs.declared.Role.TheVariants.{Fixed}

@@ -1,4 +1,5 @@
-use Rattle.value.specs.Prelude.{refl, sym, ◌∙◌, ap}
+use Rattle.std.specs.Prelude.{refl}
+use Rattle.std.proofs.Common.{sym, ◌∙◌, ap}
 use Rattle.value.proofs.Tests.{yes, no, same_and, same_le, lt!, lt×}
 use Rattle.haai.specs.Grammar.{step_at}
 use Rattle.haai.specs.declared.Role.TheVariants.{Fixed}

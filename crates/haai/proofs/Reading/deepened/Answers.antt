@@ -1,4 +1,4 @@
-use Rattle.value.specs.Prelude.{refl}
+use Rattle.std.specs.Prelude.{refl}
 use Rattle.haai.specs.Grammar.{deepened}
 use Rattle.haai.proofs.Reading.deepened.Goals as goal
 

@@ -1,4 +1,4 @@
-use Rattle.value.specs.Prelude.{refl}
+use Rattle.std.specs.Prelude.{refl}
 use Rattle.haai.specs.Grammar.{defined}
 use Rattle.haai.proofs.Reading.defined.Goals as goal
 

@@ -1,5 +1,5 @@
 use Rattle.std.proofs.Common.{rules}
-use Rattle.value.specs.Prelude.{ap}
+use Rattle.std.proofs.Common.{ap}
 use Rattle.haai.specs.Grammar.{expression}
 use Rattle.haai.specs.Clauses.{opened_step}
 use Rattle.haai.specs.declared.Role.TheVariants.{Operand, Constant}

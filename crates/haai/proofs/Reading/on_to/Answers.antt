@@ -1,4 +1,4 @@
-use Rattle.value.specs.Prelude.{refl}
+use Rattle.std.specs.Prelude.{refl}
 use Rattle.haai.specs.Grammar.{on_to}
 use Rattle.haai.proofs.Reading.on_to.Goals as goal
 

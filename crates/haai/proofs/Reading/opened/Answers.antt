@@ -1,4 +1,5 @@
-use Rattle.value.specs.Prelude.{refl, ap}
+use Rattle.std.specs.Prelude.{refl}
+use Rattle.std.proofs.Common.{ap}
 use Rattle.value.proofs.Tests.{yes, no, lt!, lt×}
 use Rattle.haai.specs.Clauses.{opened_step}
 use Rattle.haai.specs.declared.Role.TheVariants.{Fixed}

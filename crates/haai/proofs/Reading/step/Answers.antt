@@ -1,4 +1,5 @@
-use Rattle.value.specs.Prelude.{◌≡◌, sym, ◌∙◌, ap}
+use Rattle.std.specs.Prelude.{◌≡◌}
+use Rattle.std.proofs.Common.{sym, ◌∙◌, ap}
 use Rattle.haai.specs.Grammar.{step_of, step_at}
 use Rattle.haai.specs.declared.Class.{Class}
 use Rattle.haai.specs.declared.Phase.{Phase}

@@ -1,4 +1,4 @@
-use Rattle.value.specs.Prelude.{◌∙◌, ap}
+use Rattle.std.proofs.Common.{◌∙◌, ap}
 use Rattle.haai.specs.Grammar.{step_of}
 use Rattle.haai.proofs.Reading.take_word.Goals as goal
 

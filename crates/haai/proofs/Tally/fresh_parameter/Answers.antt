@@ -1,4 +1,5 @@
-use Rattle.value.specs.Prelude.{sym, ◌∙◌, ap, not}
+use Rattle.std.proofs.Common.{sym, ◌∙◌, ap}
+use Rattle.std.specs.Prelude.{not}
 use Rattle.value.proofs.Tests.{same_or}
 use Rattle.haai.specs.Names.{fresh}
 use Rattle.haai.proofs.Placed.{among_three}

@@ -1,4 +1,5 @@
-use Rattle.value.specs.Prelude.{ap, not}
+use Rattle.std.proofs.Common.{ap}
+use Rattle.std.specs.Prelude.{not}
 use Rattle.value.proofs.Tests.{same_or}
 use Rattle.haai.specs.Names.{fresh}
 use Rattle.haai.proofs.Tally.fresh_source.Goals as goal

@@ -1,4 +1,5 @@
-use Rattle.value.specs.Prelude.{ℕ, ap, not, arith}
+use Rattle.std.specs.Prelude.{ℕ, not}
+use Rattle.std.proofs.Common.{ap, arith}
 use Rattle.value.proofs.Tests.{goes, stops}
 use Rattle.haai.specs.Places.{meant_in, parameters_in}
 use Rattle.haai.specs.declared.Meant.TheVariants.{Parameter}

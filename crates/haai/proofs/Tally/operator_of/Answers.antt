@@ -1,5 +1,6 @@
 use Rattle.std.proofs.Common.{rules}
-use Rattle.value.specs.Prelude.{ℕ, ◌+◌, ap, not, arith}
+use Rattle.std.specs.Prelude.{ℕ, ◌+◌, not}
+use Rattle.std.proofs.Common.{ap, arith}
 use Rattle.value.proofs.Tests.{goes, stops, lt!, lt×}
 use Rattle.haai.specs.Word.{among}
 use Rattle.haai.specs.Places.{operator_in, reactors_in}

@@ -1,4 +1,4 @@
-use Rattle.value.specs.Prelude.{refl}
+use Rattle.std.specs.Prelude.{refl}
 use Rattle.haai.proofs.Tally.own_names.Goals as goal
 
 pub returns : goal.returns

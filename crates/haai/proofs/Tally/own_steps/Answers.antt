@@ -1,4 +1,5 @@
-use Rattle.value.specs.Prelude.{refl, sym, ◌∙◌}
+use Rattle.std.specs.Prelude.{refl}
+use Rattle.std.proofs.Common.{sym, ◌∙◌}
 use Rattle.value.proofs.Tests.{yes, no}
 use Rattle.haai.proofs.Tally.own_steps.Goals as goal
 

@@ -1,4 +1,5 @@
-use Rattle.value.specs.Prelude.{ℕ, ◌+◌, refl, ap, not, arith}
+use Rattle.std.specs.Prelude.{ℕ, ◌+◌, refl, not}
+use Rattle.std.proofs.Common.{ap, arith}
 use Rattle.value.proofs.Tests.{goes, stops}
 use Rattle.haai.specs.Places.{global_in, sources_in}
 use Rattle.haai.specs.declared.Meant.TheVariants.{Global}

@@ -1,4 +1,5 @@
-use Rattle.value.specs.Prelude.{refl, sym, ◌∙◌}
+use Rattle.std.specs.Prelude.{refl}
+use Rattle.std.proofs.Common.{sym, ◌∙◌}
 use Rattle.value.proofs.Tests.{same_eq, lt!, lt×, either!, or×, left×, true_and}
 use Rattle.haai.specs.Tables.{callable_in}
 use Rattle.haai.proofs.Kept.{false_or}

@@ -1,4 +1,5 @@
-use Rattle.value.specs.Prelude.{ℕ, ◌∙◌, ap, get_or}
+use Rattle.std.specs.Prelude.{ℕ, get_or}
+use Rattle.std.proofs.Common.{◌∙◌, ap}
 use Rattle.haai.specs.Places.{place_at}
 use Rattle.haai.proofs.Tree.entry.Goals as goal
 

@@ -1,4 +1,4 @@
-use Rattle.value.specs.Prelude.{refl}
+use Rattle.std.specs.Prelude.{refl}
 use Rattle.haai.specs.Tables.{grounded}
 use Rattle.haai.proofs.Tree.ground.Goals as goal
 

@@ -1,4 +1,4 @@
-use Rattle.value.specs.Prelude.{refl}
+use Rattle.std.specs.Prelude.{refl}
 use Rattle.haai.specs.Tables.{levelled}
 use Rattle.haai.proofs.Tree.levelled.Goals as goal
 

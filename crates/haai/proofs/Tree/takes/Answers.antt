@@ -1,4 +1,4 @@
-use Rattle.value.specs.Prelude.{refl}
+use Rattle.std.specs.Prelude.{refl}
 use Rattle.value.proofs.Tests.{yes, no, lt!, lt×}
 use Rattle.haai.specs.Tables.{takes_in}
 use Rattle.haai.proofs.Tree.takes.Goals as goal

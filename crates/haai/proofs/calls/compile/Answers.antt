@@ -1,4 +1,4 @@
-use Rattle.value.specs.Prelude.{sym, ◌∙◌, ap}
+use Rattle.std.proofs.Common.{sym, ◌∙◌, ap}
 use Rattle.haai.specs.Compile.{Compilation}
 use Rattle.haai.specs.Clauses.{compiled}
 use Rattle.haai.proofs.Compiled.{right_goes, wrong_stops}

@@ -1,6 +1,7 @@
 use Rattle.std.proofs.Common.{rules}
 use Rattle.std.proofs.Common.{not}
-use Rattle.value.specs.Prelude.{ℕ, ◌+◌, ◌*◌, sym, ◌∙◌, ap, arith}
+use Rattle.std.specs.Prelude.{ℕ, ◌+◌, ◌*◌}
+use Rattle.std.proofs.Common.{sym, ◌∙◌, ap, arith}
 use Rattle.value.proofs.Tests.{refused, passed}
 use Rattle.haai.specs.Names.{text_of}
 use Rattle.haai.proofs.Compiled.{limit_stops, space_stops, written_whole, limits_found, whole_found}

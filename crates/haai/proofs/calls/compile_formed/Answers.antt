@@ -1,4 +1,4 @@
-use Rattle.value.specs.Prelude.{sym, ◌∙◌}
+use Rattle.std.proofs.Common.{sym, ◌∙◌}
 use Rattle.haai.proofs.Compiled.{clean_goes, fault_stops}
 use Rattle.haai.proofs.calls.compile_formed.Goals as goal
 

@@ -1,4 +1,4 @@
-use Rattle.value.specs.Prelude.{refl}
+use Rattle.std.specs.Prelude.{refl}
 use Rattle.haai.proofs.Compiled.{tables_fit, writable, put_found}
 use Rattle.haai.proofs.calls.put_program.Goals as goal
 

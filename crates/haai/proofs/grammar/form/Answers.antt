@@ -1,4 +1,5 @@
-use Rattle.value.specs.Prelude.{ℕ, ◌≡◌, sym, ◌∙◌, ap, List, arith}
+use Rattle.std.specs.Prelude.{ℕ, ◌≡◌, List}
+use Rattle.std.proofs.Common.{sym, ◌∙◌, ap, arith}
 use Rattle.haai.specs.Word.{word_end, word_start, class_of, bytes_of}
 use Rattle.haai.specs.Grammar.{step_of}
 use Rattle.haai.specs.declared.Reading.{Reading}

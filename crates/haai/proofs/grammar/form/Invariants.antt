@@ -1,4 +1,4 @@
-use Rattle.value.specs.Prelude.{◌-◌, length}
+use Rattle.std.specs.Prelude.{◌-◌, length}
 use Rattle.haai.proofs.Small.{Checking}
 use Rattle.haai.proofs.grammar.form.Given as goal
 

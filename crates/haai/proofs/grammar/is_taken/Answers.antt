@@ -1,5 +1,5 @@
 use Rattle.std.proofs.Common.{rules}
-use Rattle.value.specs.Prelude.{refl}
+use Rattle.std.specs.Prelude.{refl}
 use Rattle.value.proofs.Tests.{same_eq}
 use Rattle.haai.specs.Grammar.{is_taken}
 use Rattle.haai.proofs.grammar.is_taken.Goals as goal

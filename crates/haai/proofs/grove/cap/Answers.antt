@@ -1,4 +1,4 @@
-use Rattle.value.specs.Prelude.{refl}
+use Rattle.std.specs.Prelude.{refl}
 use Rattle.value.proofs.Tests.{yes, no, lt!, lt×}
 use Rattle.haai.specs.Tables.{counted}
 use Rattle.haai.proofs.grove.cap.Goals as goal

@@ -1,4 +1,5 @@
-use Rattle.value.specs.Prelude.{refl, arith}
+use Rattle.std.specs.Prelude.{refl}
+use Rattle.std.proofs.Common.{arith}
 use Rattle.value.proofs.Tests.{no, lt×}
 use Rattle.haai.specs.Tables.{counted}
 use Rattle.haai.proofs.grove.one_more.Goals as goal

@@ -1,4 +1,4 @@
-use Rattle.value.specs.Prelude.{refl}
+use Rattle.std.specs.Prelude.{refl}
 use Rattle.value.proofs.Tests.{yes, no, lt!, lt×}
 use Rattle.haai.specs.Tables.{own_calls}
 use Rattle.haai.proofs.grove.own_calls.Goals as goal

@@ -1,4 +1,5 @@
-use Rattle.value.specs.Prelude.{refl, arith}
+use Rattle.std.specs.Prelude.{refl}
+use Rattle.std.proofs.Common.{arith}
 use Rattle.value.proofs.Tests.{yes, no, lt!, lt×}
 use Rattle.haai.specs.Tables.{counted, own_runs}
 use Rattle.haai.proofs.grove.own_runs.Goals as goal

@@ -1,4 +1,4 @@
-use Rattle.value.specs.Prelude.{sym}
+use Rattle.std.proofs.Common.{sym}
 use lib.Seq.{set_out}
 use Rattle.haai.proofs.grove.put_byte.Goals as goal
 

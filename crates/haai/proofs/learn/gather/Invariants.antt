@@ -1,4 +1,4 @@
-use Rattle.value.specs.Prelude.{◌-◌, length}
+use Rattle.std.specs.Prelude.{◌-◌, length}
 use Rattle.haai.specs.Tables.{kept}
 use Rattle.haai.proofs.Gathering.{Gathering}
 use Rattle.haai.proofs.learn.gather.Given as goal

@@ -1,4 +1,5 @@
-use Rattle.value.specs.Prelude.{ℕ, ◌∙◌, ap, ap₂, Bool}
+use Rattle.std.specs.Prelude.{ℕ, Bool}
+use Rattle.std.proofs.Common.{◌∙◌, ap, ap₂}
 use Rattle.value.proofs.Tests.{same_eq}
 use Rattle.haai.specs.Tables.{takes_in, apply_kept}
 use Rattle.haai.specs.Places.{blamed}

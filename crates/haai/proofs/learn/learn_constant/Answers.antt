@@ -1,4 +1,5 @@
-use Rattle.value.specs.Prelude.{refl, ◌∙◌, ap}
+use Rattle.std.specs.Prelude.{refl}
+use Rattle.std.proofs.Common.{◌∙◌, ap}
 use Rattle.haai.specs.Tables.{whole_grove, constant_kept}
 use Rattle.haai.proofs.Kept.{kept_grove}
 use Rattle.haai.specs.declared.Tree.{Tree}

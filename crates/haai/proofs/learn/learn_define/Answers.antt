@@ -1,4 +1,5 @@
-use Rattle.value.specs.Prelude.{ℕ, ◌∙◌, ap, ap₂, List}
+use Rattle.std.specs.Prelude.{ℕ, List}
+use Rattle.std.proofs.Common.{◌∙◌, ap, ap₂}
 use Rattle.haai.specs.Tables.{defined_table, kept, define_kept}
 use Rattle.haai.specs.declared.Tree.{Tree}
 use Rattle.haai.proofs.learn.learn_define.Goals as goal

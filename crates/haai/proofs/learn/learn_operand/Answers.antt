@@ -1,4 +1,5 @@
-use Rattle.value.specs.Prelude.{◌∙◌, ap, Bool}
+use Rattle.std.proofs.Common.{◌∙◌, ap}
+use Rattle.std.specs.Prelude.{Bool}
 use Rattle.haai.specs.Tables.{spent, whole_grove, operand_kept, fits_operand, is_parameter}
 use Rattle.haai.specs.Places.{blamed}
 use Rattle.haai.proofs.Kept.{kept_grove}

@@ -1,4 +1,5 @@
-use Rattle.value.specs.Prelude.{ℕ, ◌∙◌, ap, Bool}
+use Rattle.std.specs.Prelude.{ℕ, Bool}
+use Rattle.std.proofs.Common.{◌∙◌, ap}
 use Rattle.haai.specs.Tables.{open_grove, callable_in, operator_kept}
 use Rattle.haai.specs.Places.{blamed}
 use Rattle.haai.proofs.Kept.{kept_grove}

@@ -1,4 +1,4 @@
-use Rattle.value.specs.Prelude.{sym}
+use Rattle.std.proofs.Common.{sym}
 use Rattle.value.proofs.Tests.{same_lt}
 use Rattle.haai.specs.Word.{among as amongOf}
 use Rattle.haai.proofs.Placed.{length_names}

@@ -1,4 +1,4 @@
-use Rattle.value.specs.Prelude.{refl}
+use Rattle.std.specs.Prelude.{refl}
 use Rattle.value.proofs.Tests.{same_lt}
 use Rattle.haai.specs.Word.{among}
 use Rattle.haai.proofs.names.is_taken.Goals as goal

@@ -1,5 +1,5 @@
 use Rattle.std.proofs.Common.{rules}
-use Rattle.value.specs.Prelude.{sym}
+use Rattle.std.proofs.Common.{sym}
 use lib.ListN.{get_or-eq_default}
 use Rattle.haai.specs.Places.{place_at}
 use Rattle.haai.proofs.names.place.Goals as goal

@@ -1,4 +1,5 @@
-use Rattle.value.specs.Prelude.{ℕ, sym, ◌∙◌, ap, arith}
+use Rattle.std.specs.Prelude.{ℕ}
+use Rattle.std.proofs.Common.{sym, ◌∙◌, ap, arith}
 use Rattle.haai.specs.Word.{same_word}
 use Rattle.haai.specs.Places.{word_of}
 use Rattle.haai.proofs.Placed.{found_from_start, found_here, found_later, found_nowhere}

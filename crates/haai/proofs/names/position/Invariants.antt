@@ -1,4 +1,4 @@
-use Rattle.value.specs.Prelude.{◌+◌, ◌-◌, ◌≤◌, ◌≡◌}
+use Rattle.std.specs.Prelude.{◌+◌, ◌-◌, ◌≤◌, ◌≡◌}
 use Rattle.haai.specs.Word.{position as position_of}
 use Rattle.haai.specs.Places.{names_at}
 use Rattle.haai.proofs.names.position.Given as goal

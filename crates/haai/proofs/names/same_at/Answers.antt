@@ -1,4 +1,5 @@
-use Rattle.value.specs.Prelude.{ℕ, refl, sym, ◌∙◌, ap, List, arith}
+use Rattle.std.specs.Prelude.{ℕ, refl, List}
+use Rattle.std.proofs.Common.{sym, ◌∙◌, ap, arith}
 use Rattle.value.proofs.Tests.{same_eq}
 use Rattle.haai.specs.Word.{same_word, bytes_of}
 use Rattle.haai.specs.Places.{word_of}

@@ -1,4 +1,4 @@
-use Rattle.value.specs.Prelude.{sym, ◌∙◌, arith}
+use Rattle.std.proofs.Common.{sym, ◌∙◌, arith}
 use Rattle.haai.specs.Tables.{kept}
 use Rattle.haai.proofs.Gathering.{gather_fits, gather_word}
 use Rattle.haai.proofs.Finding.{gather_further, gather_stops}

@@ -1,4 +1,4 @@
-use Rattle.value.specs.Prelude.{◌-◌, length}
+use Rattle.std.specs.Prelude.{◌-◌, length}
 use Rattle.haai.specs.Tables.{kept}
 use Rattle.haai.proofs.Passing.{Passing}
 use Rattle.haai.proofs.pass.lay.Given as goal

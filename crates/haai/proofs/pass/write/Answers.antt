@@ -1,4 +1,4 @@
-use Rattle.value.specs.Prelude.{refl}
+use Rattle.std.specs.Prelude.{refl}
 use Rattle.haai.proofs.pass.write.Goals as goal
 
 pub lay-requires : goal.lay-requires

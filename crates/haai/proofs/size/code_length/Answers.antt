@@ -1,4 +1,4 @@
-use Rattle.value.specs.Prelude.{arith}
+use Rattle.std.proofs.Common.{arith}
 use Rattle.haai.proofs.Sizes.{summed_begins, summed_ends, summed_next}
 use Rattle.haai.proofs.size.code_length.Goals as goal
 

@@ -1,4 +1,4 @@
-use Rattle.value.specs.Prelude.{◌-◌}
+use Rattle.std.specs.Prelude.{◌-◌}
 use Rattle.haai.proofs.Sizes.{Summed}
 use Rattle.haai.proofs.size.code_length.Given as goal
 

@@ -1,4 +1,5 @@
-use Rattle.value.specs.Prelude.{ℕ, ◌+◌, ◌*◌, ◌∙◌, ap, ap₂, [], ◌∷◌, arith}
+use Rattle.std.specs.Prelude.{ℕ, ◌+◌, ◌*◌, [], ◌∷◌}
+use Rattle.std.proofs.Common.{◌∙◌, ap, ap₂, arith}
 use Rattle.image.specs.Memory.{patch}
 use Rattle.haai.proofs.Puts.{rowing_begins, rowing_goes, rowing_ends, entry_row, entry_rows}
 use Rattle.haai.proofs.tables.put_entries.Goals as goal

@@ -1,4 +1,4 @@
-use Rattle.value.specs.Prelude.{◌+◌, ◌-◌, ◌*◌}
+use Rattle.std.specs.Prelude.{◌+◌, ◌-◌, ◌*◌}
 use Rattle.haai.proofs.Puts.{Rowing, entry_row}
 use Rattle.haai.proofs.tables.put_entries.Given as goal
 

@@ -1,4 +1,4 @@
-use Rattle.value.specs.Prelude.{◌∙◌, ap, arith}
+use Rattle.std.proofs.Common.{◌∙◌, ap, arith}
 use Rattle.image.specs.Memory.{patch}
 use Rattle.haai.proofs.Puts.{rowing_begins, rowing_goes, rowing_ends, shape_row, shape_rows, shape_put}
 use Rattle.haai.proofs.tables.put_shapes.Goals as goal

@@ -1,4 +1,5 @@
-use Rattle.value.specs.Prelude.{refl, sym, ◌∙◌, ap, arith}
+use Rattle.std.specs.Prelude.{refl}
+use Rattle.std.proofs.Common.{sym, ◌∙◌, ap, arith}
 use Rattle.image.specs.Memory.{patch}
 use Rattle.haai.proofs.Puts.{patch_nothing, patch_more, rowing_begins, rowing_goes, rowing_ends}
 use Rattle.haai.proofs.Puts.{zero_rows}

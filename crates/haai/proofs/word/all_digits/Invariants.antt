@@ -1,4 +1,4 @@
-use Rattle.value.specs.Prelude.{◌-◌, ◌≡◌, length, drop}
+use Rattle.std.specs.Prelude.{◌-◌, ◌≡◌, length, drop}
 use Rattle.haai.specs.Word.{every, is_digit}
 use Rattle.haai.proofs.word.all_digits.Given as goal
 

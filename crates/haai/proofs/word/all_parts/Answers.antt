@@ -1,5 +1,6 @@
 use Rattle.std.proofs.Common.{not}
-use Rattle.value.specs.Prelude.{refl, sym, ◌∙◌, ap}
+use Rattle.std.specs.Prelude.{refl}
+use Rattle.std.proofs.Common.{sym, ◌∙◌, ap}
 use Rattle.value.proofs.Tests.{passed, refused}
 use Rattle.haai.specs.Clauses.{is_part}
 use Rattle.haai.proofs.Words.{every_found, every_next, every_done}

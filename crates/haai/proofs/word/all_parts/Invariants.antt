@@ -1,4 +1,4 @@
-use Rattle.value.specs.Prelude.{◌-◌, ◌≡◌, length, drop}
+use Rattle.std.specs.Prelude.{◌-◌, ◌≡◌, length, drop}
 use Rattle.haai.specs.Word.{every}
 use Rattle.haai.specs.Clauses.{is_part}
 use Rattle.haai.proofs.word.all_parts.Given as goal

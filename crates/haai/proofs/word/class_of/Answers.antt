@@ -1,4 +1,5 @@
-use Rattle.value.specs.Prelude.{refl, sym, ◌∙◌, ap, not, arith}
+use Rattle.std.specs.Prelude.{refl, not}
+use Rattle.std.proofs.Common.{sym, ◌∙◌, ap, arith}
 use Rattle.value.proofs.Tests.{goes, stops, lt!, lt×}
 use Rattle.haai.specs.Word.{class_of, among}
 use Rattle.haai.specs.Clauses.{named_class}

@@ -1,4 +1,5 @@
-use Rattle.value.specs.Prelude.{refl, sym, ◌∙◌}
+use Rattle.std.specs.Prelude.{refl}
+use Rattle.std.proofs.Common.{sym, ◌∙◌}
 use Rattle.value.proofs.Tests.{yes, no, eq!, eq×}
 use Rattle.haai.specs.Word.{has_minus}
 use Rattle.haai.specs.Clauses.{first_digit}

@@ -1,4 +1,4 @@
-use Rattle.value.specs.Prelude.{refl}
+use Rattle.std.specs.Prelude.{refl}
 use Rattle.value.proofs.Tests.{same_and, same_le}
 use Rattle.haai.specs.Word.{is_letter}
 use Rattle.haai.proofs.word.is_letter.Goals as goal

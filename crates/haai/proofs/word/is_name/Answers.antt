@@ -1,5 +1,5 @@
 use Rattle.std.proofs.Common.{not}
-use Rattle.value.specs.Prelude.{sym, ◌∙◌, ap}
+use Rattle.std.proofs.Common.{sym, ◌∙◌, ap}
 use Rattle.value.proofs.Tests.{left×, true_and, refused, passed, le!, le×}
 use Rattle.haai.specs.Word.{is_name, is_letter}
 use Rattle.haai.specs.Clauses.{is_part}

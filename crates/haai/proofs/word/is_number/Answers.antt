@@ -1,5 +1,6 @@
 use Rattle.std.proofs.Common.{not}
-use Rattle.value.specs.Prelude.{ℕ, refl, sym, ◌∙◌, ap, List, length, arith}
+use Rattle.std.specs.Prelude.{ℕ, refl, List, length}
+use Rattle.std.proofs.Common.{sym, ◌∙◌, ap, arith}
 use lib.ListN.{length-drop}
 use Rattle.value.proofs.Tests.{left×, true_and, refused, passed, lt!, lt×, same_le}
 use Rattle.haai.specs.Word.{is_number, every, is_digit}

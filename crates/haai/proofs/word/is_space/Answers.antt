@@ -1,4 +1,4 @@
-use Rattle.value.specs.Prelude.{refl}
+use Rattle.std.specs.Prelude.{refl}
 use Rattle.value.proofs.Tests.{same_or, same_eq}
 use Rattle.haai.specs.Word.{is_space}
 use Rattle.haai.proofs.word.is_space.Goals as goal

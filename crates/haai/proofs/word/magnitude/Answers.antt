@@ -1,4 +1,5 @@
-use Rattle.value.specs.Prelude.{ℕ, ◌+◌, ◌-◌, ◌*◌, refl, sym, ◌∙◌, ap, arith}
+use Rattle.std.specs.Prelude.{ℕ, ◌+◌, ◌-◌, ◌*◌, refl}
+use Rattle.std.proofs.Common.{sym, ◌∙◌, ap, arith}
 use Rattle.haai.specs.Clauses.{capped}
 use Rattle.haai.proofs.Words.{digit_next, digit_done, capped_le}
 use Rattle.haai.proofs.word.magnitude.Goals as goal

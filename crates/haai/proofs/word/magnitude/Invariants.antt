@@ -1,4 +1,4 @@
-use Rattle.value.specs.Prelude.{◌-◌, ◌≤◌, ◌≡◌, length, drop}
+use Rattle.std.specs.Prelude.{◌-◌, ◌≤◌, ◌≡◌, length, drop}
 use Rattle.haai.specs.Word.{decimal}
 use Rattle.haai.specs.Clauses.{capped, most}
 use Rattle.haai.proofs.word.magnitude.Given as goal

@@ -1,4 +1,5 @@
-use Rattle.value.specs.Prelude.{ℕ, refl, sym, ◌∙◌, ap, not}
+use Rattle.std.specs.Prelude.{ℕ, refl, not}
+use Rattle.std.proofs.Common.{sym, ◌∙◌, ap}
 use Rattle.value.proofs.Sweeps.{sweep_done, sweep_found, sweep_next}
 use Rattle.program.specs.Bytes.{byte}
 use Rattle.haai.specs.Word.{ends_word}

@@ -1,4 +1,4 @@
-use Rattle.value.specs.Prelude.{ℕ, ◌-◌, ◌≡◌, not, length}
+use Rattle.std.specs.Prelude.{ℕ, ◌-◌, ◌≡◌, not, length}
 use Rattle.value.specs.Test.{sweep}
 use Rattle.program.specs.Bytes.{byte}
 use Rattle.haai.specs.Word.{ends_word}

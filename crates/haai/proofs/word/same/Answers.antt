@@ -1,4 +1,5 @@
-use Rattle.value.specs.Prelude.{refl, sym, ◌∙◌, arith}
+use Rattle.std.specs.Prelude.{refl}
+use Rattle.std.proofs.Common.{sym, ◌∙◌, arith}
 use Rattle.haai.proofs.Words.{other_lengths, same_found, same_next, same_done}
 use Rattle.haai.proofs.word.same.Goals as goal
 

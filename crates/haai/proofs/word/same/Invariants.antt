@@ -1,4 +1,4 @@
-use Rattle.value.specs.Prelude.{◌-◌, ◌≡◌, length, drop}
+use Rattle.std.specs.Prelude.{◌-◌, ◌≡◌, length, drop}
 use Rattle.haai.specs.Word.{same_word}
 use Rattle.haai.proofs.word.same.Given as goal
 

@@ -1,4 +1,4 @@
-use Rattle.value.specs.Prelude.{sym, ◌∙◌}
+use Rattle.std.proofs.Common.{sym, ◌∙◌}
 use Rattle.haai.proofs.Words.{position_here, position_next, position_none}
 use Rattle.haai.proofs.word.taken_of.Goals as goal
 

@@ -1,4 +1,5 @@
-use Rattle.value.specs.Prelude.{◌+◌, ◌*◌, ◌∙◌, ap}
+use Rattle.std.specs.Prelude.{◌+◌, ◌*◌}
+use Rattle.std.proofs.Common.{◌∙◌, ap}
 use Rattle.haai.specs.Clauses.{capped}
 use Rattle.haai.proofs.Words.{capped_is, capped-most}
 use Rattle.haai.proofs.word.with_digit.Goals as goal

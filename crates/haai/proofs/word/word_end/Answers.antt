@@ -1,4 +1,5 @@
-use Rattle.value.specs.Prelude.{refl, sym, ◌∙◌, ap, not}
+use Rattle.std.specs.Prelude.{refl, not}
+use Rattle.std.proofs.Common.{sym, ◌∙◌, ap}
 use Rattle.value.proofs.Tests.{goes, stops}
 use Rattle.haai.specs.Word.{word_end, is_bracket}
 use Rattle.haai.specs.Clauses.{plain_end}

@@ -1,5 +1,6 @@
 use Rattle.std.proofs.Common.{not}
-use Rattle.value.specs.Prelude.{ℕ, refl, sym, ◌∙◌, ap}
+use Rattle.std.specs.Prelude.{ℕ, refl}
+use Rattle.std.proofs.Common.{sym, ◌∙◌, ap}
 use Rattle.value.proofs.Tests.{passed, refused}
 use Rattle.value.proofs.Sweeps.{sweep_done, sweep_found, sweep_next}
 use Rattle.program.specs.Bytes.{byte}

@@ -1,4 +1,5 @@
-use Rattle.value.specs.Prelude.{ℕ, ◌+◌, ◌%◌, refl, ◌∙◌, ap₂, get_or}
+use Rattle.std.specs.Prelude.{ℕ, ◌+◌, ◌%◌, refl, get_or}
+use Rattle.std.proofs.Common.{◌∙◌, ap₂}
 use Rattle.value.proofs.Tests.{yes, no, lt!, lt×}
 use Rattle.program.specs.Bytes.{byte}
 use Rattle.program.specs.Command.{gives, primitive}

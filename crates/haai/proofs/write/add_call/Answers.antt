@@ -1,4 +1,5 @@
-use Rattle.value.specs.Prelude.{ℕ, ◌%◌, refl, ◌∙◌, ap, List, set}
+use Rattle.std.specs.Prelude.{ℕ, ◌%◌, refl, List, set}
+use Rattle.std.proofs.Common.{◌∙◌, ap}
 use Rattle.program.specs.Command.{alloc_mono}
 use Rattle.program.specs.Encode.{encode}
 use Rattle.haai.specs.Writing.{put_eight, put_commands, place_d, place_r, call_r, add_call}

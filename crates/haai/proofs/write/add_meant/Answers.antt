@@ -1,4 +1,5 @@
-use Rattle.value.specs.Prelude.{refl, sym, ◌∙◌, ap}
+use Rattle.std.specs.Prelude.{refl}
+use Rattle.std.proofs.Common.{sym, ◌∙◌, ap}
 use Rattle.program.specs.Command.{gives, global}
 use Rattle.program.specs.Encode.{encode, encode_give}
 use Rattle.haai.specs.Writing.{add_give, add_meant}

@@ -1,5 +1,6 @@
 use Rattle.std.proofs.Common.{rules}
-use Rattle.value.specs.Prelude.{ℕ, refl, ◌∙◌, ap}
+use Rattle.std.specs.Prelude.{ℕ, refl}
+use Rattle.std.proofs.Common.{◌∙◌, ap}
 use Rattle.haai.specs.Emit.{sinks_from}
 use Rattle.haai.specs.Writing.{put_commands, place_r, row_of, add_sinks}
 use Rattle.haai.proofs.Puts.{added_same}

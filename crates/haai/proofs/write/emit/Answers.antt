@@ -1,5 +1,6 @@
 use Rattle.std.proofs.Common.{rules}
-use Rattle.value.specs.Prelude.{ℕ, refl, sym, ◌∙◌, ap, ap₂, set}
+use Rattle.std.specs.Prelude.{ℕ, refl, set}
+use Rattle.std.proofs.Common.{sym, ◌∙◌, ap, ap₂}
 use Rattle.program.specs.Command.{gives, constant}
 use Rattle.program.specs.Encode.{encode, encode_give}
 use Rattle.haai.specs.Writing.{location_r, add_give, add_meant, add_sinks, add_operand, add_constant, adds}

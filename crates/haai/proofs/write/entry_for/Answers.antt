@@ -1,4 +1,5 @@
-use Rattle.value.specs.Prelude.{ℕ, ◌+◌, ◌*◌, ap, arith}
+use Rattle.std.specs.Prelude.{ℕ, ◌+◌, ◌*◌}
+use Rattle.std.proofs.Common.{ap, arith}
 use Rattle.haai.specs.Writing.{entry_for}
 use Rattle.haai.proofs.Puts.{few_most}
 use Rattle.haai.proofs.write.entry_for.Goals as goal

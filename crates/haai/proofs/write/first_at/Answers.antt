@@ -1,4 +1,5 @@
-use Rattle.value.specs.Prelude.{◌≡◌, refl, ◌∙◌, ap, arith}
+use Rattle.std.specs.Prelude.{◌≡◌, refl}
+use Rattle.std.proofs.Common.{◌∙◌, ap, arith}
 use Rattle.haai.specs.Writing.{first_at}
 use Rattle.haai.proofs.Puts.{first_more}
 use Rattle.haai.specs.Tables.{row_length}

@@ -1,4 +1,4 @@
-use Rattle.value.specs.Prelude.{◌+◌, ◌-◌, ◌*◌, ◌≤◌, ◌≡◌}
+use Rattle.std.specs.Prelude.{◌+◌, ◌-◌, ◌*◌, ◌≤◌, ◌≡◌}
 use Rattle.haai.specs.Writing.{first_at}
 use Rattle.haai.proofs.write.first_at.Given as goal
 

@@ -1,4 +1,4 @@
-use Rattle.value.specs.Prelude.{◌∙◌, ap}
+use Rattle.std.proofs.Common.{◌∙◌, ap}
 use Rattle.haai.specs.Writing.{entry_for, next_entry}
 use Rattle.haai.proofs.write.next_entry.Goals as goal
 

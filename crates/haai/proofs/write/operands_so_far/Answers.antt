@@ -1,4 +1,4 @@
-use Rattle.value.specs.Prelude.{refl}
+use Rattle.std.specs.Prelude.{refl}
 use Rattle.value.proofs.Tests.{yes, no, eq!, eq×}
 use Rattle.haai.specs.Writing.{operands_so_far}
 use Rattle.haai.proofs.write.operands_so_far.Goals as goal

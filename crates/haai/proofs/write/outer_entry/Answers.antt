@@ -1,4 +1,5 @@
-use Rattle.value.specs.Prelude.{◌-◌, ◌≡◌, refl, ◌∙◌, ap, ap₂, arith}
+use Rattle.std.specs.Prelude.{◌-◌, ◌≡◌, refl}
+use Rattle.std.proofs.Common.{◌∙◌, ap, ap₂, arith}
 use Rattle.value.proofs.Tests.{yes, no, le!, le×}
 use Rattle.haai.specs.Places.{place_at}
 use Rattle.haai.specs.Writing.{entry_for, outer_entry}

@@ -1,4 +1,4 @@
-use Rattle.value.specs.Prelude.{sym, arith}
+use Rattle.std.proofs.Common.{sym, arith}
 use Rattle.haai.proofs.Puts.{eight_unput, eight_parts}
 use Rattle.haai.proofs.write.put_command.Goals as goal
 

@@ -1,4 +1,4 @@
-use Rattle.value.specs.Prelude.{arith}
+use Rattle.std.proofs.Common.{arith}
 use lib.ListN.{length-set}
 use Rattle.haai.proofs.Puts.{patch_four}
 use Rattle.haai.proofs.write.put_four.Goals as goal

@@ -1,4 +1,4 @@
-use Rattle.value.specs.Prelude.{◌-◌}
+use Rattle.std.specs.Prelude.{◌-◌}
 use Rattle.program.specs.Command.{sink}
 use Rattle.haai.proofs.Puts.{Putting}
 use Rattle.haai.proofs.write.put_sinks.Given as goal

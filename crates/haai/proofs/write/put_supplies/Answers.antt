@@ -1,4 +1,5 @@
-use Rattle.value.specs.Prelude.{refl, ◌∙◌, ap}
+use Rattle.std.specs.Prelude.{refl}
+use Rattle.std.proofs.Common.{◌∙◌, ap}
 use Rattle.program.specs.Encode.{encode}
 use Rattle.haai.specs.Writing.{put_commands, row_of}
 use Rattle.haai.proofs.Puts.{supplies_numbered, putting_begins, putting_goes, putting_ends}

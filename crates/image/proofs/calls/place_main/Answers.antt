@@ -1,5 +1,5 @@
 use Rattle.image.proofs.Starts.{main_placed}
-use Rattle.value.specs.Prelude.{◌∙◌}
+use Rattle.std.proofs.Common.{◌∙◌}
 use Rattle.image.proofs.calls.place_main.Goals as goal
 
 pub returns : goal.returns

@@ -1,5 +1,5 @@
 use Rattle.image.specs.Start.{start_by, start_of}
-use Rattle.value.specs.Prelude.{◌∙◌, ap}
+use Rattle.std.proofs.Common.{◌∙◌, ap}
 use Rattle.image.proofs.calls.start.Goals as goal
 
 pub returns : goal.returns

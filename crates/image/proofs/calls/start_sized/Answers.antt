@@ -2,7 +2,7 @@ use Rattle.std.proofs.Common.{not}
 use Rattle.std.proofs.Common.{ap}
 use Rattle.image.proofs.Starts.{legal_least, start_full, start_length, start_ready}
 use Rattle.value.proofs.Tests.{passed, refused}
-use Rattle.value.specs.Prelude.{arith}
+use Rattle.std.proofs.Common.{arith}
 use Rattle.image.proofs.calls.start_sized.Goals as goal
 
 pub returns-then-not-words_legal : goal.returns-then-not-words_legal

@@ -1,6 +1,6 @@
 use Rattle.image.specs.Start.{words_legal}
 use Rattle.value.proofs.Tests.{same_and, same_le}
-use Rattle.value.specs.Prelude.{refl}
+use Rattle.std.specs.Prelude.{refl}
 use Rattle.image.proofs.calls.words_legal.Goals as goal
 
 pub returns : goal.returns

@@ -1,6 +1,7 @@
 use Rattle.std.proofs.Common.{not}
 use Rattle.std.proofs.Common.{ap}
-use Rattle.value.specs.Prelude.{◌-◌, refl, ◌∙◌, arith}
+use Rattle.std.specs.Prelude.{◌-◌, refl}
+use Rattle.std.proofs.Common.{◌∙◌, arith}
 use Rattle.image.proofs.Chains.{chain_ends, chain_next, chain_out, chain_unjoined, chain_unlinked}
 use Rattle.value.proofs.Tests.{passed, refused}
 use Rattle.image.proofs.chain.chain_sound.Goals as goal

@@ -1,4 +1,4 @@
-use Rattle.value.specs.Prelude.{◌+◌, ◌≤◌, ◌≡◌, length, replicate}
+use Rattle.std.specs.Prelude.{◌+◌, ◌≤◌, ◌≡◌, length, replicate}
 use Rattle.image.specs.Memory.{used}
 use Rattle.image.specs.Passes.{chain_from}
 use Rattle.program.specs.Bytes.{reactors}

@@ -1,6 +1,6 @@
 use Rattle.program.specs.Bytes.{byte}
 use Rattle.value.proofs.Tests.{same_and, same_eq}
-use Rattle.value.specs.Prelude.{refl}
+use Rattle.std.specs.Prelude.{refl}
 use Rattle.image.proofs.chain.joins.Goals as goal
 
 pub returns : goal.returns

@@ -1,4 +1,5 @@
-use Rattle.value.specs.Prelude.{ℕ, refl, ◌∙◌, ap, arith}
+use Rattle.std.specs.Prelude.{ℕ, refl}
+use Rattle.std.proofs.Common.{◌∙◌, ap, arith}
 use Rattle.image.specs.Passes.{name, with_table_byte}
 use Rattle.value.proofs.Tests.{lt!, lt×, no, yes}
 use Rattle.image.proofs.children.name.Goals as goal

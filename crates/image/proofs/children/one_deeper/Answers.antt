@@ -1,6 +1,7 @@
 use Rattle.image.specs.Passes.{one_deeper}
 use Rattle.value.proofs.Tests.{le!, le×, no, yes}
-use Rattle.value.specs.Prelude.{refl, arith}
+use Rattle.std.specs.Prelude.{refl}
+use Rattle.std.proofs.Common.{arith}
 use Rattle.image.proofs.children.one_deeper.Goals as goal
 
 pub returns-then-d-le-MOST_DEPTH : goal.returns-then-d-le-MOST_DEPTH

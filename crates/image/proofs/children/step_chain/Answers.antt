@@ -1,4 +1,5 @@
-use Rattle.value.specs.Prelude.{◌-◌, refl, ◌∙◌, arith}
+use Rattle.std.specs.Prelude.{◌-◌, refl}
+use Rattle.std.proofs.Common.{◌∙◌, arith}
 use Rattle.image.proofs.Chains.{members_end, members_next, members_out}
 use Rattle.image.proofs.Lists.{over_done, over_next}
 use Rattle.image.proofs.children.step_chain.Goals as goal

@@ -1,4 +1,4 @@
-use Rattle.value.specs.Prelude.{◌≡◌, length}
+use Rattle.std.specs.Prelude.{◌≡◌, length}
 use Rattle.image.specs.Passes.{members_from, over}
 use Rattle.image.specs.Clauses.{child_step}
 use Rattle.program.specs.Bytes.{reactors}

@@ -1,4 +1,5 @@
-use Rattle.value.specs.Prelude.{refl, ◌∙◌, ap}
+use Rattle.std.specs.Prelude.{refl}
+use Rattle.std.proofs.Common.{◌∙◌, ap}
 use Rattle.image.proofs.Chains.{children_done, children_next}
 use Rattle.image.proofs.Cuts.{by_slot, children_first}
 use Rattle.image.specs.Passes.{named_by, over}

@@ -1,4 +1,4 @@
-use Rattle.value.specs.Prelude.{◌-◌, ◌≡◌, length}
+use Rattle.std.specs.Prelude.{◌-◌, ◌≡◌, length}
 use Rattle.image.specs.Passes.{children_from, children_of, over}
 use Rattle.image.specs.Clauses.{child_step}
 use Rattle.image.proofs.children.step_children.Given as goal

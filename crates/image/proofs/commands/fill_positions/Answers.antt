@@ -1,4 +1,5 @@
-use Rattle.value.specs.Prelude.{◌<◌, sym, ◌∙◌, length, arith}
+use Rattle.std.specs.Prelude.{◌<◌, length}
+use Rattle.std.proofs.Common.{sym, ◌∙◌, arith}
 use Rattle.image.proofs.Positions.{positions_next}
 use Rattle.program.proofs.Places.{commands_first, commands_next}
 use borrow.Author.Count.{below_none}

@@ -1,4 +1,4 @@
-use Rattle.value.specs.Prelude.{ℕ, ◌+◌, ◌-◌, ◌*◌, ◌≤◌, ◌<◌, ◌≡◌, length, get_or}
+use Rattle.std.specs.Prelude.{ℕ, ◌+◌, ◌-◌, ◌*◌, ◌≤◌, ◌<◌, ◌≡◌, length, get_or}
 use Rattle.program.specs.Bytes.{commands_at}
 use Rattle.image.proofs.commands.fill_positions.Given as goal
 

@@ -1,4 +1,5 @@
-use Rattle.value.specs.Prelude.{ℕ, ◌∙◌, ap, get_or}
+use Rattle.std.specs.Prelude.{ℕ, get_or}
+use Rattle.std.proofs.Common.{◌∙◌, ap}
 use Rattle.image.specs.Memory.{word}
 use Rattle.image.proofs.commands.position.Goals as goal
 

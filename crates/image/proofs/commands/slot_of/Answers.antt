@@ -1,7 +1,8 @@
 use Rattle.image.proofs.MadeByBytes.{made_at}
 use Rattle.image.specs.Memory.{reactor}
 use Rattle.program.specs.Location.{command_loc, source_count}
-use Rattle.value.specs.Prelude.{◌≡◌, ◌∙◌, ap, arith}
+use Rattle.std.specs.Prelude.{◌≡◌}
+use Rattle.std.proofs.Common.{◌∙◌, ap, arith}
 use Rattle.image.proofs.commands.slot_of.Goals as goal
 
 pub returns : goal.returns

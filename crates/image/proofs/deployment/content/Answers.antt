@@ -1,5 +1,5 @@
 use Rattle.image.specs.Memory.{content, word}
-use Rattle.value.specs.Prelude.{◌∙◌, ap, arith}
+use Rattle.std.proofs.Common.{◌∙◌, ap, arith}
 use Rattle.image.proofs.deployment.content.Goals as goal
 
 pub returns : goal.returns

@@ -1,7 +1,8 @@
 use Rattle.image.specs.Memory.{deploy}
 use Rattle.image.specs.Clauses.{deploy_fits}
 use Rattle.value.proofs.Tests.{le!, le×, no, yes}
-use Rattle.value.specs.Prelude.{refl, arith}
+use Rattle.std.specs.Prelude.{refl}
+use Rattle.std.proofs.Common.{arith}
 use Rattle.image.proofs.deployment.deploy.Goals as goal
 
 pub returns-then-end-le4294967295 : goal.returns-then-end-le4294967295

@@ -1,5 +1,5 @@
 use Rattle.image.specs.Memory.{mark, word}
-use Rattle.value.specs.Prelude.{◌∙◌, ap}
+use Rattle.std.proofs.Common.{◌∙◌, ap}
 use Rattle.image.proofs.deployment.mark.Goals as goal
 
 pub returns : goal.returns

@@ -1,6 +1,6 @@
 use Rattle.image.specs.Memory.{size_at}
 use Rattle.program.specs.Location.{size_of}
-use Rattle.value.specs.Prelude.{◌∙◌, ap}
+use Rattle.std.proofs.Common.{◌∙◌, ap}
 use Rattle.image.proofs.deployment.size_at.Goals as goal
 
 pub returns : goal.returns

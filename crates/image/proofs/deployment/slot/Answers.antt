@@ -1,4 +1,5 @@
-use Rattle.value.specs.Prelude.{ℕ, ◌∙◌, ap, arith}
+use Rattle.std.specs.Prelude.{ℕ}
+use Rattle.std.proofs.Common.{◌∙◌, ap, arith}
 use Rattle.image.specs.Memory.{slot}
 use Rattle.program.specs.Location.{slot_at}
 use Rattle.image.proofs.deployment.slot.Goals as goal

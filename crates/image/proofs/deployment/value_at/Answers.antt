@@ -1,4 +1,5 @@
-use Rattle.value.specs.Prelude.{ℕ, ◌+◌, ◌∙◌, ap}
+use Rattle.std.specs.Prelude.{ℕ, ◌+◌}
+use Rattle.std.proofs.Common.{◌∙◌, ap}
 use Rattle.image.specs.Memory.{mark, content, value_at, word}
 use Rattle.value.specs.Value.{value}
 use Rattle.image.proofs.deployment.value_at.Goals as goal

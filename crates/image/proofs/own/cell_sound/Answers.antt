@@ -1,6 +1,6 @@
 use Rattle.image.specs.Passes.{slot_sound}
 use Rattle.program.specs.Kind.{legal}
-use Rattle.value.specs.Prelude.{◌∙◌, ap}
+use Rattle.std.proofs.Common.{◌∙◌, ap}
 use Rattle.image.proofs.own.cell_sound.Goals as goal
 
 pub returns : goal.returns

@@ -1,7 +1,7 @@
 use Rattle.program.proofs.Slots.{slot_least}
 use Rattle.image.proofs.Tiles.{clear_same, slots_within}
 use Rattle.value.proofs.Tests.{same_and}
-use Rattle.value.specs.Prelude.{◌∙◌, arith}
+use Rattle.std.proofs.Common.{◌∙◌, arith}
 use Rattle.image.proofs.own.clear_at.Goals as goal
 
 pub overflow_sub-first : goal.overflow_sub-first

@@ -1,5 +1,5 @@
 use Rattle.std.proofs.Common.{not}
-use Rattle.value.specs.Prelude.{sym, ◌∙◌, ap, arith}
+use Rattle.std.proofs.Common.{sym, ◌∙◌, ap, arith}
 use Rattle.image.proofs.Cuts.{by_slot}
 use Rattle.image.specs.Passes.{slot_sound}
 use Rattle.image.specs.Clauses.{command_sound}

@@ -1,4 +1,4 @@
-use Rattle.value.specs.Prelude.{◌-◌, ◌≡◌}
+use Rattle.std.specs.Prelude.{◌-◌, ◌≡◌}
 use Rattle.image.specs.Memory.{reactor}
 use Rattle.image.specs.Clauses.{command_sound}
 use Rattle.program.specs.Bytes.{commands_d}

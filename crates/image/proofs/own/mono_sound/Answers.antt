@@ -1,7 +1,8 @@
 use Rattle.image.proofs.Ands.{and_goes, and_stops}
 use Rattle.image.specs.Passes.{slot_sound}
 use Rattle.value.proofs.Tests.{eq!, eq×, same_and4, same_eq, same_lt}
-use Rattle.value.specs.Prelude.{refl, ◌∙◌, arith}
+use Rattle.std.specs.Prelude.{refl}
+use Rattle.std.proofs.Common.{◌∙◌, arith}
 use Rattle.image.proofs.own.mono_sound.Goals as goal
 
 pub returns-then-mark-ne-DEPLOYMENT : goal.returns-then-mark-ne-DEPLOYMENT

@@ -4,7 +4,7 @@ use Rattle.image.specs.Passes.{own_sound}
 use Rattle.image.specs.Clauses.{command_sound}
 use Rattle.program.specs.Bytes.{commands_d}
 use Rattle.value.proofs.Tests.{eq!, eq×, passed, refused, same_eq}
-use Rattle.value.specs.Prelude.{◌∙◌, ap, arith}
+use Rattle.std.proofs.Common.{◌∙◌, ap, arith}
 use Rattle.image.proofs.own.own_sound.Goals as goal
 
 pub returns-then-wired-ne1 : goal.returns-then-wired-ne1

@@ -1,7 +1,7 @@
 use Rattle.image.proofs.Ands.{and_goes, and_stops}
 use Rattle.image.specs.Passes.{chain_from, slot_sound}
 use Rattle.value.proofs.Tests.{eq!, eq×}
-use Rattle.value.specs.Prelude.{◌∙◌, ap, arith}
+use Rattle.std.proofs.Common.{◌∙◌, ap, arith}
 use Rattle.image.proofs.own.point_sound.Goals as goal
 
 pub returns-then-mark-ne-POINT : goal.returns-then-mark-ne-POINT

@@ -1,6 +1,6 @@
 use Rattle.image.proofs.MadeByBytes.{made_mono, made_point, made_cell, made_other}
 use Rattle.image.specs.Passes.{slot_sound}
-use Rattle.value.specs.Prelude.{◌∙◌, ap}
+use Rattle.std.proofs.Common.{◌∙◌, ap}
 use Rattle.image.proofs.own.slot_sound.Goals as goal
 
 pub returns-then-s-eq-ALLOC_MONO : goal.returns-then-s-eq-ALLOC_MONO

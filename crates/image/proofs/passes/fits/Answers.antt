@@ -1,6 +1,6 @@
 use Rattle.image.specs.Passes.{fits}
 use Rattle.value.proofs.Tests.{same_eq, same_le}
-use Rattle.value.specs.Prelude.{refl}
+use Rattle.std.specs.Prelude.{refl}
 use Rattle.image.proofs.passes.fits.Goals as goal
 
 pub returns-in-Starts : goal.returns-in-Starts

@@ -1,6 +1,7 @@
 use Rattle.std.proofs.Common.{not}
 use Rattle.std.proofs.Common.{ap}
-use Rattle.value.specs.Prelude.{refl, ◌∙◌, arith}
+use Rattle.std.specs.Prelude.{refl}
+use Rattle.std.proofs.Common.{◌∙◌, arith}
 use Rattle.image.proofs.Lists.{lowest_done, lowest_found, lowest_next}
 use Rattle.image.proofs.Tiles.{starts_done}
 use Rattle.value.proofs.Tests.{passed, refused}

@@ -1,4 +1,4 @@
-use Rattle.value.specs.Prelude.{◌-◌, ◌≡◌}
+use Rattle.std.specs.Prelude.{◌-◌, ◌≡◌}
 use Rattle.image.specs.Passes.{fits, lowest}
 use Rattle.image.specs.Clauses.{Tiling, starts_on}
 use Rattle.image.proofs.passes.lowest_unfit.Given as goal

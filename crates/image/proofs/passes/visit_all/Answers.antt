@@ -1,4 +1,5 @@
-use Rattle.value.specs.Prelude.{refl, ◌∙◌, arith}
+use Rattle.std.specs.Prelude.{refl}
+use Rattle.std.proofs.Common.{◌∙◌, arith}
 use Rattle.image.proofs.Lists.{over_done, over_next}
 use Rattle.image.proofs.Tiles.{starts_done}
 use Rattle.image.proofs.passes.visit_all.Goals as goal

@@ -1,4 +1,4 @@
-use Rattle.value.specs.Prelude.{◌-◌, ◌≡◌, length}
+use Rattle.std.specs.Prelude.{◌-◌, ◌≡◌, length}
 use Rattle.image.specs.Passes.{over, visit}
 use Rattle.image.specs.Clauses.{Tiling, starts_on}
 use Rattle.image.proofs.passes.visit_all.Given as goal

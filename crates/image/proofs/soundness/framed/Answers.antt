@@ -3,7 +3,7 @@ use Rattle.std.proofs.Common.{ap}
 use Rattle.image.proofs.Ands.{and_goes, and_stops}
 use Rattle.image.specs.Passes.{framed}
 use Rattle.value.proofs.Tests.{le!, le×, passed, refused}
-use Rattle.value.specs.Prelude.{arith}
+use Rattle.std.proofs.Common.{arith}
 use Rattle.image.proofs.soundness.framed.Goals as goal
 
 pub returns-then-memory-u : goal.returns-then-memory-u

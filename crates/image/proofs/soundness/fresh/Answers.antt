@@ -3,7 +3,8 @@ use Rattle.image.proofs.Cuts.{main_unfresh, main_followed, main_alone}
 use Rattle.program.proofs.Slots.{size_least}
 use Rattle.program.specs.Location.{size_of}
 use Rattle.value.proofs.Tests.{passed, refused, same_and, same_eq}
-use Rattle.value.specs.Prelude.{refl, sym, ◌∙◌, ap, arith}
+use Rattle.std.specs.Prelude.{refl}
+use Rattle.std.proofs.Common.{sym, ◌∙◌, ap, arith}
 use Rattle.image.proofs.soundness.fresh.Goals as goal
 
 pub overflow_sub-size : goal.overflow_sub-size

@@ -1,7 +1,8 @@
 use Rattle.image.specs.Passes.{grown_sound}
 use Rattle.image.specs.declared.Judged.TheVariants.{Unsound}
 use Rattle.value.proofs.Tests.{goes, stops, eq!, eq×}
-use Rattle.value.specs.Prelude.{refl, ◌∙◌, ap, arith}
+use Rattle.std.specs.Prelude.{refl}
+use Rattle.std.proofs.Common.{◌∙◌, ap, arith}
 use Rattle.image.proofs.soundness.grown.Goals as goal
 
 pub returns-then-own-ne0 : goal.returns-then-own-ne0

@@ -1,5 +1,5 @@
 use Rattle.value.proofs.Tests.{same_and, same_eq, same_lt}
-use Rattle.value.specs.Prelude.{refl}
+use Rattle.std.specs.Prelude.{refl}
 use Rattle.image.proofs.soundness.main_first.Goals as goal
 
 pub returns : goal.returns

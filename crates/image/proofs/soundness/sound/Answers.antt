@@ -1,6 +1,7 @@
 -- `at-..` is what is known where that test was made: its result, and that it passed.
 use Rattle.std.proofs.Common.{not}
-use Rattle.value.specs.Prelude.{ℕ, sym, ◌∙◌, ap}
+use Rattle.std.specs.Prelude.{ℕ}
+use Rattle.std.proofs.Common.{sym, ◌∙◌, ap}
 use Rattle.image.proofs.Cuts.{framed_tiling, unframed, chained, fresh_judged, grown_judged}
 use Rattle.image.specs.Clauses.{starts_on}
 use Rattle.image.specs.Memory.{main_at}

@@ -1,5 +1,7 @@
 use Rattle.std.proofs.Common.{not}
-use Rattle.value.specs.Prelude.{ℕ, refl, ◌∙◌, ap, false≢true, List}
+use Rattle.std.specs.Prelude.{ℕ, refl, List}
+use Rattle.std.proofs.Common.{◌∙◌, ap}
+use Rattle.std.proofs.lemmas.Bool.{false≢true}
 use Rattle.image.specs.Memory.{main_at}
 use Rattle.image.specs.Passes.{with_table_byte}
 use Rattle.value.proofs.Tests.{passed}

@@ -1,7 +1,8 @@
 use Rattle.image.proofs.Tiles.{clear_same, slots_within}
 use Rattle.image.specs.Memory.{reactor}
 use Rattle.value.proofs.Tests.{same_and}
-use Rattle.value.specs.Prelude.{refl, ◌∙◌, arith}
+use Rattle.std.specs.Prelude.{refl}
+use Rattle.std.proofs.Common.{◌∙◌, arith}
 use Rattle.image.proofs.sweep.clear_by.Goals as goal
 
 pub overflow_sub-size : goal.overflow_sub-size

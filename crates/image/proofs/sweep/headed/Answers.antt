@@ -1,5 +1,5 @@
 use Rattle.image.proofs.Merging.{headed_by}
-use Rattle.value.specs.Prelude.{false≢true}
+use Rattle.std.proofs.lemmas.Bool.{false≢true}
 use Rattle.image.proofs.sweep.headed.Goals as goal
 
 pub returns-then-t : goal.returns-then-t

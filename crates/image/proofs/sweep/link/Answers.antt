@@ -2,7 +2,9 @@ use Rattle.std.proofs.Common.{not}
 use Rattle.std.proofs.Common.{ap}
 use Rattle.image.proofs.Merging.{sweeps_link}
 use Rattle.value.proofs.Tests.{both?, lt?, same_and3, same_lt, passed}
-use Rattle.value.specs.Prelude.{refl, false≢true, arith}
+use Rattle.std.specs.Prelude.{refl}
+use Rattle.std.proofs.lemmas.Bool.{false≢true}
+use Rattle.std.proofs.Common.{arith}
 use Rattle.image.proofs.sweep.link.Goals as goal
 
 pub returns-then-not-o-c : goal.returns-then-not-o-c

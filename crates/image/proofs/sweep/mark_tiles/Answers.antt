@@ -1,4 +1,6 @@
-use Rattle.value.specs.Prelude.{ℕ, ◌≡◌, refl, sym, ◌∙◌, ap, false≢true, List, arith}
+use Rattle.std.specs.Prelude.{ℕ, ◌≡◌, refl, List}
+use Rattle.std.proofs.Common.{sym, ◌∙◌, ap, arith}
+use Rattle.std.proofs.lemmas.Bool.{false≢true}
 use Rattle.image.proofs.Lists.{over_done, over_next}
 use Rattle.image.proofs.Tiles.{starts_done, starts_next, tiles_done, tiles_next}
 use Rattle.image.specs.Memory.{size_at}

@@ -1,4 +1,4 @@
-use Rattle.value.specs.Prelude.{ℕ, ◌-◌, ◌≡◌, List, length}
+use Rattle.std.specs.Prelude.{ℕ, ◌-◌, ◌≡◌, List, length}
 use Rattle.image.specs.Clauses.{starts_on}
 use Rattle.image.specs.Passes.{over, tiles_from, visit}
 use Rattle.image.specs.declared.Pass.TheVariants.{Starts}

@@ -1,4 +1,4 @@
-use Rattle.value.specs.Prelude.{sym}
+use Rattle.std.proofs.Common.{sym}
 use Rattle.image.proofs.sweep.sound_by.Goals as goal
 
 pub returns-then-surely_sound : goal.returns-then-surely_sound

@@ -1,6 +1,7 @@
 use Rattle.image.proofs.Merging.{grown_sound_lem, rest_none}
 use Rattle.value.proofs.Tests.{both?, flags}
-use Rattle.value.specs.Prelude.{sym, ◌∙◌, false≢true}
+use Rattle.std.proofs.Common.{sym, ◌∙◌}
+use Rattle.std.proofs.lemmas.Bool.{false≢true}
 use Rattle.image.proofs.sweep.surely_sound.Goals as goal
 
 pub returns-then-n-u : goal.returns-then-n-u

@@ -1,6 +1,8 @@
 use Rattle.std.proofs.Common.{not}
 use Rattle.std.proofs.Common.{ap}
-use Rattle.value.specs.Prelude.{ℕ, ◌+◌, ◌<◌, ◌≡◌, refl, sym, ◌∙◌, false≢true, List, arith}
+use Rattle.std.specs.Prelude.{ℕ, ◌+◌, ◌<◌, ◌≡◌, refl, List}
+use Rattle.std.proofs.Common.{sym, ◌∙◌, arith}
+use Rattle.std.proofs.lemmas.Bool.{false≢true}
 use Rattle.image.proofs.Merging.{swept_none, swept_next}
 use Rattle.image.proofs.Tiles.{follows, starts_done}
 use Rattle.image.specs.Clauses.{Tiling, Follows}

@@ -1,4 +1,4 @@
-use Rattle.value.specs.Prelude.{ℕ, ◌-◌, ◌≡◌, List, length}
+use Rattle.std.specs.Prelude.{ℕ, ◌-◌, ◌≡◌, List, length}
 use Rattle.image.specs.Clauses.{Tiling, starts_on, Swept}
 use Rattle.image.proofs.sweep.sweep_all.Given as goal
 

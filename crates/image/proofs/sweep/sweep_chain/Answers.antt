@@ -1,6 +1,8 @@
 use Rattle.std.proofs.Common.{not}
 use Rattle.std.proofs.Common.{ap}
-use Rattle.value.specs.Prelude.{refl, sym, ◌∙◌, false≢true, arith}
+use Rattle.std.specs.Prelude.{refl}
+use Rattle.std.proofs.Common.{sym, ◌∙◌, arith}
+use Rattle.std.proofs.lemmas.Bool.{false≢true}
 use Rattle.image.proofs.Merging.{placed_later}
 use Rattle.image.proofs.Sweeping.{chain_swept, chain_further}
 use Rattle.value.proofs.Tests.{passed, lt?, same_lt}

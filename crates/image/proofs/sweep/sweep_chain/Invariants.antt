@@ -1,4 +1,4 @@
-use Rattle.value.specs.Prelude.{ℕ, ◌+◌, ◌≤◌, ◌≡◌, List, length, replicate}
+use Rattle.std.specs.Prelude.{ℕ, ◌+◌, ◌≤◌, ◌≡◌, List, length, replicate}
 use Rattle.image.specs.Memory.{used}
 use Rattle.image.specs.Clauses.{Placed, Sweeps}
 use Rattle.image.specs.Passes.{chain_from, members_from}

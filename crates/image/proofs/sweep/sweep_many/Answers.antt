@@ -2,7 +2,9 @@ use Rattle.std.proofs.Common.{not}
 use Rattle.std.proofs.Common.{ap}
 use Rattle.image.proofs.Merging.{swept_grown}
 use Rattle.value.proofs.Tests.{passed}
-use Rattle.value.specs.Prelude.{refl, false≢true, arith}
+use Rattle.std.specs.Prelude.{refl}
+use Rattle.std.proofs.lemmas.Bool.{false≢true}
+use Rattle.std.proofs.Common.{arith}
 use Rattle.image.proofs.sweep.sweep_many.Goals as goal
 
 pub returns-then-not-headed : goal.returns-then-not-headed

@@ -2,7 +2,9 @@ use Rattle.std.proofs.Common.{not}
 use Rattle.std.proofs.Common.{ap}
 use Rattle.image.proofs.Sweeping.{pair_mark, pair_content, mono_swept}
 use Rattle.value.proofs.Tests.{passed, same_and, same_eq}
-use Rattle.value.specs.Prelude.{refl, sym, ◌∙◌, false≢true}
+use Rattle.std.specs.Prelude.{refl}
+use Rattle.std.proofs.Common.{sym, ◌∙◌}
+use Rattle.std.proofs.lemmas.Bool.{false≢true}
 use Rattle.image.proofs.sweep.sweep_mono.Goals as goal
 
 pub returns-then-v-ne-DEPLOYMENT : goal.returns-then-v-ne-DEPLOYMENT

@@ -2,7 +2,8 @@ use Rattle.std.proofs.Common.{not}
 use Rattle.std.proofs.Common.{ap}
 use Rattle.image.proofs.Sweeping.{placed_here, placed_there, own_swept}
 use Rattle.value.proofs.Tests.{passed}
-use Rattle.value.specs.Prelude.{sym, ◌∙◌, false≢true, arith}
+use Rattle.std.proofs.Common.{sym, ◌∙◌, arith}
+use Rattle.std.proofs.lemmas.Bool.{false≢true}
 use Rattle.image.proofs.sweep.sweep_one.Goals as goal
 
 pub returns-then-k : goal.returns-then-k

@@ -1,6 +1,6 @@
 use Rattle.image.proofs.MadeByBytes.{made_mono, made_point, made_cell}
 use Rattle.image.proofs.Sweeping.{pair_value, cell_swept, by_made, by_none}
-use Rattle.value.specs.Prelude.{sym, ◌∙◌}
+use Rattle.std.proofs.Common.{sym, ◌∙◌}
 use Rattle.image.proofs.sweep.sweep_slot.Goals as goal
 
 pub returns-then-code-eq-ALLOC_MONO : goal.returns-then-code-eq-ALLOC_MONO

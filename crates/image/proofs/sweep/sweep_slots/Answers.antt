@@ -1,6 +1,8 @@
 use Rattle.std.proofs.Common.{not}
 use Rattle.std.proofs.Common.{ap}
-use Rattle.value.specs.Prelude.{refl, false≢true, arith}
+use Rattle.std.specs.Prelude.{refl}
+use Rattle.std.proofs.lemmas.Bool.{false≢true}
+use Rattle.std.proofs.Common.{arith}
 use Rattle.image.proofs.MadeByBytes.{made_at}
 use Rattle.image.proofs.Merging.{placed_later}
 use Rattle.image.proofs.Sweeping.{slot_in_row, slots_swept, slots_further, slots_all}

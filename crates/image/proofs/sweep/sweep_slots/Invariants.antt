@@ -1,4 +1,4 @@
-use Rattle.value.specs.Prelude.{ℕ, ◌-◌, ◌≤◌, ◌≡◌, List, length}
+use Rattle.std.specs.Prelude.{ℕ, ◌-◌, ◌≤◌, ◌≡◌, List, length}
 use Rattle.image.specs.Clauses.{command_sound, Placed, Sweeps, SlotsSwept}
 use Rattle.image.specs.Passes.{children_from}
 use Rattle.value.specs.Test.{◌=?◌, sweep}

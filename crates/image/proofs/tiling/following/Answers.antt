@@ -1,4 +1,5 @@
-use Rattle.value.specs.Prelude.{◌+◌, arith}
+use Rattle.std.specs.Prelude.{◌+◌}
+use Rattle.std.proofs.Common.{arith}
 use Rattle.image.proofs.Tiles.{follows}
 use Rattle.image.proofs.tiling.following.Goals as goal
 

@@ -1,4 +1,5 @@
-use Rattle.value.specs.Prelude.{refl, ◌∙◌, ap, arith}
+use Rattle.std.specs.Prelude.{refl}
+use Rattle.std.proofs.Common.{◌∙◌, ap, arith}
 use Rattle.image.proofs.Tiles.{grows, tiles_beyond, tiles_done, tiles_next, tiles_not_reactor}
 use Rattle.image.specs.Passes.{tiles_from}
 use Rattle.value.specs.Test.{◌=?◌}

@@ -1,4 +1,4 @@
-use Rattle.value.specs.Prelude.{◌-◌, ◌≡◌, length}
+use Rattle.std.specs.Prelude.{◌-◌, ◌≡◌, length}
 use Rattle.image.specs.Passes.{tiles_from}
 use Rattle.image.proofs.tiling.tiles.Given as goal
 

@@ -1,6 +1,6 @@
 use Rattle.image.specs.Memory.{word}
 use Rattle.value.specs.Value.{value}
-use Rattle.value.specs.Prelude.{sym, ◌∙◌, ap}
+use Rattle.std.proofs.Common.{sym, ◌∙◌, ap}
 use lib.ListN.{get_or-eq_default}
 use Rattle.image.proofs.words.pair.Goals as goal
 

@@ -1,5 +1,5 @@
 use Rattle.image.specs.Memory.{word}
-use Rattle.value.specs.Prelude.{refl}
+use Rattle.std.specs.Prelude.{refl}
 use Rattle.image.proofs.words.pair_within.Goals as goal
 
 pub returns : goal.returns

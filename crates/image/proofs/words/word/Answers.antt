@@ -1,6 +1,6 @@
 use Rattle.std.proofs.Common.{rules}
 use Rattle.image.specs.Memory.{word}
-use Rattle.value.specs.Prelude.{sym}
+use Rattle.std.proofs.Common.{sym}
 use lib.ListN.{get_or-eq_default}
 use Rattle.image.proofs.words.word.Goals as goal
 

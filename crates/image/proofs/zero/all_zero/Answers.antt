@@ -1,4 +1,5 @@
-use Rattle.value.specs.Prelude.{◌∙◌, get_or, arith}
+use Rattle.std.proofs.Common.{◌∙◌, arith}
+use Rattle.std.specs.Prelude.{get_or}
 use Rattle.image.proofs.Zeros.{zero_done, zero_first, zero_next}
 use Rattle.value.specs.Test.{◌=?◌}
 use lib.Bits.{or_lt}

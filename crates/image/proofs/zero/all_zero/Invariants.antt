@@ -1,4 +1,4 @@
-use Rattle.value.specs.Prelude.{◌-◌, ◌^◌, ◌≤◌, ◌<◌, ◌≡◌, length}
+use Rattle.std.specs.Prelude.{◌-◌, ◌^◌, ◌≤◌, ◌<◌, ◌≡◌, length}
 use Rattle.image.proofs.Zeros.{zero_from}
 use Rattle.image.specs.Memory.{all_zero}
 use Rattle.image.proofs.zero.all_zero.Given as goal

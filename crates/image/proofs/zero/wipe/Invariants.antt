@@ -1,4 +1,4 @@
-use Rattle.value.specs.Prelude.{◌-◌, ◌≤◌, ◌≡◌, ◌++◌, length, drop, replicate}
+use Rattle.std.specs.Prelude.{◌-◌, ◌≤◌, ◌≡◌, ◌++◌, length, drop, replicate}
 use Rattle.image.proofs.zero.wipe.Given as goal
 
 abbrev pub invariant-loop-i : goal.invariant-loop-i

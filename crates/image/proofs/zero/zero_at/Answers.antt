@@ -1,4 +1,5 @@
-use Rattle.value.specs.Prelude.{◌+◌, ◌-◌, ◌∙◌, length, arith}
+use Rattle.std.specs.Prelude.{◌+◌, ◌-◌, length}
+use Rattle.std.proofs.Common.{◌∙◌, arith}
 use Rattle.image.proofs.Zeros.{zero_part, zero_past, zero_rest}
 use Rattle.image.proofs.zero.zero_at.Goals as goal
 

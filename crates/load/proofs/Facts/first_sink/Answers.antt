@@ -1,4 +1,4 @@
-use Rattle.value.specs.Prelude.{arith}
+use Rattle.std.proofs.Common.{arith}
 use Rattle.load.proofs.Facts.first_sink.Goals as goal
 
 pub returns : goal.returns

@@ -1,7 +1,8 @@
 use Rattle.load.proofs.Loops.{run_done, run_refused, run_start, run_taken}
 use Rattle.load.specs.Clauses.{state}
 use Rattle.program.specs.Bytes.{commands_in}
-use Rattle.value.specs.Prelude.{sym, ◌∙◌, true≢false, false≢true, arith}
+use Rattle.std.proofs.Common.{sym, ◌∙◌, true≢false, arith}
+use Rattle.std.proofs.lemmas.Bool.{false≢true}
 use Rattle.load.proofs.Progress.run_d.Goals as goal
 
 pub loop-left-init : goal.loop-left-init

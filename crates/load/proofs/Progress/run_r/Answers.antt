@@ -1,4 +1,6 @@
-use Rattle.value.specs.Prelude.{◌+◌, ◌-◌, ◌≤◌, ◌≡◌, sym, ◌∙◌, ap, true≢false, false≢true, arith}
+use Rattle.std.specs.Prelude.{◌+◌, ◌-◌, ◌≤◌, ◌≡◌}
+use Rattle.std.proofs.Common.{sym, ◌∙◌, ap, true≢false, arith}
+use Rattle.std.proofs.lemmas.Bool.{false≢true}
 use Rattle.load.proofs.Loops.{none_yet, one_more, run_done, run_refused, run_start, run_taken}
 use Rattle.load.specs.Clauses.{state}
 use Rattle.load.specs.Scan.{kind_at, standing_at}

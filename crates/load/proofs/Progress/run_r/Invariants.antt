@@ -1,4 +1,4 @@
-use Rattle.value.specs.Prelude.{◌-◌, ◌≡◌}
+use Rattle.std.specs.Prelude.{◌-◌, ◌≡◌}
 use Rattle.load.proofs.Loops.{Running}
 use Rattle.load.specs.Clauses.{state}
 use Rattle.program.specs.Location.{results}

@@ -1,4 +1,5 @@
-use Rattle.value.specs.Prelude.{ℕ, ◌+◌, ◌≡◌, sym, ◌∙◌, ap, true, arith}
+use Rattle.std.specs.Prelude.{ℕ, ◌+◌, ◌≡◌, true}
+use Rattle.std.proofs.Common.{sym, ◌∙◌, ap, arith}
 use Rattle.load.proofs.Sequence.{step_refused, step_taken}
 use Rattle.load.proofs.Stands.{advanced}
 use Rattle.load.specs.Clauses.{state}

@@ -1,5 +1,6 @@
 use Rattle.std.proofs.Common.{not}
-use Rattle.value.specs.Prelude.{ℕ, ◌+◌, ◌≡◌, refl, sym, ◌∙◌, ap, subst, true, false, true≢false, arith}
+use Rattle.std.specs.Prelude.{ℕ, ◌+◌, ◌≡◌, refl, true, false}
+use Rattle.std.proofs.Common.{sym, ◌∙◌, ap, subst, true≢false, arith}
 use Rattle.load.proofs.Sequence.{step_refused, step_taken}
 use Rattle.load.proofs.Stands.{advanced}
 use Rattle.load.specs.Clauses.{Stepped, state}

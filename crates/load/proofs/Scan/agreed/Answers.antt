@@ -1,4 +1,5 @@
-use Rattle.value.specs.Prelude.{ℕ, ◌+◌, ◌≡◌, refl, ap, true, arith}
+use Rattle.std.specs.Prelude.{ℕ, ◌+◌, ◌≡◌, refl, true}
+use Rattle.std.proofs.Common.{ap, arith}
 use Rattle.load.specs.Scan.{agreed}
 use Rattle.program.proofs.Decode.{as_consume, as_keep, as_poly, as_primitive, as_sink, as_supply, by_code}
 use Rattle.program.specs.Command.{Cmd}

@@ -3,7 +3,8 @@ use Rattle.program.proofs.Decode.{as_consume, as_keep, as_mono, as_poly, as_reac
 use Rattle.program.specs.Command.{Cmd}
 use Rattle.value.proofs.Tests.{same_eq, same_lt}
 use Rattle.value.specs.Test.{need}
-use Rattle.value.specs.Prelude.{◌≡◌, refl, ◌∙◌, ap, Bool, arith}
+use Rattle.std.specs.Prelude.{◌≡◌, refl, Bool}
+use Rattle.std.proofs.Common.{◌∙◌, ap, arith}
 use Rattle.load.proofs.Scan.disorder.Goals as goal
 
 pub returns-in-1 : goal.returns-in-1

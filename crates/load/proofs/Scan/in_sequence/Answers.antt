@@ -1,4 +1,5 @@
-use Rattle.value.specs.Prelude.{◌<◌, ◌≡◌, refl, ap, inl, inr, ⊎_elim, not, arith}
+use Rattle.std.specs.Prelude.{◌<◌, ◌≡◌, refl, not}
+use Rattle.std.proofs.Common.{ap, inl, inr, ⊎_elim, arith}
 use Rattle.load.specs.Scan.{in_sequence}
 use Rattle.program.proofs.Decode.{as_cell, as_none, by_code}
 use Rattle.program.specs.Bytes.{commands_d}

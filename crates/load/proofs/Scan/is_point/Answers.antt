@@ -1,6 +1,6 @@
 use Rattle.load.specs.Scan.{is_point}
 use Rattle.value.proofs.Tests.{same_and, same_le}
-use Rattle.value.specs.Prelude.{refl}
+use Rattle.std.specs.Prelude.{refl}
 use Rattle.load.proofs.Scan.is_point.Goals as goal
 
 pub returns : goal.returns

@@ -1,4 +1,5 @@
-use Rattle.value.specs.Prelude.{ℕ, ◌/◌, ◌%◌, ◌^◌, ◌∙◌, ap}
+use Rattle.std.specs.Prelude.{ℕ, ◌/◌, ◌%◌, ◌^◌}
+use Rattle.std.proofs.Common.{◌∙◌, ap}
 use Rattle.load.specs.Scan.{is_supplied}
 use Rattle.value.specs.Test.{◌=?◌}
 use Rattle.load.proofs.Scan.is_supplied.Goals as goal

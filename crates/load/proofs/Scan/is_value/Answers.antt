@@ -1,6 +1,6 @@
 use Rattle.load.specs.Scan.{is_value}
 use Rattle.value.proofs.Tests.{same_eq}
-use Rattle.value.specs.Prelude.{refl}
+use Rattle.std.specs.Prelude.{refl}
 use Rattle.load.proofs.Scan.is_value.Goals as goal
 
 pub returns : goal.returns

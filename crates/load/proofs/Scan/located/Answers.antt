@@ -1,4 +1,5 @@
-use Rattle.value.specs.Prelude.{◌<◌, ◌≡◌, refl, ⊎_elim, true, arith}
+use Rattle.std.specs.Prelude.{◌<◌, ◌≡◌, refl, true}
+use Rattle.std.proofs.Common.{⊎_elim, arith}
 use Rattle.load.specs.Scan.{located}
 use Rattle.program.proofs.Decode.{as_fetch, as_keep, as_poly, as_primitive, as_sink, as_supply, by_code}
 use Rattle.program.specs.Command.{Cmd}

@@ -1,6 +1,6 @@
 use Rattle.load.specs.Scan.{located}
 use Rattle.value.proofs.Tests.{same_and3, same_lt, same_or}
-use Rattle.value.specs.Prelude.{refl}
+use Rattle.std.specs.Prelude.{refl}
 use Rattle.load.proofs.Scan.operands_located.Goals as goal
 
 pub returns : goal.returns

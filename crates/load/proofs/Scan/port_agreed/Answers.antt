@@ -1,7 +1,8 @@
 use Rattle.load.specs.Scan.{agreed}
 use Rattle.program.specs.Bytes.{sinks_in}
 use Rattle.value.proofs.Tests.{same_lt}
-use Rattle.value.specs.Prelude.{refl, ◌∙◌, ap}
+use Rattle.std.specs.Prelude.{refl}
+use Rattle.std.proofs.Common.{◌∙◌, ap}
 use Rattle.load.proofs.Scan.port_agreed.Goals as goal
 
 pub returns : goal.returns

@@ -1,4 +1,5 @@
-use Rattle.value.specs.Prelude.{ℕ, refl, ◌∙◌, ap, Bool, arith}
+use Rattle.std.specs.Prelude.{ℕ, refl, Bool}
+use Rattle.std.proofs.Common.{◌∙◌, ap, arith}
 use Rattle.load.specs.Scan.{disorder, ready_at, standing_at}
 use Rattle.program.specs.Bytes.{sources_in}
 use Rattle.value.proofs.Tests.{yes, no, le!, le×}

@@ -3,7 +3,7 @@ use Rattle.std.proofs.Common.{not}
 use Rattle.std.proofs.Common.{ap}
 use Rattle.load.specs.Scan.{refusal_of}
 use Rattle.value.proofs.Tests.{no, passed, refused, yes}
-use Rattle.value.specs.Prelude.{refl}
+use Rattle.std.specs.Prelude.{refl}
 use Rattle.load.proofs.Scan.refuse.Goals as goal
 
 pub returns-then-not-in_sequence : goal.returns-then-not-in_sequence

@@ -1,4 +1,5 @@
-use Rattle.value.specs.Prelude.{ℕ, refl, ◌∙◌, ap}
+use Rattle.std.specs.Prelude.{ℕ, refl}
+use Rattle.std.proofs.Common.{◌∙◌, ap}
 use Rattle.load.specs.Scan.{agreed}
 use Rattle.program.specs.Bytes.{sink_kind}
 use Rattle.value.proofs.Tests.{same_and, same_eq, same_lt}

@@ -1,7 +1,8 @@
 use Rattle.load.specs.Scan.{disorder, standing_at}
 use Rattle.value.proofs.Tests.{same_eq}
 use Rattle.value.specs.Test.{need}
-use Rattle.value.specs.Prelude.{refl, ◌∙◌, ap, Bool}
+use Rattle.std.specs.Prelude.{refl, Bool}
+use Rattle.std.proofs.Common.{◌∙◌, ap}
 use Rattle.load.proofs.Scan.sink_disorder.Goals as goal
 
 pub returns : goal.returns

@@ -1,7 +1,7 @@
 use Rattle.std.proofs.Common.{rules}
 use Rattle.load.proofs.Stands.{past_table}
 use Rattle.load.specs.Scan.{standing_at}
-use Rattle.value.specs.Prelude.{refl}
+use Rattle.std.specs.Prelude.{refl}
 use Rattle.load.proofs.Scan.standing_at.Goals as goal
 
 pub returns-then-l-lt-MOST_LOCATIONS : goal.returns-then-l-lt-MOST_LOCATIONS

@@ -1,7 +1,8 @@
 use Rattle.load.specs.Scan.{disorder}
 use Rattle.value.proofs.Tests.{yes, no, le!, le×}
 use Rattle.value.specs.Test.{need}
-use Rattle.value.specs.Prelude.{refl, ◌∙◌, ap, Bool, not, arith}
+use Rattle.std.specs.Prelude.{refl, Bool, not}
+use Rattle.std.proofs.Common.{◌∙◌, ap, arith}
 use Rattle.load.proofs.Scan.supply_disorder.Goals as goal
 
 pub returns-then-standing_at-lt-WAITING : goal.returns-then-standing_at-lt-WAITING

@@ -1,4 +1,5 @@
-use Rattle.value.specs.Prelude.{◌≡◌, refl, arith}
+use Rattle.std.specs.Prelude.{◌≡◌, refl}
+use Rattle.std.proofs.Common.{arith}
 use Rattle.load.specs.Refusal.{at_command}
 use Rattle.value.proofs.Tests.{eq×, no}
 use Rattle.value.specs.Test.{pick, ◌=?◌}

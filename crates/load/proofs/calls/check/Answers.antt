@@ -4,7 +4,8 @@ use Rattle.answer.specs.Answer.{number_of}
 use Rattle.answer.specs.declared.Answer.TheVariants.{Done}
 use Rattle.program.specs.Bytes.{main_of}
 use Rattle.program.specs.Location.{size_of}
-use Rattle.value.specs.Prelude.{refl, sym, ◌∙◌, ap, arith}
+use Rattle.std.specs.Prelude.{refl}
+use Rattle.std.proofs.Common.{sym, ◌∙◌, ap, arith}
 use Rattle.load.proofs.calls.check.Goals as goal
 
 pub returns-in-Fine : goal.returns-in-Fine

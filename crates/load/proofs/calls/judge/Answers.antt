@@ -1,5 +1,6 @@
 use Rattle.std.proofs.Common.{not}
-use Rattle.value.specs.Prelude.{ℕ, refl, sym, ◌∙◌, ap, arith}
+use Rattle.std.specs.Prelude.{ℕ, refl}
+use Rattle.std.proofs.Common.{sym, ◌∙◌, ap, arith}
 use Rattle.load.proofs.TableBytes.{few_reactors, legal_tables, some_reactor}
 use Rattle.load.proofs.Loops.{not_fine}
 use Rattle.load.specs.Check.{check_of, checked}

@@ -1,5 +1,6 @@
 use Rattle.std.proofs.Common.{not}
-use Rattle.value.specs.Prelude.{ℕ, ◌+◌, ◌≡◌, refl, sym, ◌∙◌, ap, arith}
+use Rattle.std.specs.Prelude.{ℕ, ◌+◌, ◌≡◌, refl}
+use Rattle.std.proofs.Common.{sym, ◌∙◌, ap, arith}
 use Rattle.load.proofs.Loops.{not_fine, reactor_missing, reactor_refused, reactor_taken, reactors_done}
 use Rattle.load.specs.Check.{accepted, checked, reactors_of}
 use Rattle.load.specs.Scan.{standing_at}

@@ -1,4 +1,4 @@
-use Rattle.value.specs.Prelude.{◌-◌, ◌≤◌, ◌≡◌}
+use Rattle.std.specs.Prelude.{◌-◌, ◌≤◌, ◌≡◌}
 use Rattle.load.specs.Check.{accepted, reactors_of}
 use Rattle.program.proofs.Known.{Upto}
 use Rattle.program.specs.Bytes.{commands_at, reactors}

@@ -1,4 +1,5 @@
-use Rattle.value.specs.Prelude.{ℕ, ◌∙◌, ap}
+use Rattle.std.specs.Prelude.{ℕ}
+use Rattle.std.proofs.Common.{◌∙◌, ap}
 use Rattle.load.specs.Refusal.{at_command}
 use Rattle.load.specs.Scan.{refusal_of}
 use Rattle.program.specs.Command.{decode}

@@ -1,4 +1,5 @@
-use Rattle.value.specs.Prelude.{ℕ, ◌+◌, refl, ◌∙◌, ap}
+use Rattle.std.specs.Prelude.{ℕ, ◌+◌, refl}
+use Rattle.std.proofs.Common.{◌∙◌, ap}
 use Rattle.load.proofs.Conditions.{right_constant}
 use Rattle.load.specs.Scan.{some_value, formed, stand, standing_after}
 use Rattle.program.specs.Kind.{content_legal}

@@ -1,4 +1,5 @@
-use Rattle.value.specs.Prelude.{ℕ, ◌+◌, refl, ◌∙◌, ap}
+use Rattle.std.specs.Prelude.{ℕ, ◌+◌, refl}
+use Rattle.std.proofs.Common.{◌∙◌, ap}
 use Rattle.load.proofs.Conditions.{right_consume}
 use Rattle.load.proofs.Stands.{port_sink, port_sinks}
 use Rattle.load.specs.Clauses.{state}

@@ -1,4 +1,5 @@
-use Rattle.value.specs.Prelude.{ℕ, ◌+◌, refl, ◌∙◌, ap}
+use Rattle.std.specs.Prelude.{ℕ, ◌+◌, refl}
+use Rattle.std.proofs.Common.{◌∙◌, ap}
 use Rattle.load.proofs.Conditions.{right_fetch}
 use Rattle.load.specs.Clauses.{state}
 use Rattle.load.specs.Scan.{some_value, is_cell, kind_at, stand, standing_after, standing_at}

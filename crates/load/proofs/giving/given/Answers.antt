@@ -1,5 +1,6 @@
 use Rattle.value.proofs.Tests.{lt!, lt×}
-use Rattle.value.specs.Prelude.{refl, sym, ◌∙◌, arith}
+use Rattle.std.specs.Prelude.{refl}
+use Rattle.std.proofs.Common.{sym, ◌∙◌, arith}
 use Rattle.load.proofs.giving.given.Goals as goal
 
 pub returns-then-right : goal.returns-then-right

@@ -1,4 +1,5 @@
-use Rattle.value.specs.Prelude.{ℕ, ◌+◌, refl, ◌∙◌, ap}
+use Rattle.std.specs.Prelude.{ℕ, ◌+◌, refl}
+use Rattle.std.proofs.Common.{◌∙◌, ap}
 use Rattle.load.proofs.Conditions.{right_global}
 use Rattle.load.specs.Scan.{some_value, stand, standing_after}
 use Rattle.value.proofs.Tests.{same_and, same_eq, same_le}

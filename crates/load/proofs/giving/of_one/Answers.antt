@@ -1,4 +1,5 @@
-use Rattle.value.specs.Prelude.{ℕ, ◌+◌, refl, ◌∙◌, ap}
+use Rattle.std.specs.Prelude.{ℕ, ◌+◌, refl}
+use Rattle.std.proofs.Common.{◌∙◌, ap}
 use Rattle.load.specs.Scan.{is_value, kind_at, standing_at}
 use Rattle.value.proofs.Tests.{same_and3, same_eq, same_or}
 use Rattle.load.proofs.giving.of_one.Goals as goal

@@ -1,6 +1,7 @@
 use Rattle.load.specs.Scan.{is_value, kind_at, standing_at}
 use Rattle.value.proofs.Tests.{same_and, same_and3, same_eq}
-use Rattle.value.specs.Prelude.{refl, ◌∙◌}
+use Rattle.std.specs.Prelude.{refl}
+use Rattle.std.proofs.Common.{◌∙◌}
 use Rattle.load.proofs.giving.of_two.Goals as goal
 
 pub returns : goal.returns

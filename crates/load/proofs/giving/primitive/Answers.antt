@@ -5,7 +5,7 @@ use Rattle.load.specs.Clauses.{state}
 use Rattle.value.proofs.Rows.{missed}
 use Rattle.value.proofs.Tests.{eq!, lt×}
 use Rattle.value.specs.Primitive.{is_primitive, is_withdrawn, kind_given, table}
-use Rattle.value.specs.Prelude.{◌∙◌, arith}
+use Rattle.std.proofs.Common.{◌∙◌, arith}
 use Rattle.load.proofs.giving.primitive.Goals as goal
 
 pub returns-in-7 : goal.returns-in-7

@@ -1,4 +1,5 @@
-use Rattle.value.specs.Prelude.{ℕ, ◌+◌, ◌≤◌, refl, ◌∙◌, ap, length, get_or, arith}
+use Rattle.std.specs.Prelude.{ℕ, ◌+◌, ◌≤◌, refl, length, get_or}
+use Rattle.std.proofs.Common.{◌∙◌, ap, arith}
 use Rattle.load.proofs.Exact.Bytes.{entries_end}
 use Rattle.load.proofs.TableBytes.{entry_inside, shape_inside}
 use Rattle.program.specs.Bytes.{byte, commands_d, entry_at, commands_r, shape_at, shape_of, sinks_in, sources_in}

@@ -1,4 +1,5 @@
-use Rattle.value.specs.Prelude.{ℕ, ◌≤◌, ◌<◌, ◌≡◌, refl, sym, ◌∙◌, ap, true, get_or, arith}
+use Rattle.std.specs.Prelude.{ℕ, ◌≤◌, ◌<◌, ◌≡◌, refl, true, get_or}
+use Rattle.std.proofs.Common.{sym, ◌∙◌, ap, arith}
 use Rattle.program.specs.Location.{most_locations}
 use Rattle.load.specs.Scan.{complete, settled, standing_at}
 use Rattle.value.proofs.Sweeps.{sweeps?}

@@ -1,4 +1,4 @@
-use Rattle.value.specs.Prelude.{ℕ, ◌+◌, ◌-◌, ◌<◌, ◌≡◌, true, get_or}
+use Rattle.std.specs.Prelude.{ℕ, ◌+◌, ◌-◌, ◌<◌, ◌≡◌, true, get_or}
 use Rattle.program.specs.Location.{most_locations}
 use Rattle.load.specs.Scan.{settled}
 use Rattle.load.proofs.reactor.complete.Given as goal

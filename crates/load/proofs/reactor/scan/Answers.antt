@@ -1,4 +1,5 @@
-use Rattle.value.specs.Prelude.{◌+◌, ◌≡◌, refl, sym, ◌∙◌, ap, subst, true≢false, replicate, arith}
+use Rattle.std.specs.Prelude.{◌+◌, ◌≡◌, refl, replicate}
+use Rattle.std.proofs.Common.{sym, ◌∙◌, ap, subst, true≢false, arith}
 use Rattle.load.proofs.Shapes.{begin_shaped, begin_within}
 use Rattle.load.proofs.Loops.{ran_both, ran_from, ran_stopped}
 use Rattle.load.specs.Clauses.{Shaped, Within, state}

@@ -1,4 +1,4 @@
-use Rattle.value.specs.Prelude.{◌-◌, ◌≤◌}
+use Rattle.std.specs.Prelude.{◌-◌, ◌≤◌}
 use Rattle.load.specs.Clauses.{Sweeping}
 use Rattle.load.proofs.reactor.settled_from.Given as goal
 

@@ -1,4 +1,4 @@
-use Rattle.value.specs.Prelude.{◌-◌, ◌≤◌, ◌≡◌}
+use Rattle.std.specs.Prelude.{◌-◌, ◌≤◌, ◌≡◌}
 use Rattle.load.specs.Clauses.{state}
 use Rattle.load.specs.Scan.{with_sinks}
 use Rattle.load.proofs.reactor.with_sinks.Given as goal

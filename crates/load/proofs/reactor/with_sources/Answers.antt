@@ -1,4 +1,5 @@
-use Rattle.value.specs.Prelude.{ℕ, refl, ◌∙◌, ap, arith}
+use Rattle.std.specs.Prelude.{ℕ, refl}
+use Rattle.std.proofs.Common.{◌∙◌, ap, arith}
 use Rattle.load.proofs.Stands.{one_source}
 use Rattle.load.specs.Clauses.{state}
 use Rattle.load.specs.Scan.{with_sources}

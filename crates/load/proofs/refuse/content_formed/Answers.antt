@@ -1,6 +1,7 @@
 use Rattle.program.specs.Kind.{content_legal}
 use Rattle.value.proofs.Tests.{same_and3, same_eq}
-use Rattle.value.specs.Prelude.{refl, ◌∙◌, ap}
+use Rattle.std.specs.Prelude.{refl}
+use Rattle.std.proofs.Common.{◌∙◌, ap}
 use Rattle.load.proofs.refuse.content_formed.Goals as goal
 
 pub returns : goal.returns

@@ -1,4 +1,5 @@
-use Rattle.value.specs.Prelude.{ℕ, ◌+◌, ◌≡◌, refl, ◌∙◌, ap, Bool, arith}
+use Rattle.std.specs.Prelude.{ℕ, ◌+◌, ◌≡◌, refl, Bool}
+use Rattle.std.proofs.Common.{◌∙◌, ap, arith}
 use Rattle.load.specs.Scan.{formed}
 use Rattle.program.proofs.Decode.{as_cell, as_constant, as_consume, as_fetch, as_global, as_keep, as_make, as_mono}
 use Rattle.program.proofs.Decode.{as_poly, as_primitive, as_react, as_rest, as_sink, as_supply}

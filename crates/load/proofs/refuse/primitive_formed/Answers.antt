@@ -1,6 +1,6 @@
 use Rattle.load.specs.Scan.{formed}
 use Rattle.value.proofs.Tests.{same_and4, same_eq, same_le, same_or}
-use Rattle.value.specs.Prelude.{refl}
+use Rattle.std.specs.Prelude.{refl}
 use Rattle.load.proofs.refuse.primitive_formed.Goals as goal
 
 pub returns : goal.returns

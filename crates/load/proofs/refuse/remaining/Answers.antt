@@ -1,4 +1,5 @@
-use Rattle.value.specs.Prelude.{◌≡◌, refl, ap, true, not}
+use Rattle.std.specs.Prelude.{◌≡◌, refl, true, not}
+use Rattle.std.proofs.Common.{ap}
 use Rattle.program.specs.Command.{Cmd}
 use Rattle.program.proofs.Decode.{as_primitive, by_code}
 use Rattle.load.specs.Scan.{remaining}

@@ -1,4 +1,4 @@
-use Rattle.value.specs.Prelude.{refl}
+use Rattle.std.specs.Prelude.{refl}
 use Rattle.value.proofs.Tests.{yes, no}
 use Rattle.load.proofs.refuse.unless.Goals as goal
 

@@ -1,5 +1,5 @@
 use Rattle.load.proofs.Bits.{bit_high, weights}
-use Rattle.value.specs.Prelude.{arith}
+use Rattle.std.proofs.Common.{arith}
 use Rattle.load.proofs.standing.bit.Goals as goal
 
 pub returns-then-x-gt7 : goal.returns-then-x-gt7

@@ -1,4 +1,5 @@
-use Rattle.value.specs.Prelude.{ℕ, ◌/◌, ◌%◌, ◌<◌, refl, ◌∙◌, ap, arith}
+use Rattle.std.specs.Prelude.{ℕ, ◌/◌, ◌%◌, ◌<◌, refl}
+use Rattle.std.proofs.Common.{◌∙◌, ap, arith}
 use Rattle.load.proofs.Bits.{bit_some, bit_test}
 use Rattle.value.proofs.Tests.{same_eq}
 use Rattle.load.proofs.standing.has_source.Goals as goal

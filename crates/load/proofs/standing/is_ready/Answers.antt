@@ -1,7 +1,8 @@
 use Rattle.load.proofs.Bits.{bit_low, bit_most, bit_some, never_ready}
 use Rattle.load.specs.Scan.{ready_at}
 use Rattle.value.proofs.Tests.{same_eq}
-use Rattle.value.specs.Prelude.{refl, sym, arith}
+use Rattle.std.specs.Prelude.{refl}
+use Rattle.std.proofs.Common.{sym, arith}
 use Rattle.load.proofs.standing.is_ready.Goals as goal
 
 pub returns-then-n-gt7 : goal.returns-then-n-gt7

@@ -1,4 +1,5 @@
-use Rattle.value.specs.Prelude.{refl, sym}
+use Rattle.std.specs.Prelude.{refl}
+use Rattle.std.proofs.Common.{sym}
 use lib.Seq.{set_out}
 use Rattle.load.proofs.standing.put.Goals as goal
 

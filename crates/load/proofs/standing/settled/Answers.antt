@@ -1,6 +1,6 @@
 use Rattle.load.specs.Scan.{settled}
 use Rattle.value.proofs.Tests.{same_eq, same_lt, same_or5}
-use Rattle.value.specs.Prelude.{refl}
+use Rattle.std.specs.Prelude.{refl}
 use Rattle.load.proofs.standing.settled.Goals as goal
 
 pub returns : goal.returns

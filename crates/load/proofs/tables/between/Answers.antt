@@ -1,5 +1,5 @@
 use Rattle.value.proofs.Tests.{same_and, same_le}
-use Rattle.value.specs.Prelude.{refl}
+use Rattle.std.specs.Prelude.{refl}
 use Rattle.load.proofs.tables.between.Goals as goal
 
 pub returns : goal.returns

@@ -1,4 +1,5 @@
-use Rattle.value.specs.Prelude.{ℕ, refl, ◌∙◌, ap, arith}
+use Rattle.std.specs.Prelude.{ℕ, refl}
+use Rattle.std.proofs.Common.{◌∙◌, ap, arith}
 use Rattle.load.proofs.TableBytes.{entry_inside, entry_next}
 use Rattle.load.specs.Tables.{entry_legal}
 use Rattle.value.proofs.Sweeps.{sweep_more}

@@ -1,4 +1,4 @@
-use Rattle.value.specs.Prelude.{ℕ, ◌-◌, ◌≤◌, ◌≡◌}
+use Rattle.std.specs.Prelude.{ℕ, ◌-◌, ◌≤◌, ◌≡◌}
 use Rattle.load.specs.Tables.{entry_legal}
 use Rattle.program.specs.Bytes.{entry_at}
 use Rattle.value.specs.Test.{◌=?◌, sweep}

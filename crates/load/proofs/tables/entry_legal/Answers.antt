@@ -1,4 +1,5 @@
-use Rattle.value.specs.Prelude.{ℕ, ◌+◌, refl, ◌∙◌, ap, not, arith}
+use Rattle.std.specs.Prelude.{ℕ, ◌+◌, refl, not}
+use Rattle.std.proofs.Common.{◌∙◌, ap, arith}
 use Rattle.load.specs.Tables.{between, entry_legal, main_legal}
 use Rattle.program.specs.Bytes.{byte, main_of, shapes}
 use Rattle.value.proofs.Tests.{eq!, eq×, no, same_eq, same_le, yes}

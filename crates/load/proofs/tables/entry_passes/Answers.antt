@@ -1,4 +1,5 @@
-use Rattle.value.specs.Prelude.{ℕ, ◌+◌, refl, ◌∙◌, ap, not, get_or, arith}
+use Rattle.std.specs.Prelude.{ℕ, ◌+◌, refl, not, get_or}
+use Rattle.std.proofs.Common.{◌∙◌, ap, arith}
 use Rattle.load.proofs.TableBytes.{entries_inside, entry_declared, entry_running, entry_shape, entry_zero, four}
 use Rattle.load.specs.Tables.{between, entry_legal, main_legal}
 use Rattle.program.specs.Bytes.{byte, main_of, shapes}

@@ -1,4 +1,5 @@
-use Rattle.value.specs.Prelude.{ℕ, ◌+◌, refl, ◌∙◌, ap, arith}
+use Rattle.std.specs.Prelude.{ℕ, ◌+◌, refl}
+use Rattle.std.proofs.Common.{◌∙◌, ap, arith}
 use Rattle.load.proofs.Exact.Bytes.{globals_end}
 use Rattle.program.specs.Bytes.{byte}
 use Rattle.value.proofs.Sweeps.{sweep_more}

@@ -1,4 +1,4 @@
-use Rattle.value.specs.Prelude.{ℕ, ◌+◌, ◌-◌, ◌≤◌, ◌≡◌}
+use Rattle.std.specs.Prelude.{ℕ, ◌+◌, ◌-◌, ◌≤◌, ◌≡◌}
 use Rattle.program.specs.Bytes.{byte}
 use Rattle.value.specs.Test.{◌<?◌, ◌=?◌, sweep}
 use Rattle.load.proofs.tables.globals_pass.Given as goal

@@ -1,6 +1,7 @@
 use Rattle.std.proofs.Common.{not}
 use Rattle.std.proofs.Common.{ap}
-use Rattle.value.specs.Prelude.{refl, sym, ◌∙◌, arith}
+use Rattle.std.specs.Prelude.{refl}
+use Rattle.std.proofs.Common.{sym, ◌∙◌, arith}
 use Rattle.load.specs.Tables.{header_legal}
 use Rattle.value.proofs.Sweeps.{sweep_done, sweep_found, sweep_next}
 use Rattle.value.proofs.Tests.{passed, refused}

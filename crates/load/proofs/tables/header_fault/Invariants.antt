@@ -1,4 +1,4 @@
-use Rattle.value.specs.Prelude.{◌-◌, ◌≤◌, ◌≡◌}
+use Rattle.std.specs.Prelude.{◌-◌, ◌≤◌, ◌≡◌}
 use Rattle.load.specs.Tables.{header_legal}
 use Rattle.value.specs.Test.{sweep}
 use Rattle.load.proofs.tables.header_fault.Given as goal

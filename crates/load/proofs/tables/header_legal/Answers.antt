@@ -3,7 +3,8 @@ use Rattle.program.specs.Bytes.{globals, reactors, shapes}
 use Rattle.program.specs.Clauses.{header_of}
 use Rattle.program.specs.declared.Header.{Header}
 use Rattle.value.proofs.Tests.{eq!, eq×, no, same_eq, same_le, yes}
-use Rattle.value.specs.Prelude.{refl, ◌∙◌, ap, arith}
+use Rattle.std.specs.Prelude.{refl}
+use Rattle.std.proofs.Common.{◌∙◌, ap, arith}
 use Rattle.load.proofs.tables.header_legal.Goals as goal
 
 pub returns-in-0 : goal.returns-in-0

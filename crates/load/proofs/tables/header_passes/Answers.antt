@@ -1,7 +1,7 @@
 use Rattle.load.proofs.TableBytes.{eight}
 use Rattle.load.specs.Tables.{header_legal}
 use Rattle.value.proofs.Tests.{same_and}
-use Rattle.value.specs.Prelude.{◌∙◌}
+use Rattle.std.proofs.Common.{◌∙◌}
 use Rattle.load.proofs.tables.header_passes.Goals as goal
 
 pub returns : goal.returns

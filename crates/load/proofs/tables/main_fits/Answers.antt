@@ -1,4 +1,5 @@
-use Rattle.value.specs.Prelude.{ℕ, ◌+◌, refl, sym, ◌∙◌, ap, Bool, get_or, arith}
+use Rattle.std.specs.Prelude.{ℕ, ◌+◌, refl, Bool, get_or}
+use Rattle.std.proofs.Common.{sym, ◌∙◌, ap, arith}
 use Rattle.load.proofs.Conditions.{and_right, and_true}
 use Rattle.load.specs.Tables.{main_legal}
 use Rattle.program.specs.Bytes.{byte, sink_kind, sources_in}

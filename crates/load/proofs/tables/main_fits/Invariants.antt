@@ -1,4 +1,4 @@
-use Rattle.value.specs.Prelude.{ℕ, ◌-◌, ◌≤◌, ◌≡◌}
+use Rattle.std.specs.Prelude.{ℕ, ◌-◌, ◌≤◌, ◌≡◌}
 use Rattle.program.specs.Bytes.{sink_kind, sources_in}
 use Rattle.value.specs.Test.{◌<?◌, ◌=?◌, ◌and◌, sweep}
 use Rattle.load.proofs.tables.main_fits.Given as goal

@@ -1,6 +1,7 @@
 use Rattle.load.specs.Tables.{port_legal}
 use Rattle.value.proofs.Tests.{lt!, lt×, no, same_eq, same_lt, yes}
-use Rattle.value.specs.Prelude.{refl, arith}
+use Rattle.std.specs.Prelude.{refl}
+use Rattle.std.proofs.Common.{arith}
 use Rattle.load.proofs.tables.port_legal.Goals as goal
 
 pub returns-then-j-count : goal.returns-then-j-count

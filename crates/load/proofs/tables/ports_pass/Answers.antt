@@ -1,4 +1,5 @@
-use Rattle.value.specs.Prelude.{ℕ, ◌+◌, refl, ◌∙◌, ap, get_or, arith}
+use Rattle.std.specs.Prelude.{ℕ, ◌+◌, refl, get_or}
+use Rattle.std.proofs.Common.{◌∙◌, ap, arith}
 use Rattle.load.proofs.TableBytes.{port_low, port_past}
 use Rattle.load.specs.Tables.{port_legal}
 use Rattle.program.specs.Bytes.{byte}
@@ -6,7 +7,7 @@ use Rattle.value.proofs.Sweeps.{sweep_more}
 use Rattle.value.proofs.Tests.{same_and, same_le}
 use Rattle.value.specs.Test.{◌=?◌, sweep}
 use lib.Dec.{leb}
-use Rattle.value.specs.Prelude.{◌≡◌}
+use Rattle.std.specs.Prelude.{◌≡◌}
 use Rattle.load.proofs.tables.ports_pass.Goals as goal
 use Rattle.load.proofs.tables.ports_pass.Goals.{then-x-n, else-x-n}
 

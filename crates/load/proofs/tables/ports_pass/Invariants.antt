@@ -1,4 +1,4 @@
-use Rattle.value.specs.Prelude.{ℕ, ◌+◌, ◌-◌, ◌≤◌, ◌≡◌}
+use Rattle.std.specs.Prelude.{ℕ, ◌+◌, ◌-◌, ◌≤◌, ◌≡◌}
 use Rattle.load.specs.Tables.{port_legal}
 use Rattle.program.specs.Bytes.{byte}
 use Rattle.value.specs.Test.{◌=?◌, sweep}

@@ -2,7 +2,8 @@ use Rattle.load.proofs.TableBytes.{shape_inside}
 use Rattle.load.specs.Tables.{main_legal}
 use Rattle.value.proofs.Tests.{both!, either!, eq!, eq×, left×, lt!, lt×, true_and}
 use Rattle.value.specs.Test.{◌or◌}
-use Rattle.value.specs.Prelude.{sym, ◌∙◌, ap, Bool, not, arith}
+use Rattle.std.proofs.Common.{sym, ◌∙◌, ap, arith}
+use Rattle.std.specs.Prelude.{Bool, not}
 use Rattle.load.proofs.tables.shape_fits.Goals as goal
 
 pub returns-then-shapes-s : goal.returns-then-shapes-s

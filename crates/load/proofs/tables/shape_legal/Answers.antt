@@ -1,4 +1,5 @@
-use Rattle.value.specs.Prelude.{ℕ, ◌-◌, refl, ◌∙◌, ap, arith}
+use Rattle.std.specs.Prelude.{ℕ, ◌-◌, refl}
+use Rattle.std.proofs.Common.{◌∙◌, ap, arith}
 use Rattle.load.specs.Tables.{between, port_legal, shape_legal}
 use Rattle.program.specs.Bytes.{byte}
 use Rattle.value.proofs.Tests.{eq!, eq×, lt!, lt×, no, same_le, yes}

@@ -1,4 +1,5 @@
-use Rattle.value.specs.Prelude.{ℕ, ◌+◌, refl, ◌∙◌, ap, get_or, arith}
+use Rattle.std.specs.Prelude.{ℕ, ◌+◌, refl, get_or}
+use Rattle.std.proofs.Common.{◌∙◌, ap, arith}
 use Rattle.load.proofs.TableBytes.{shape_row}
 use Rattle.load.specs.Tables.{between, port_legal}
 use Rattle.program.specs.Bytes.{byte, sink_kind, sinks_in, source_kind, sources_in}

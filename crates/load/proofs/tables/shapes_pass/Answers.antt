@@ -1,4 +1,5 @@
-use Rattle.value.specs.Prelude.{ℕ, refl, ◌∙◌, ap, arith}
+use Rattle.std.specs.Prelude.{ℕ, refl}
+use Rattle.std.proofs.Common.{◌∙◌, ap, arith}
 use Rattle.load.proofs.TableBytes.{shape_inside, shape_next}
 use Rattle.load.specs.Tables.{shape_legal}
 use Rattle.value.proofs.Sweeps.{sweep_more}

@@ -1,4 +1,4 @@
-use Rattle.value.specs.Prelude.{◌-◌, ◌≤◌, ◌≡◌}
+use Rattle.std.specs.Prelude.{◌-◌, ◌≤◌, ◌≡◌}
 use Rattle.load.specs.Tables.{table_legal}
 use Rattle.program.specs.Bytes.{tables_end}
 use Rattle.value.specs.Test.{sweep}

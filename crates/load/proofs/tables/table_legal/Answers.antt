@@ -1,4 +1,5 @@
-use Rattle.value.specs.Prelude.{ℕ, ◌-◌, ◌/◌, ◌%◌, refl, ◌∙◌, ap, arith}
+use Rattle.std.specs.Prelude.{ℕ, ◌-◌, ◌/◌, ◌%◌, refl}
+use Rattle.std.proofs.Common.{◌∙◌, ap, arith}
 use Rattle.load.proofs.Exact.Bytes.{entries_end}
 use Rattle.load.specs.Tables.{entry_legal, shape_legal, table_legal}
 use Rattle.program.specs.Bytes.{byte, entry_at, reactors, shape_at, shapes, tables_end}

@@ -1,7 +1,7 @@
 use Rattle.load.proofs.Exact.Bytes.{entries_end, shapes_end}
 use Rattle.load.proofs.TableBytes.{all_rows}
 use Rattle.value.proofs.Tests.{same_and3}
-use Rattle.value.specs.Prelude.{◌∙◌, arith}
+use Rattle.std.proofs.Common.{◌∙◌, arith}
 use Rattle.load.proofs.tables.tables_pass.Goals as goal
 
 pub globals_pass-requires : goal.globals_pass-requires

@@ -6,7 +6,8 @@ use Rattle.program.proofs.Decode.{as_react, as_sink, as_supply}
 use Rattle.program.specs.Command.{Cmd, sequence_of}
 use Rattle.value.proofs.Tests.{no}
 use Rattle.value.specs.Test.{pick}
-use Rattle.value.specs.Prelude.{refl, ◌∙◌, false, arith}
+use Rattle.std.specs.Prelude.{refl, false}
+use Rattle.std.proofs.Common.{◌∙◌, arith}
 use Rattle.load.proofs.take.command_r.Goals as goal
 
 pub constant-requires : goal.constant-requires

@@ -1,4 +1,5 @@
-use Rattle.value.specs.Prelude.{ℕ, ◌+◌, refl, ◌∙◌, ap, subst, Bool, arith}
+use Rattle.std.specs.Prelude.{ℕ, ◌+◌, refl, Bool}
+use Rattle.std.proofs.Common.{◌∙◌, ap, subst, arith}
 use Rattle.load.proofs.Conditions.{right-cell, right_make, right_mono}
 use Rattle.load.proofs.Sequence.{making, other_d}
 use Rattle.load.specs.Clauses.{Making}

@@ -1,5 +1,5 @@
 use Rattle.value.proofs.Tests.{no, yes}
-use Rattle.value.specs.Prelude.{refl}
+use Rattle.std.specs.Prelude.{refl}
 use Rattle.load.proofs.take.placed.Goals as goal
 
 pub returns-then-right : goal.returns-then-right

@@ -1,4 +1,5 @@
-use Rattle.value.specs.Prelude.{ℕ, ◌+◌, ◌≡◌, refl, ◌∙◌, ap, get_or, arith}
+use Rattle.std.specs.Prelude.{ℕ, ◌+◌, ◌≡◌, refl, get_or}
+use Rattle.std.proofs.Common.{◌∙◌, ap, arith}
 use Rattle.load.proofs.Conditions.{right_sink}
 use Rattle.load.proofs.Stands.{port_sink, stands}
 use Rattle.load.specs.Clauses.{state}

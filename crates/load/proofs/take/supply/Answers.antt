@@ -1,4 +1,5 @@
-use Rattle.value.specs.Prelude.{ℕ, ◌/◌, ◌%◌, ◌^◌, ◌<◌, refl, sym, ◌∙◌, ap, not, get_or, arith}
+use Rattle.std.specs.Prelude.{ℕ, ◌/◌, ◌%◌, ◌^◌, ◌<◌, refl, not, get_or}
+use Rattle.std.proofs.Common.{sym, ◌∙◌, ap, arith}
 use Rattle.load.proofs.Bits.{bit_low, bit_most, bit_room}
 use Rattle.load.proofs.Conditions.{right_supply}
 use Rattle.load.proofs.Shapes.{free_source}

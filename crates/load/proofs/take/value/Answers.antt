@@ -1,5 +1,6 @@
 use Rattle.value.proofs.Tests.{lt!, lt×, no, yes}
-use Rattle.value.specs.Prelude.{refl, sym, arith}
+use Rattle.std.specs.Prelude.{refl}
+use Rattle.std.proofs.Common.{sym, arith}
 use Rattle.load.proofs.take.value.Goals as goal
 
 pub returns-then-k-lt-REFUSED : goal.returns-then-k-lt-REFUSED

@@ -1,6 +1,7 @@
 use Rattle.std.proofs.Common.{rules}
 use Rattle.std.proofs.Common.{not}
-use Rattle.value.specs.Prelude.{◌+◌, ◌≡◌, ap, true, false, arith}
+use Rattle.std.specs.Prelude.{◌+◌, ◌≡◌, true, false}
+use Rattle.std.proofs.Common.{ap, arith}
 use Rattle.machine.proofs.Acting.{stored_at}
 use Rattle.machine.proofs.Allocating.{has_room, no_room, slot_placed}
 use Rattle.machine.specs.Clauses.{ran_as}

@@ -1,7 +1,8 @@
 use Rattle.machine.proofs.Acting.{content_at}
 use Rattle.machine.proofs.Allocating.{found}
 use Rattle.remus.specs.Exec.{operated}
-use Rattle.value.specs.Prelude.{◌≡◌, arith}
+use Rattle.std.specs.Prelude.{◌≡◌}
+use Rattle.std.proofs.Common.{arith}
 use Rattle.machine.proofs.allocate.choose.Goals as goal
 
 pub returns-then-d-lt1 : goal.returns-then-d-lt1

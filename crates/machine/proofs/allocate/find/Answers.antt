@@ -1,5 +1,5 @@
 use Rattle.machine.proofs.Chains.{find_end, find_hit, find-next, find_out}
-use Rattle.value.specs.Prelude.{sym, ◌∙◌, arith}
+use Rattle.std.proofs.Common.{sym, ◌∙◌, arith}
 use Rattle.machine.proofs.allocate.find.Goals as goal
 
 pub loop-left-init : goal.loop-left-init

@@ -1,6 +1,6 @@
 use Rattle.program.specs.Bytes.{reactors}
 use Rattle.remus.specs.Exec.{find}
-use Rattle.value.specs.Prelude.{◌≡◌}
+use Rattle.std.specs.Prelude.{◌≡◌}
 use Rattle.machine.proofs.allocate.find.Given as goal
 
 abbrev pub invariant-loop-left : goal.invariant-loop-left

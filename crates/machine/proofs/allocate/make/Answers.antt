@@ -1,7 +1,8 @@
 use Rattle.std.proofs.Common.{rules}
 use Rattle.std.proofs.Common.{not}
 use Rattle.std.proofs.Common.{ap}
-use Rattle.value.specs.Prelude.{◌+◌, ◌≡◌, true, false, arith}
+use Rattle.std.specs.Prelude.{◌+◌, ◌≡◌, true, false}
+use Rattle.std.proofs.Common.{arith}
 use Rattle.machine.proofs.Allocating.{has_room, no_room}
 use Rattle.machine.specs.Clauses.{acted}
 use Rattle.remus.specs.Exec.{branched, chosen}

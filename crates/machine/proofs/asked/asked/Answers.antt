@@ -1,4 +1,5 @@
-use Rattle.value.specs.Prelude.{ℕ, ◌*◌, refl, ◌∙◌, ap, arith}
+use Rattle.std.specs.Prelude.{ℕ, ◌*◌, refl}
+use Rattle.std.proofs.Common.{◌∙◌, ap, arith}
 use Rattle.answer.specs.declared.Refusal.TheVariants.{Reading, SinkSpace}
 use Rattle.program.specs.Location.{sink_count}
 use Rattle.remus.specs.Turn.{asked_of}

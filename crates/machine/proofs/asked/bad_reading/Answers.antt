@@ -1,6 +1,7 @@
 use Rattle.std.proofs.Common.{not}
 use Rattle.std.proofs.Common.{ap}
-use Rattle.value.specs.Prelude.{◌-◌, ◌≡◌, sym, ◌∙◌, arith}
+use Rattle.std.specs.Prelude.{◌-◌, ◌≡◌}
+use Rattle.std.proofs.Common.{sym, ◌∙◌, arith}
 use Rattle.program.specs.Bytes.{globals}
 use Rattle.remus.specs.Turn.{bad_reading}
 use Rattle.value.proofs.Sweeps.{sweep_done, sweep_found, sweep_next}

@@ -1,4 +1,4 @@
-use Rattle.value.specs.Prelude.{ℕ, ◌+◌, ◌-◌, ◌≤◌, ◌≡◌}
+use Rattle.std.specs.Prelude.{ℕ, ◌+◌, ◌-◌, ◌≤◌, ◌≡◌}
 use Rattle.program.specs.Bytes.{global_kind}
 use Rattle.program.specs.Kind.{legal}
 use Rattle.remus.specs.Turn.{bad_reading, reading_at}

@@ -1,4 +1,4 @@
-use Rattle.value.specs.Prelude.{◌∙◌, arith}
+use Rattle.std.proofs.Common.{◌∙◌, arith}
 use Rattle.machine.proofs.Chains.{below_here, below_next, below_out}
 use Rattle.machine.proofs.back.first_below.Goals as goal
 

@@ -1,4 +1,4 @@
-use Rattle.value.specs.Prelude.{◌+◌, ◌≡◌}
+use Rattle.std.specs.Prelude.{◌+◌, ◌≡◌}
 use Rattle.program.specs.Bytes.{reactors}
 use Rattle.remus.specs.Undo.{below}
 use Rattle.machine.proofs.back.first_below.Given as goal

@@ -1,5 +1,5 @@
 use Rattle.machine.proofs.Passing.{slot_other, slot_point}
-use Rattle.value.specs.Prelude.{sym, ◌∙◌}
+use Rattle.std.proofs.Common.{sym, ◌∙◌}
 use Rattle.machine.proofs.back.slot_back.Goals as goal
 
 pub returns-then-code-eq-MAKE_POLY : goal.returns-then-code-eq-MAKE_POLY

@@ -1,4 +1,5 @@
-use Rattle.value.specs.Prelude.{◌-◌, ◌≡◌, refl, ◌∙◌, arith}
+use Rattle.std.specs.Prelude.{◌-◌, ◌≡◌, refl}
+use Rattle.std.proofs.Common.{◌∙◌, arith}
 use Rattle.image.specs.Memory.{reactor}
 use Rattle.machine.proofs.Passing.{slots_done, slots_next}
 use Rattle.machine.proofs.FactLaws.{code_at, slot_row, told}

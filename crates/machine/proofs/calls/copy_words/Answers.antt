@@ -1,4 +1,5 @@
-use Rattle.value.specs.Prelude.{ℕ, suc, ◌+◌, ◌<◌, ◌≡◌, refl, sym, ◌∙◌, ap, length, get_or, take, arith}
+use Rattle.std.specs.Prelude.{ℕ, suc, ◌+◌, ◌<◌, ◌≡◌, refl, length, get_or, take}
+use Rattle.std.proofs.Common.{sym, ◌∙◌, ap, arith}
 use lib.ListN.{length-set}
 use lib.Seq.{take-suc, take-suc-set, take-length}
 use Rattle.machine.proofs.calls.copy_words.Goals as goal

@@ -1,5 +1,5 @@
 -- Below i the words are those of `from`. The measure is the length less i.
-use Rattle.value.specs.Prelude.{◌-◌, ◌≤◌, ◌≡◌, length, take}
+use Rattle.std.specs.Prelude.{◌-◌, ◌≤◌, ◌≡◌, length, take}
 use Rattle.machine.proofs.calls.copy_words.Given as goal
 
 abbrev pub invariant-loop-i : goal.invariant-loop-i

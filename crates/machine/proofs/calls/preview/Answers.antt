@@ -3,7 +3,8 @@ use Rattle.load.specs.Check.{checked}
 use Rattle.machine.proofs.Safety.{sure}
 use Rattle.machine.specs.Clauses.{previewed}
 use Rattle.remus.specs.Preview.{preview_by, preview_of, preview_refused}
-use Rattle.value.specs.Prelude.{refl, ap, sym}
+use Rattle.std.specs.Prelude.{refl}
+use Rattle.std.proofs.Common.{ap, sym}
 use Rattle.machine.proofs.calls.preview.Goals as goal
 
 pub preview_accepted-requires : goal.preview_accepted-requires

@@ -6,7 +6,8 @@ use Rattle.machine.proofs.Turning.{clock_left, ready_fine, sinks_fit}
 use Rattle.machine.specs.Clauses.{previewed}
 use Rattle.remus.specs.Preview.{preview_by, preview_refused}
 use Rattle.value.proofs.Tests.{eq!, eq×, goes, passed, refused as no-pass, stops}
-use Rattle.value.specs.Prelude.{refl, sym}
+use Rattle.std.specs.Prelude.{refl}
+use Rattle.std.proofs.Common.{sym}
 use Rattle.machine.proofs.calls.preview_accepted.Goals as goal
 
 pub returns-then-not-words_legal : goal.returns-then-not-words_legal

@@ -1,5 +1,5 @@
 use Rattle.machine.specs.Clauses.{ready_of}
-use Rattle.value.specs.Prelude.{sym}
+use Rattle.std.proofs.Common.{sym}
 use Rattle.machine.proofs.calls.ready.Goals as goal
 
 pub returns-in-Sound : goal.returns-in-Sound

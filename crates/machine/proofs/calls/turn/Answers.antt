@@ -2,7 +2,8 @@ use Rattle.load.specs.Check.{checked}
 use Rattle.machine.proofs.Safety.{sure}
 use Rattle.machine.specs.Clauses.{turned}
 use Rattle.remus.specs.Turn.{by_check, turn_refused, turn_of}
-use Rattle.value.specs.Prelude.{refl, sym}
+use Rattle.std.specs.Prelude.{refl}
+use Rattle.std.proofs.Common.{sym}
 use Rattle.machine.proofs.calls.turn.Goals as goal
 
 pub turn_accepted-requires : goal.turn_accepted-requires

@@ -5,7 +5,8 @@ use Rattle.machine.proofs.Turning.{by_ready, clock_left, ready_fine, sinks_fit}
 use Rattle.machine.specs.Clauses.{turned}
 use Rattle.remus.specs.Turn.{by_asked, by_check, turn_refused}
 use Rattle.value.proofs.Tests.{goes, passed, refused as no-pass, stops}
-use Rattle.value.specs.Prelude.{refl, sym, ◌∙◌}
+use Rattle.std.specs.Prelude.{refl}
+use Rattle.std.proofs.Common.{sym, ◌∙◌}
 use Rattle.machine.proofs.calls.turn_accepted.Goals as goal
 
 pub returns-then-not-words_legal : goal.returns-then-not-words_legal

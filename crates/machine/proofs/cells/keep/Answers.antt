@@ -4,7 +4,7 @@ use Rattle.program.specs.Command.{takes_words}
 use Rattle.remus.specs.Exec.{exec}
 use Rattle.value.specs.Test.{pick}
 use Rattle.remus.specs.Cells.{pending}
-use Rattle.value.specs.Prelude.{◌∙◌, ap}
+use Rattle.std.proofs.Common.{◌∙◌, ap}
 use Rattle.machine.proofs.cells.keep.Goals as goal
 
 pub returns : goal.returns

@@ -1,6 +1,6 @@
 use Rattle.remus.specs.Cells.{kept}
 use Rattle.value.proofs.Tests.{eq!, eq×, no, yes}
-use Rattle.value.specs.Prelude.{refl}
+use Rattle.std.specs.Prelude.{refl}
 use Rattle.machine.proofs.cells.kept.Goals as goal
 
 pub returns-then-v-eq-KEPT : goal.returns-then-v-eq-KEPT

@@ -1,7 +1,7 @@
 use Rattle.remus.specs.Cells.{pending}
 use Rattle.value.proofs.Tests.{eq!, eq×, no, yes}
 use Rattle.value.specs.Value.{is_blank}
-use Rattle.value.specs.Prelude.{refl}
+use Rattle.std.specs.Prelude.{refl}
 use Rattle.machine.proofs.cells.pending.Goals as goal
 
 pub returns-then-v-eq-BLANK : goal.returns-then-v-eq-BLANK

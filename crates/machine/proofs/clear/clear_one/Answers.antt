@@ -1,4 +1,5 @@
-use Rattle.value.specs.Prelude.{ℕ, ◌+◌, refl, ap, arith}
+use Rattle.std.specs.Prelude.{ℕ, ◌+◌, refl}
+use Rattle.std.proofs.Common.{ap, arith}
 use Rattle.image.specs.Memory.{size_at, slots_d, slots_r}
 use Rattle.machine.proofs.Clears.{cleared_part, lent_part}
 use Rattle.machine.proofs.FactLaws.{told}

@@ -1,5 +1,5 @@
 use Rattle.machine.proofs.Clears.{wiped}
-use Rattle.value.specs.Prelude.{refl}
+use Rattle.std.specs.Prelude.{refl}
 use Rattle.machine.proofs.clear.clear_words.Goals as goal
 
 pub returns : goal.returns

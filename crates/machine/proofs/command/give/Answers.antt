@@ -1,7 +1,7 @@
 use Rattle.machine.proofs.Acting.{stored_at}
 use Rattle.machine.specs.Clauses.{did}
 use Rattle.machine.specs.declared.Outcome.TheVariants.{Given}
-use Rattle.value.specs.Prelude.{ap}
+use Rattle.std.proofs.Common.{ap}
 use Rattle.machine.proofs.command.give.Goals as goal
 
 pub returns : goal.returns

@@ -1,5 +1,5 @@
 use Rattle.machine.proofs.Acting.{global_reading, global_time}
-use Rattle.value.specs.Prelude.{arith}
+use Rattle.std.proofs.Common.{arith}
 use Rattle.machine.proofs.command.global_value.Goals as goal
 
 pub returns-then-x-lt1 : goal.returns-then-x-lt1

@@ -3,7 +3,7 @@ use Rattle.machine.specs.Clauses.{acted}
 use Rattle.program.specs.Command.{takes_words}
 use Rattle.remus.specs.Exec.{exec}
 use Rattle.value.specs.Test.{pick}
-use Rattle.value.specs.Prelude.{◌∙◌}
+use Rattle.std.proofs.Common.{◌∙◌}
 use Rattle.machine.proofs.command.primitive.Goals as goal
 
 pub returns : goal.returns

@@ -1,6 +1,6 @@
 use Rattle.value.proofs.Rows.{third_unread}
 use Rattle.value.specs.Primitive as Op
-use Rattle.value.specs.Prelude.{ap}
+use Rattle.std.proofs.Common.{ap}
 use Rattle.machine.proofs.command.third.Goals as goal
 
 pub returns-then-x-ne-CHOOSE : goal.returns-then-x-ne-CHOOSE

@@ -1,7 +1,8 @@
 use Rattle.machine.proofs.Sequences.{command_of, no_d}
 use Rattle.program.proofs.Decode.{as_cell, as_make, as_mono}
 use Rattle.program.specs.Command.{Cmd, sequence_of}
-use Rattle.value.specs.Prelude.{refl, sym, ◌∙◌, ap}
+use Rattle.std.specs.Prelude.{refl}
+use Rattle.std.proofs.Common.{sym, ◌∙◌, ap}
 use Rattle.machine.proofs.exec.declare.Goals as goal
 
 pub returns-in-1 : goal.returns-in-1

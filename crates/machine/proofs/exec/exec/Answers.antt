@@ -1,4 +1,5 @@
-use Rattle.value.specs.Prelude.{ℕ, ◌≡◌, refl, sym, ◌∙◌, ap, subst, List, arith}
+use Rattle.std.specs.Prelude.{ℕ, ◌≡◌, refl, List}
+use Rattle.std.proofs.Common.{sym, ◌∙◌, ap, subst, arith}
 use Rattle.machine.proofs.Placing.{reads_at}
 use Rattle.machine.proofs.Sequences.{command_at_lem, no_r}
 use Rattle.machine.specs.Clauses.{Stands, Reaches}

@@ -2,7 +2,7 @@ use Rattle.machine.proofs.Acting.{stored_at}
 use Rattle.machine.specs.Clauses.{ran_as}
 use Rattle.remus.specs.Exec.{exec}
 use Rattle.remus.specs.Run.{entered, ran}
-use Rattle.value.specs.Prelude.{ap}
+use Rattle.std.proofs.Common.{ap}
 use Rattle.machine.proofs.exec.make_poly.Goals as goal
 
 pub returns : goal.returns

@@ -1,4 +1,5 @@
-use Rattle.value.specs.Prelude.{ℕ, ◌≡◌, arith}
+use Rattle.std.specs.Prelude.{ℕ, ◌≡◌}
+use Rattle.std.proofs.Common.{arith}
 use Rattle.machine.specs.Clauses.{each_of}
 use Rattle.remus.specs.Clear.{clear_of, closed}
 use Rattle.machine.proofs.finish.close.Goals as goal

@@ -1,7 +1,7 @@
 use Rattle.machine.proofs.CellBytes.{keeps_none}
 use Rattle.machine.specs.Clauses.{each_of}
 use Rattle.remus.specs.Cells.{keep_of}
-use Rattle.value.specs.Prelude.{sym, ◌∙◌}
+use Rattle.std.proofs.Common.{sym, ◌∙◌}
 use Rattle.machine.proofs.finish.fill_cells.Goals as goal
 
 pub pass_over-requires : goal.pass_over-requires

@@ -1,4 +1,5 @@
-use Rattle.value.specs.Prelude.{ℕ, ◌<◌, sym, subst}
+use Rattle.std.specs.Prelude.{ℕ, ◌<◌}
+use Rattle.std.proofs.Common.{sym, subst}
 use Rattle.remus.specs.Clear.{finished}
 use Rattle.machine.proofs.finish.finish.Goals as goal
 

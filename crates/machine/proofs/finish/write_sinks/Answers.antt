@@ -1,4 +1,5 @@
-use Rattle.value.specs.Prelude.{ℕ, ◌-◌, ◌<◌, ◌≡◌, refl, sym, ◌∙◌, subst, arith}
+use Rattle.std.specs.Prelude.{ℕ, ◌-◌, ◌<◌, ◌≡◌, refl}
+use Rattle.std.proofs.Common.{sym, ◌∙◌, subst, arith}
 use Rattle.machine.proofs.Passing.{sinks_done, sinks_next}
 use Rattle.machine.proofs.FactLaws.{told}
 use Rattle.program.specs.Bytes.{main_of, reactors}

@@ -1,4 +1,4 @@
-use Rattle.value.specs.Prelude.{◌-◌, ◌*◌, ◌≡◌, length}
+use Rattle.std.specs.Prelude.{◌-◌, ◌*◌, ◌≡◌, length}
 use Rattle.image.specs.Memory.{patch}
 use Rattle.remus.specs.Clear.{pairs_from, sunk}
 use Rattle.machine.proofs.finish.write_sinks.Given as goal

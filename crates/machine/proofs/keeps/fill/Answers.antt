@@ -3,7 +3,7 @@ use Rattle.machine.proofs.FactLaws.{value_there}
 use Rattle.remus.specs.Cells.{keep_by}
 use Rattle.value.proofs.Tests.{eq!, eq×, no, yes}
 use Rattle.value.specs.Value.{is_blank}
-use Rattle.value.specs.Prelude.{refl}
+use Rattle.std.specs.Prelude.{refl}
 use Rattle.machine.proofs.keeps.fill.Goals as goal
 
 pub returns-then-v-ne-BLANK : goal.returns-then-v-ne-BLANK

@@ -1,4 +1,4 @@
-use Rattle.value.specs.Prelude.{sym, ◌∙◌, ap, arith}
+use Rattle.std.proofs.Common.{sym, ◌∙◌, ap, arith}
 use Rattle.machine.proofs.CellBytes.{cell_here, cell_not}
 use Rattle.machine.specs.Clauses.{has_cell}
 use Rattle.value.proofs.Sweeps.{sweep_done, sweep_found, sweep_next}

@@ -1,4 +1,4 @@
-use Rattle.value.specs.Prelude.{ℕ, ◌-◌, ◌≡◌}
+use Rattle.std.specs.Prelude.{ℕ, ◌-◌, ◌≡◌}
 use Rattle.machine.specs.Clauses.{no_cell}
 use Rattle.program.specs.Bytes.{commands_at}
 use Rattle.value.specs.Test.{sweep}

@@ -1,4 +1,5 @@
-use Rattle.value.specs.Prelude.{refl, sym, ◌∙◌, ap, not, arith}
+use Rattle.std.specs.Prelude.{refl, not}
+use Rattle.std.proofs.Common.{sym, ◌∙◌, ap, arith}
 use Rattle.machine.proofs.FactLaws.{told}
 use Rattle.machine.specs.Clauses.{has_cells}
 use Rattle.value.proofs.Sweeps.{sweep_done, sweep_found, sweep_next}

@@ -1,4 +1,4 @@
-use Rattle.value.specs.Prelude.{ℕ, ◌-◌, ◌≡◌, not}
+use Rattle.std.specs.Prelude.{ℕ, ◌-◌, ◌≡◌, not}
 use Rattle.machine.specs.Clauses.{has_cell}
 use Rattle.value.specs.Test.{sweep}
 use Rattle.machine.proofs.keeps.has_cells.Given as goal

@@ -1,4 +1,5 @@
-use Rattle.value.specs.Prelude.{◌+◌, ◌≡◌, refl, sym, ◌∙◌, ap, arith}
+use Rattle.std.specs.Prelude.{◌+◌, ◌≡◌, refl}
+use Rattle.std.proofs.Common.{sym, ◌∙◌, ap, arith}
 use Rattle.image.specs.Memory.{reactor}
 use Rattle.machine.proofs.CellBytes.{keep_here, keep_not}
 use Rattle.machine.proofs.Passing.{keeps_done, keeps_first, keeps_next}

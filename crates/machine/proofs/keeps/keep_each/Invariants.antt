@@ -1,4 +1,4 @@
-use Rattle.value.specs.Prelude.{◌+◌, ◌-◌, ◌*◌, ◌≤◌, ◌≡◌, length}
+use Rattle.std.specs.Prelude.{◌+◌, ◌-◌, ◌*◌, ◌≤◌, ◌≡◌, length}
 use Rattle.image.specs.Memory.{reactor}
 use Rattle.program.specs.Bytes.{commands_d}
 use Rattle.program.specs.Location.{slot_at, source_count}

@@ -1,6 +1,6 @@
 use Rattle.machine.proofs.CellBytes.{keep_none}
 use Rattle.machine.proofs.FactLaws.{told}
-use Rattle.value.specs.Prelude.{sym, ◌∙◌}
+use Rattle.std.proofs.Common.{sym, ◌∙◌}
 use Rattle.machine.proofs.keeps.keep_one.Goals as goal
 
 pub keep_each-requires : goal.keep_each-requires

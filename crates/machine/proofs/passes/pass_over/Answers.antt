@@ -1,4 +1,5 @@
-use Rattle.value.specs.Prelude.{refl, ◌∙◌, arith}
+use Rattle.std.specs.Prelude.{refl}
+use Rattle.std.proofs.Common.{◌∙◌, arith}
 use Rattle.image.specs.Memory.{size_at, starts_below}
 use Rattle.machine.proofs.Clears.{local_each}
 use Rattle.machine.proofs.Passing.{pass_done, pass_inside, pass_legal, pass_next, pass_rises, pass_within}

@@ -1,4 +1,4 @@
-use Rattle.value.specs.Prelude.{◌-◌, ◌≡◌, length}
+use Rattle.std.specs.Prelude.{◌-◌, ◌≡◌, length}
 use Rattle.image.specs.Clauses.{Tiling, starts_on}
 use Rattle.image.specs.Memory.{starts_below}
 use Rattle.image.specs.Passes.{over}

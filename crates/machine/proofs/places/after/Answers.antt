@@ -1,5 +1,5 @@
 use Rattle.image.specs.Memory.{slot}
-use Rattle.value.specs.Prelude.{arith}
+use Rattle.std.proofs.Common.{arith}
 use Rattle.machine.proofs.places.after.Goals as goal
 
 pub returns : goal.returns

@@ -1,4 +1,4 @@
-use Rattle.value.specs.Prelude.{sym, arith}
+use Rattle.std.proofs.Common.{sym, arith}
 use Rattle.machine.proofs.Placing.{long_next, placed_next}
 use Rattle.program.proofs.Slots.{slot_low}
 use Rattle.machine.proofs.places.lay_first.Goals as goal

@@ -1,4 +1,4 @@
-use Rattle.value.specs.Prelude.{ℕ, ◌-◌, ◌≤◌, ◌≡◌, List, length}
+use Rattle.std.specs.Prelude.{ℕ, ◌-◌, ◌≤◌, ◌≡◌, List, length}
 use Rattle.machine.specs.Clauses.{PlacedTo}
 use Rattle.program.proofs.Slots.{first_r}
 use Rattle.machine.proofs.places.lay_first.Given as goal

@@ -1,4 +1,5 @@
-use Rattle.value.specs.Prelude.{refl, arith}
+use Rattle.std.specs.Prelude.{refl}
+use Rattle.std.proofs.Common.{arith}
 use Rattle.machine.proofs.Placing.{long_next, place_r_lem, placed_next, results_next}
 use Rattle.program.specs.Bytes.{byte}
 use Rattle.program.specs.Location.{results}

@@ -1,4 +1,5 @@
-use Rattle.value.specs.Prelude.{refl, ◌∙◌, arith}
+use Rattle.std.specs.Prelude.{refl}
+use Rattle.std.proofs.Common.{◌∙◌, arith}
 use Rattle.machine.proofs.BeforeCommand.{begun, stopped_there, all_inside, counted, fits, found, goes}
 use Rattle.machine.proofs.BeforeCommand.{going_call, going_fail, going_given, going_move}
 use Rattle.machine.proofs.BeforeCommand.{begins_at, here_at, lay_at, nested, not_deep, noted_loc, own}

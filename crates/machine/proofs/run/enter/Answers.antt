@@ -1,5 +1,5 @@
 use Rattle.machine.proofs.Opening.{from_d, opened}
-use Rattle.value.specs.Prelude.{sym, ◌∙◌}
+use Rattle.std.proofs.Common.{sym, ◌∙◌}
 use Rattle.machine.proofs.run.enter.Goals as goal
 
 pub returns-then-wired-ne0 : goal.returns-then-wired-ne0

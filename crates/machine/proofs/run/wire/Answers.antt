@@ -1,4 +1,5 @@
-use Rattle.value.specs.Prelude.{refl, arith}
+use Rattle.std.specs.Prelude.{refl}
+use Rattle.std.proofs.Common.{arith}
 use Rattle.machine.proofs.Declaring.{bytes_there, declared_off, declared_on}
 use Rattle.machine.proofs.Opening.{from_first, left_at}
 use Rattle.program.specs.Bytes.{commands_in}

@@ -1,4 +1,4 @@
-use Rattle.value.specs.Prelude.{ℕ, suc, ◌-◌, ◌≤◌, ◌≡◌, List, length}
+use Rattle.std.specs.Prelude.{ℕ, suc, ◌-◌, ◌≤◌, ◌≡◌, List, length}
 use Rattle.image.specs.Memory.{reactor, wired}
 use Rattle.machine.specs.Clauses.{Left}
 use Rattle.program.specs.Bytes.{commands_in}

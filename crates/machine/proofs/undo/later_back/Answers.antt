@@ -1,4 +1,5 @@
-use Rattle.value.specs.Prelude.{ℕ, ◌≡◌, arith}
+use Rattle.std.specs.Prelude.{ℕ, ◌≡◌}
+use Rattle.std.proofs.Common.{arith}
 use Rattle.machine.specs.Clauses.{each_of}
 use Rattle.remus.specs.Undo.{back, zero_from}
 use Rattle.machine.proofs.undo.later_back.Goals as goal

@@ -1,5 +1,5 @@
 use Rattle.machine.proofs.Stretch.{zero_none, zero_rest}
-use Rattle.value.specs.Prelude.{refl}
+use Rattle.std.specs.Prelude.{refl}
 use Rattle.machine.proofs.undo.zero_from.Goals as goal
 
 pub returns-then-i-n : goal.returns-then-i-n

@@ -1,5 +1,5 @@
 use Rattle.value.specs.Test.{◌=?◌}
-use Rattle.value.specs.Prelude.{refl}
+use Rattle.std.specs.Prelude.{refl}
 use Rattle.program.proofs.Counts.none.Goals as goal
 
 pub returns : goal.returns

@@ -1,4 +1,5 @@
-use Rattle.value.specs.Prelude.{◌+◌, ◌≡◌, ap, arith}
+use Rattle.std.specs.Prelude.{◌+◌, ◌≡◌}
+use Rattle.std.proofs.Common.{ap, arith}
 use Rattle.program.proofs.Slots.{first_r, slot_high}
 use Rattle.program.specs.Bytes.{commands_r, commands_in}
 use Rattle.program.specs.Location.{slot_at, sink_loc}

@@ -1,5 +1,5 @@
 use Rattle.program.specs.Location.{slot_at, sink_loc, size_of, locations}
-use Rattle.value.specs.Prelude.{◌∙◌, ap}
+use Rattle.std.proofs.Common.{◌∙◌, ap}
 use Rattle.program.proofs.Counts.size.Goals as goal
 
 pub returns : goal.returns

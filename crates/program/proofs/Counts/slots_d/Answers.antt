@@ -1,6 +1,6 @@
 use Rattle.program.proofs.Slots.{slot_low}
 use Rattle.program.specs.Location.{source_count}
-use Rattle.value.specs.Prelude.{arith}
+use Rattle.std.proofs.Common.{arith}
 use Rattle.program.proofs.Counts.slots_d.Goals as goal
 
 pub returns : goal.returns

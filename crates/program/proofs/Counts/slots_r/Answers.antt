@@ -1,5 +1,5 @@
 use Rattle.program.proofs.Slots.{first_r, slot_low}
-use Rattle.value.specs.Prelude.{arith}
+use Rattle.std.proofs.Common.{arith}
 use Rattle.program.proofs.Counts.slots_r.Goals as goal
 
 pub returns : goal.returns

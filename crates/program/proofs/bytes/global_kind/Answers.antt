@@ -1,6 +1,7 @@
 use Rattle.program.specs.Bytes.{global_kind}
 use Rattle.value.proofs.Tests.{eq!, eq×, no, yes}
-use Rattle.value.specs.Prelude.{refl, arith}
+use Rattle.std.specs.Prelude.{refl}
+use Rattle.std.proofs.Common.{arith}
 use Rattle.program.proofs.bytes.global_kind.Goals as goal
 
 pub returns-then-x-eq0 : goal.returns-then-x-eq0

@@ -1,6 +1,6 @@
 use Rattle.program.proofs.EqualByBytes.{same_command}
 use Rattle.program.specs.Command.{bytes_at}
-use Rattle.value.specs.Prelude.{◌∙◌}
+use Rattle.std.proofs.Common.{◌∙◌}
 use Rattle.program.proofs.commands.bytes_near_end.Goals as goal
 
 pub returns : goal.returns

@@ -1,5 +1,5 @@
 use Rattle.program.proofs.EqualByBytes.{same_command}
-use Rattle.value.specs.Prelude.{arith}
+use Rattle.std.proofs.Common.{arith}
 use Rattle.program.proofs.commands.through_word.Goals as goal
 
 pub returns : goal.returns

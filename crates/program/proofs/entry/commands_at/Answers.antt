@@ -1,4 +1,4 @@
-use Rattle.value.specs.Prelude.{sym, ◌∙◌, ap, arith}
+use Rattle.std.proofs.Common.{sym, ◌∙◌, ap, arith}
 use Rattle.program.proofs.Places.{commands_first, commands_next}
 use Rattle.program.specs.Bytes.{commands_at}
 use Rattle.program.proofs.entry.commands_at.Goals as goal

@@ -1,4 +1,4 @@
-use Rattle.value.specs.Prelude.{◌+◌, ◌-◌, ◌*◌, ◌≤◌, ◌≡◌}
+use Rattle.std.specs.Prelude.{◌+◌, ◌-◌, ◌*◌, ◌≤◌, ◌≡◌}
 use Rattle.program.specs.Bytes.{commands_at}
 use Rattle.program.proofs.entry.commands_at.Given as goal
 

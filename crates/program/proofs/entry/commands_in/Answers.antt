@@ -1,5 +1,5 @@
 use Rattle.program.specs.Bytes.{commands_in}
-use Rattle.value.specs.Prelude.{arith}
+use Rattle.std.proofs.Common.{arith}
 use Rattle.program.proofs.entry.commands_in.Goals as goal
 
 pub returns : goal.returns

@@ -1,5 +1,5 @@
 use Rattle.program.specs.Bytes.{entry_at, shape_at}
-use Rattle.value.specs.Prelude.{ap, arith}
+use Rattle.std.proofs.Common.{ap, arith}
 use Rattle.program.proofs.entry.entry_at.Goals as goal
 
 pub returns : goal.returns

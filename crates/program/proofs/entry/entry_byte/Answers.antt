@@ -1,5 +1,5 @@
 use Rattle.program.specs.Bytes.{byte}
-use Rattle.value.specs.Prelude.{◌∙◌, ap, arith}
+use Rattle.std.proofs.Common.{◌∙◌, ap, arith}
 use Rattle.program.proofs.entry.entry_byte.Goals as goal
 
 pub returns : goal.returns

@@ -1,5 +1,5 @@
 use Rattle.program.specs.Bytes.{main_of}
-use Rattle.value.specs.Prelude.{arith}
+use Rattle.std.proofs.Common.{arith}
 use Rattle.program.proofs.entry.main_of.Goals as goal
 
 pub returns-then-n-lt1 : goal.returns-then-n-lt1

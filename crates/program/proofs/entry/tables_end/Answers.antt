@@ -1,5 +1,5 @@
 use Rattle.program.specs.Bytes.{entry_at, tables_end}
-use Rattle.value.specs.Prelude.{◌∙◌, ap}
+use Rattle.std.proofs.Common.{◌∙◌, ap}
 use Rattle.program.proofs.entry.tables_end.Goals as goal
 
 pub returns : goal.returns

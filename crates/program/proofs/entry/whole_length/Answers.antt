@@ -1,5 +1,5 @@
 use Rattle.program.specs.Bytes.{commands_at, whole_length}
-use Rattle.value.specs.Prelude.{◌∙◌, ap}
+use Rattle.std.proofs.Common.{◌∙◌, ap}
 use Rattle.program.proofs.entry.whole_length.Goals as goal
 
 pub returns : goal.returns

@@ -1,4 +1,5 @@
-use Rattle.value.specs.Prelude.{refl, arith}
+use Rattle.std.specs.Prelude.{refl}
+use Rattle.std.proofs.Common.{arith}
 use Rattle.program.proofs.facts.fact.Goals as goal
 
 pub returns-then-i-lt64 : goal.returns-then-i-lt64

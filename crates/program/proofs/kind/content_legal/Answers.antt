@@ -1,6 +1,6 @@
 use Rattle.program.proofs.Contents.{no_reactor, number_content, reactor_content, truth_content}
 use Rattle.value.specs.Test.{◌<?◌, ◌=?◌}
-use Rattle.value.specs.Prelude.{arith}
+use Rattle.std.proofs.Common.{arith}
 use Rattle.program.proofs.kind.content_legal.Goals as goal
 
 pub returns-then-kind-lt1 : goal.returns-then-kind-lt1

@@ -1,6 +1,6 @@
 use Rattle.program.specs.Kind.{legal}
 use Rattle.value.proofs.Tests.{same_and, same_eq, same_or}
-use Rattle.value.specs.Prelude.{refl}
+use Rattle.std.specs.Prelude.{refl}
 use Rattle.program.proofs.kind.legal.Goals as goal
 
 pub returns : goal.returns

@@ -1,5 +1,5 @@
 use Rattle.program.proofs.Contents.{number_mark_lem, reactor_mark_lem, truth_mark_lem}
-use Rattle.value.specs.Prelude.{arith}
+use Rattle.std.proofs.Common.{arith}
 use Rattle.program.proofs.kind.mark_of.Goals as goal
 
 pub returns-then-kind-lt1 : goal.returns-then-kind-lt1

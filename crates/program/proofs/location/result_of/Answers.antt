@@ -1,4 +1,5 @@
-use Rattle.value.specs.Prelude.{ℕ, ◌≡◌, refl, arith}
+use Rattle.std.specs.Prelude.{ℕ, ◌≡◌, refl}
+use Rattle.std.proofs.Common.{arith}
 use Rattle.value.specs.Test.{pick}
 use Rattle.program.specs.Command.{Cmd, takes_words}
 use Rattle.program.proofs.Decode.{by_code, as_supply, as_react, as_sink}

@@ -1,5 +1,5 @@
 use Rattle.program.specs.Bytes.{command_at}
-use Rattle.value.specs.Prelude.{arith}
+use Rattle.std.proofs.Common.{arith}
 use Rattle.program.proofs.location.results.Goals as goal
 
 pub returns : goal.returns

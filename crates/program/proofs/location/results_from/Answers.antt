@@ -1,4 +1,5 @@
-use Rattle.value.specs.Prelude.{ℕ, suc, ◌+◌, ◌*◌, ◌≡◌, refl, sym, ◌∙◌, ap, List, arith}
+use Rattle.std.specs.Prelude.{ℕ, suc, ◌+◌, ◌*◌, ◌≡◌, refl, List}
+use Rattle.std.proofs.Common.{sym, ◌∙◌, ap, arith}
 use Rattle.value.specs.Test.{pick}
 use Rattle.program.specs.Bytes.{byte, commands_d, command_at}
 use Rattle.program.specs.Command.{takes_words, decode, bytes_at, bytes_of, cmd_of}

@@ -1,4 +1,4 @@
-use Rattle.value.specs.Prelude.{ℕ, ◌-◌, ◌≤◌, ◌≡◌}
+use Rattle.std.specs.Prelude.{ℕ, ◌-◌, ◌≤◌, ◌≡◌}
 use Rattle.program.specs.Bytes.{commands_d, command_at}
 use Rattle.program.specs.Location.{results}
 use Rattle.program.proofs.location.results_from.Given as goal

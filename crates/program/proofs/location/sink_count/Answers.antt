@@ -1,6 +1,6 @@
 use Rattle.program.specs.Bytes.{sinks_in}
 use Rattle.program.specs.Location.{sink_count}
-use Rattle.value.specs.Prelude.{◌∙◌, ap}
+use Rattle.std.proofs.Common.{◌∙◌, ap}
 use Rattle.program.proofs.location.sink_count.Goals as goal
 
 pub returns : goal.returns

@@ -1,5 +1,5 @@
 use Rattle.program.specs.Location.{sink_loc}
-use Rattle.value.specs.Prelude.{arith}
+use Rattle.std.proofs.Common.{arith}
 use Rattle.program.proofs.location.sink_loc.Goals as goal
 
 pub returns : goal.returns

@@ -1,4 +1,4 @@
-use Rattle.value.specs.Prelude.{◌∙◌, ap, arith}
+use Rattle.std.proofs.Common.{◌∙◌, ap, arith}
 use Rattle.program.specs.Location.{results}
 use Rattle.program.proofs.Slots.{size_formula}
 use Rattle.program.proofs.location.size_of.Goals as goal

@@ -1,4 +1,5 @@
-use Rattle.value.specs.Prelude.{◌+◌, ◌-◌, ◌≡◌, ◌∙◌, ap, arith}
+use Rattle.std.specs.Prelude.{◌+◌, ◌-◌, ◌≡◌}
+use Rattle.std.proofs.Common.{◌∙◌, ap, arith}
 use Rattle.program.specs.Bytes.{commands_r}
 use Rattle.program.specs.Location.{slot_at, results}
 use Rattle.program.proofs.Slots.{first_r, slot_low, slot_r, slot_high}

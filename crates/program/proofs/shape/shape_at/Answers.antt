@@ -1,5 +1,5 @@
 use Rattle.program.specs.Bytes.{shape_at}
-use Rattle.value.specs.Prelude.{arith}
+use Rattle.std.proofs.Common.{arith}
 use Rattle.program.proofs.shape.shape_at.Goals as goal
 
 pub returns : goal.returns

@@ -1,5 +1,5 @@
 use Rattle.program.specs.Bytes.{byte, shape_at}
-use Rattle.value.specs.Prelude.{◌∙◌, ap, arith}
+use Rattle.std.proofs.Common.{◌∙◌, ap, arith}
 use Rattle.program.proofs.shape.shape_byte.Goals as goal
 
 pub returns : goal.returns

@@ -1,5 +1,5 @@
 use Rattle.program.specs.Bytes.{byte, sink_kind}
-use Rattle.value.specs.Prelude.{◌∙◌, ap, arith}
+use Rattle.std.proofs.Common.{◌∙◌, ap, arith}
 use Rattle.program.proofs.shape.sink_kind.Goals as goal
 
 pub returns : goal.returns

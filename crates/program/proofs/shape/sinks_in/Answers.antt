@@ -1,5 +1,5 @@
 use Rattle.program.specs.Bytes.{byte, sinks_in}
-use Rattle.value.specs.Prelude.{◌∙◌, ap, arith}
+use Rattle.std.proofs.Common.{◌∙◌, ap, arith}
 use Rattle.program.proofs.shape.sinks_in.Goals as goal
 
 pub returns : goal.returns

@@ -1,5 +1,5 @@
 use Rattle.program.specs.Bytes.{byte, source_kind}
-use Rattle.value.specs.Prelude.{◌∙◌, ap, arith}
+use Rattle.std.proofs.Common.{◌∙◌, ap, arith}
 use Rattle.program.proofs.shape.source_kind.Goals as goal
 
 pub returns : goal.returns

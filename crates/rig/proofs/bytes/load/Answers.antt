@@ -1,4 +1,5 @@
-use Rattle.value.specs.Prelude.{◌≡◌, refl, ◌∙◌, append-nil, length, arith}
+use Rattle.std.specs.Prelude.{◌≡◌, refl, length}
+use Rattle.std.proofs.Common.{◌∙◌, append-nil, arith}
 use Rattle.rig.proofs.Copying.{load_more}
 use lib.ListN.{length-set}
 use lib.Seq.{drop-length}

@@ -1,4 +1,5 @@
-use Rattle.value.specs.Prelude.{◌*◌, refl, ◌∙◌, ap, length, get_or, arith}
+use Rattle.std.specs.Prelude.{◌*◌, refl, length, get_or}
+use Rattle.std.proofs.Common.{◌∙◌, ap, arith}
 use Rattle.rig.proofs.Copying.{save_more, save_all, put_length}
 use Rattle.rig.proofs.bytes.save.Goals as goal
 

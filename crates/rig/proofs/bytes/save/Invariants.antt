@@ -1,4 +1,4 @@
-use Rattle.value.specs.Prelude.{◌-◌, ◌*◌, ◌≤◌, ◌≡◌, length}
+use Rattle.std.specs.Prelude.{◌-◌, ◌*◌, ◌≤◌, ◌≡◌, length}
 use Rattle.rig.proofs.Copying.{mixed}
 use Rattle.rig.specs.Words.{bytes_of}
 use Rattle.rig.proofs.bytes.save.Given as goal

@@ -3,7 +3,8 @@ use Rattle.std.proofs.Common.{ap}
 use Rattle.rig.proofs.Facing.{answer_faced}
 use Rattle.rig.proofs.Trying.{level, preview_told, unfit_told}
 use Rattle.value.proofs.Tests.{passed, refused, same_and, same_eq}
-use Rattle.value.specs.Prelude.{refl, sym, ◌∙◌, arith}
+use Rattle.std.specs.Prelude.{refl}
+use Rattle.std.proofs.Common.{sym, ◌∙◌, arith}
 use lib.Seq.{length-take-le}
 use Rattle.rig.proofs.calls.remus_preview.Goals as goal
 

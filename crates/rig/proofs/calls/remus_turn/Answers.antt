@@ -1,5 +1,5 @@
 use Rattle.rig.proofs.Facing.{turn_told}
-use Rattle.value.specs.Prelude.{sym, ◌∙◌, arith}
+use Rattle.std.proofs.Common.{sym, ◌∙◌, arith}
 use lib.Seq.{length-take-le}
 use Rattle.rig.proofs.calls.remus_turn.Goals as goal
 

@@ -1,6 +1,7 @@
 use Rattle.rig.specs.Clauses.{unfit_of}
 use Rattle.value.proofs.Tests.{yes, no}
-use Rattle.value.specs.Prelude.{refl, sym, ◌∙◌}
+use Rattle.std.specs.Prelude.{refl}
+use Rattle.std.proofs.Common.{sym, ◌∙◌}
 use Rattle.rig.proofs.calls.unfit.Goals as goal
 
 pub returns-then-words_legal : goal.returns-then-words_legal

@@ -1,4 +1,5 @@
-use Rattle.value.specs.Prelude.{◌+◌, ◌*◌, refl, ap}
+use Rattle.std.specs.Prelude.{◌+◌, ◌*◌, refl}
+use Rattle.std.proofs.Common.{ap}
 use Rattle.rig.specs.Words.{packed}
 use Rattle.value.proofs.Tests.{lt!, lt×, yes, no}
 use Rattle.rig.proofs.pack.pack.Goals as goal

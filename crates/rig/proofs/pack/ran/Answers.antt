@@ -1,6 +1,6 @@
 use Rattle.remus.specs.Preview.{from_run}
 use Rattle.value.proofs.Tests.{same_eq, same_or}
-use Rattle.value.specs.Prelude.{refl}
+use Rattle.std.specs.Prelude.{refl}
 use Rattle.rig.proofs.pack.ran.Goals as goal
 
 pub returns : goal.returns

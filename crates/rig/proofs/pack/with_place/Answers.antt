@@ -1,6 +1,6 @@
 use Rattle.rig.specs.Clauses.{placed_at}
 use Rattle.value.proofs.Tests.{yes, no, eq!, eq×}
-use Rattle.value.specs.Prelude.{refl}
+use Rattle.std.specs.Prelude.{refl}
 use Rattle.rig.proofs.pack.with_place.Goals as goal
 
 pub returns-then-answer-number : goal.returns-then-answer-number

@@ -1,5 +1,6 @@
 use Rattle.rig.proofs.ManyReadings.{too_many, all_read, room_fits}
-use Rattle.value.specs.Prelude.{refl, sym, arith}
+use Rattle.std.specs.Prelude.{refl}
+use Rattle.std.proofs.Common.{sym, arith}
 use lib.Seq.{length-take-le}
 use Rattle.rig.proofs.readings.call_read.Goals as goal
 

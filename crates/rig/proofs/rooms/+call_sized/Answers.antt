@@ -1,5 +1,6 @@
 use Rattle.std.proofs.Common.{rules}
-use Rattle.value.specs.Prelude.{refl, arith}
+use Rattle.std.specs.Prelude.{refl}
+use Rattle.std.proofs.Common.{arith}
 use Rattle.rig.proofs.Sizes.{level_none, too_many}
 use Rattle.rig.proofs.rooms.+call_sized.Goals as goal
 

@@ -1,4 +1,4 @@
-use Rattle.value.specs.Prelude.{length}
+use Rattle.std.specs.Prelude.{length}
 use Rattle.rig.proofs.rooms.+call_sized.Given as goal
 
 -- memory of no words is shorter

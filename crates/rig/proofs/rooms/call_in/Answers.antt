@@ -1,5 +1,5 @@
 use Rattle.rig.proofs.Sizes.{saved, left}
-use Rattle.value.specs.Prelude.{sym, ◌∙◌}
+use Rattle.std.proofs.Common.{sym, ◌∙◌}
 use Rattle.rig.proofs.rooms.call_in.Goals as goal
 
 pub returns-then-to_save : goal.returns-then-to_save

@@ -1,4 +1,4 @@
-use Rattle.value.specs.Prelude.{sym, arith}
+use Rattle.std.proofs.Common.{sym, arith}
 use lib.Seq.{length-take-le}
 use Rattle.rig.proofs.rooms.call_within.Goals as goal
 

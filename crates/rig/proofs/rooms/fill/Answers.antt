@@ -1,6 +1,6 @@
 use Rattle.rig.proofs.Holding.{all_words}
 use Rattle.rig.specs.Clauses.{room_of}
-use Rattle.value.specs.Prelude.{sym, ◌∙◌, arith}
+use Rattle.std.proofs.Common.{sym, ◌∙◌, arith}
 use Rattle.rig.proofs.rooms.fill.Goals as goal
 
 pub load-requires-in-Preview : goal.load-requires-in-Preview

@@ -1,5 +1,5 @@
 use Rattle.rig.specs.Clauses.{saves}
-use Rattle.value.specs.Prelude.{refl}
+use Rattle.std.specs.Prelude.{refl}
 use Rattle.rig.proofs.rooms.to_save.Goals as goal
 
 pub returns-in-Start : goal.returns-in-Start

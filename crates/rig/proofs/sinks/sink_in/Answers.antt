@@ -1,6 +1,6 @@
 use Rattle.std.proofs.Common.{rules}
 use Rattle.rig.proofs.FirstSinks.{first_words}
-use Rattle.value.specs.Prelude.{arith}
+use Rattle.std.proofs.Common.{arith}
 use Rattle.rig.proofs.sinks.sink_in.Goals as goal
 
 pub returns : goal.returns

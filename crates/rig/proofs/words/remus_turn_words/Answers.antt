@@ -1,5 +1,5 @@
 use Rattle.rig.proofs.Facing.{turn_faced_lem}
-use Rattle.value.specs.Prelude.{sym, arith}
+use Rattle.std.proofs.Common.{sym, arith}
 use lib.Seq.{length-take-le, take-length}
 use Rattle.rig.proofs.words.remus_turn_words.Goals as goal
 

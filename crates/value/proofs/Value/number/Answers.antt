@@ -1,4 +1,5 @@
-use Rattle.value.specs.Prelude.{ℕ, ◌∙◌, ap}
+use Rattle.std.specs.Prelude.{ℕ}
+use Rattle.std.proofs.Common.{◌∙◌, ap}
 use Rattle.std.proofs.Common.{w32, of_z}
 use Rattle.value.proofs.Integers.{is_back}
 use Rattle.value.specs.Value.{value, number_mark}

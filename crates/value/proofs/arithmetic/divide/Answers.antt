@@ -1,4 +1,4 @@
-use Rattle.value.specs.Prelude.{sym, ◌∙◌, ap}
+use Rattle.std.proofs.Common.{sym, ◌∙◌, ap}
 use Rattle.std.proofs.Common.{ℤ, neg_ℤ}
 use Rattle.value.proofs.Integers.{is_back, by_zero, by_minus_one, divides, divided}
 use Rattle.value.specs.Primitive.{within}

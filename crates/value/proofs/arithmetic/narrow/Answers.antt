@@ -1,4 +1,4 @@
-use Rattle.value.specs.Prelude.{sym, ◌∙◌}
+use Rattle.std.proofs.Common.{sym, ◌∙◌}
 use Rattle.value.proofs.Integers.{too_low, too_high, narrows, narrowed}
 use Rattle.value.proofs.arithmetic.narrow.Goals as goal
 

@@ -1,4 +1,4 @@
-use Rattle.value.specs.Prelude.{sym, ◌∙◌}
+use Rattle.std.proofs.Common.{sym, ◌∙◌}
 use Rattle.value.proofs.Integers.{negates, lowest_blank, negated_number}
 use Rattle.value.proofs.arithmetic.negate.Goals as goal
 

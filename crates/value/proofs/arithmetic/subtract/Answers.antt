@@ -1,4 +1,4 @@
-use Rattle.value.specs.Prelude.{◌∙◌, ap}
+use Rattle.std.proofs.Common.{◌∙◌, ap}
 use Rattle.std.proofs.Common.{◌-ℤ◌}
 use Rattle.value.proofs.Integers.{widens, fits_wide, passes, difference_fits}
 use Rattle.value.specs.Primitive.{within}

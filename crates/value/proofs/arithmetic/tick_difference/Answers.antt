@@ -1,4 +1,4 @@
-use Rattle.value.specs.Prelude.{◌∙◌, ap}
+use Rattle.std.proofs.Common.{◌∙◌, ap}
 use Rattle.std.proofs.Common.{w32}
 use Rattle.value.proofs.Integers.{is_back, rounds}
 use Rattle.value.specs.Value.{number}

@@ -1,4 +1,5 @@
-use Rattle.value.specs.Prelude.{refl, arith}
+use Rattle.std.specs.Prelude.{refl}
+use Rattle.std.proofs.Common.{arith}
 use Rattle.value.proofs.Formulas.{formula_fits}
 use Rattle.value.proofs.formula.mix.Goals as goal
 

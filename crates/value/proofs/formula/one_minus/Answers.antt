@@ -1,4 +1,5 @@
-use Rattle.value.specs.Prelude.{refl, true, arith}
+use Rattle.std.specs.Prelude.{refl, true}
+use Rattle.std.proofs.Common.{arith}
 use Rattle.value.proofs.Formulas.{formula_fits}
 use Rattle.value.proofs.formula.one_minus.Goals as goal
 

@@ -1,4 +1,5 @@
-use Rattle.value.specs.Prelude.{ℕ, ◌+◌, ◌-◌, ◌≡◌, ◌∙◌, ap, arith}
+use Rattle.std.specs.Prelude.{ℕ, ◌+◌, ◌-◌, ◌≡◌}
+use Rattle.std.proofs.Common.{◌∙◌, ap, arith}
 use Rattle.std.proofs.Common.{w32, of_z}
 use Rattle.value.proofs.Integers.{is_back, word_high, magnitude_below, magnitude_above}
 use Rattle.value.proofs.integer.magnitude.Goals as goal

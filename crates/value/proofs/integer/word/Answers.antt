@@ -1,4 +1,4 @@
-use Rattle.value.specs.Prelude.{arith}
+use Rattle.std.proofs.Common.{arith}
 use Rattle.value.proofs.Integers.{flips, flipped_back, from_zero, word_below, word_above}
 use Rattle.value.proofs.integer.word.Goals as goal
 

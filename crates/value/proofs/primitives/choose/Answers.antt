@@ -1,4 +1,4 @@
-use Rattle.value.specs.Prelude.{sym}
+use Rattle.std.proofs.Common.{sym}
 use Rattle.value.proofs.Formulas.{choose_formula}
 use Rattle.value.specs.Test.{◌=?◌}
 use Rattle.value.specs.Value.{is_truth, is_true}

@@ -1,4 +1,5 @@
-use Rattle.value.specs.Prelude.{sym, true, arith}
+use Rattle.std.proofs.Common.{sym, arith}
+use Rattle.std.specs.Prelude.{true}
 use Rattle.value.proofs.Formulas.{not_formula, formula_fits}
 use Rattle.value.specs.Test.{◌=?◌}
 use Rattle.value.specs.Value.{blank, is_truth, is_true}

@@ -1,4 +1,4 @@
-use Rattle.value.specs.Prelude.{arith}
+use Rattle.std.proofs.Common.{arith}
 use Rattle.value.proofs.Rows.{past}
 use Rattle.value.specs.Primitive.{table, row_of, primitive}
 use Rattle.value.proofs.primitives.primitive.Goals as goal

@@ -1,4 +1,4 @@
-use Rattle.value.specs.Prelude.{sym, ◌∙◌}
+use Rattle.std.proofs.Common.{sym, ◌∙◌}
 use Rattle.value.proofs.Tests.{yes, no, flags, same_or}
 use Rattle.value.specs.Test.{◌=?◌}
 use Rattle.value.specs.Value.{is_truth}

@@ -1,4 +1,5 @@
-use Rattle.value.specs.Prelude.{ℕ, ◌≡◌, refl, arith}
+use Rattle.std.specs.Prelude.{ℕ, ◌≡◌, refl}
+use Rattle.std.proofs.Common.{arith}
 use Rattle.value.proofs.Rows.{each, past}
 use Rattle.value.specs.Primitive.{table, row_of}
 use Rattle.value.specs.declared.Takes.TheVariants.{TwoNumbers, TwoTruths}
