@@ -87,7 +87,7 @@ fn grown(program: &[u8], memory: &[u32], u: u32) -> Judged
 }
 
 // Whether an image is sound for a program, and if not, where it is at fault: exactly so for up to 64
-// reactors and 16,384 words, which is all that check and length let pass (exact-soundness, exact-place).
+// reactors and 16,384 words, which is all that check and length let pass (exact_soundness, exact_place).
 pub fn sound(program: &[u8], memory: &[u32]) -> Judged
     ensures { result ≡ P.sound_of program.now memory.now }
 {

@@ -37,7 +37,7 @@ same_int (pos m) (negsuc n) = false
 same_int (negsuc m) (pos n) = false
 same_int (negsuc m) (negsuc n) = m == n
 
--- blank by 0, else cut toward zero: the kit's `quot_z`, which is the quotient of Division.antt
+-- blank by 0, else cut toward zero: the kit's `int_div`, which is the quotient of Division.antt
 unfoldable pub quotient : ℤ → ℤ → Value
 quotient x y = pick (is_zero y) blank (within (int_div x y))
 
