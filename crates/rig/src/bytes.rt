@@ -33,7 +33,7 @@ pub(crate) fn load(s: &[u8], w: &mut [u32])
 
 // The word at byte j becomes v.
 fn put_at(s: &mut [u8], j: usize, v: u32)
-    requires { j + 3 < length s.now }
+    requires { j + 3 < length s.old }
     ensures { s.new ≡ put_at s.old j v }
 {
     s[j] = (v % 256) as u8;
