@@ -17,13 +17,15 @@ mod turns;
 mod vectors;
 mod words;
 
-fn main() {
-    primitives::print_all();
-    checks::print_all();
-    turns::print_all();
-    faults::print_all();
-    previews::print_all();
-    figures::print_all();
-    texts::print_all();
-    vectors::run();
+use std::io;
+
+fn main(rt: HostRuntime) -> io::Result<()> {
+    primitives::print_all(&rt)?;
+    checks::print_all(&rt)?;
+    turns::print_all(&rt)?;
+    faults::print_all(&rt)?;
+    previews::print_all(&rt)?;
+    figures::print_all(&rt)?;
+    texts::print_all(&rt)?;
+    vectors::run(&rt)
 }

@@ -1,5 +1,6 @@
 // 1.11 to 1.24 The bench cases about primitives: bounds, blanks, and the tables of `and` and `or`.
 use crate::text::{put, put_value};
+use std::io;
 use value::Value;
 
 const ADD: u8 = 0;
@@ -32,102 +33,102 @@ const LOWEST: i32 = -2147483648;
 
 const HIGHEST: i32 = 2147483647;
 
-fn put_result(v: Value) {
-    put(b" = ");
-    put_value(v);
-    put(b"\n");
+fn put_result(rt: &impl Print, v: Value) -> io::Result<()> {
+    put(rt, " = ")?;
+    put_value(rt, v)?;
+    put(rt, "\n")
 }
 
 // A line `a sign b = result`.
-fn infix(a: Value, op: u8, sign: &[u8], b: Value) {
-    put_value(a);
-    put(sign);
-    put_value(b);
-    put_result(value::primitive(op, a, b, Value::blank()));
+fn infix(rt: &impl Print, a: Value, op: u8, sign: &str, b: Value) -> io::Result<()> {
+    put_value(rt, a)?;
+    put(rt, sign)?;
+    put_value(rt, b)?;
+    put_result(rt, value::primitive(op, a, b, Value::blank()))
 }
 
-fn numbers(x: i32, op: u8, sign: &[u8], y: i32) {
-    infix(Value::number(x), op, sign, Value::number(y));
+fn numbers(rt: &impl Print, x: i32, op: u8, sign: &str, y: i32) -> io::Result<()> {
+    infix(rt, Value::number(x), op, sign, Value::number(y))
 }
 
 // A line `name a = result`.
-fn prefix(op: u8, name: &[u8], a: Value) {
-    put(name);
-    put_value(a);
-    put_result(value::primitive(op, a, Value::blank(), Value::blank()));
+fn prefix(rt: &impl Print, op: u8, name: &str, a: Value) -> io::Result<()> {
+    put(rt, name)?;
+    put_value(rt, a)?;
+    put_result(rt, value::primitive(op, a, Value::blank(), Value::blank()))
 }
 
 // A line `t ? a : b = result`.
-fn choice(t: Value, a: Value, b: Value) {
-    put_value(t);
-    put(b" ? ");
-    put_value(a);
-    put(b" : ");
-    put_value(b);
-    put_result(value::primitive(CHOOSE, t, a, b));
+fn choice(rt: &impl Print, t: Value, a: Value, b: Value) -> io::Result<()> {
+    put_value(rt, t)?;
+    put(rt, " ? ")?;
+    put_value(rt, a)?;
+    put(rt, " : ")?;
+    put_value(rt, b)?;
+    put_result(rt, value::primitive(CHOOSE, t, a, b))
 }
 
-fn starred() {
-    numbers(LOWEST, DIVIDE, b" / ", -1);
-    numbers(-7, DIVIDE, b" / ", 2);
-    infix(Value::blank(), LESS, b" < ", Value::number(5));
+fn starred(rt: &impl Print) -> io::Result<()> {
+    numbers(rt, LOWEST, DIVIDE, " / ", -1)?;
+    numbers(rt, -7, DIVIDE, " / ", 2)?;
+    infix(rt, Value::blank(), LESS, " < ", Value::number(5))
 }
 
 // 1.9, 1.14 Results that do not fit, and a divisor of 0: blank.
-fn bounds() {
-    numbers(HIGHEST, ADD, b" + ", 0);
-    numbers(HIGHEST, ADD, b" + ", 1);
-    numbers(LOWEST, SUBTRACT, b" - ", 1);
-    numbers(65536, TIMES, b" * ", 32768);
-    numbers(65536, TIMES, b" * ", -32768);
-    numbers(7, DIVIDE, b" / ", 0);
-    numbers(7, DIVIDE, b" / ", -2);
-    numbers(-1, LESS, b" < ", 0);
-    numbers(5, EQUAL, b" == ", 5);
+fn bounds(rt: &impl Print) -> io::Result<()> {
+    numbers(rt, HIGHEST, ADD, " + ", 0)?;
+    numbers(rt, HIGHEST, ADD, " + ", 1)?;
+    numbers(rt, LOWEST, SUBTRACT, " - ", 1)?;
+    numbers(rt, 65536, TIMES, " * ", 32768)?;
+    numbers(rt, 65536, TIMES, " * ", -32768)?;
+    numbers(rt, 7, DIVIDE, " / ", 0)?;
+    numbers(rt, 7, DIVIDE, " / ", -2)?;
+    numbers(rt, -1, LESS, " < ", 0)?;
+    numbers(rt, 5, EQUAL, " == ", 5)
 }
 
 // A blank operand of 0 to 7 gives blank; known, choose and instead have rules of their own.
-fn blanks() {
-    infix(Value::blank(), EQUAL, b" == ", Value::blank());
-    infix(Value::number(7), ADD, b" + ", Value::blank());
-    prefix(NOT, b"not ", Value::truth(true));
-    prefix(NOT, b"not ", Value::blank());
-    prefix(KNOWN, b"known ", Value::number(0));
-    prefix(KNOWN, b"known ", Value::blank());
-    choice(Value::truth(true), Value::number(1), Value::blank());
-    choice(Value::truth(false), Value::blank(), Value::number(2));
-    choice(Value::blank(), Value::number(3), Value::number(3));
-    infix(Value::number(7), INSTEAD, b" instead ", Value::number(9));
-    infix(Value::blank(), INSTEAD, b" instead ", Value::number(9));
+fn blanks(rt: &impl Print) -> io::Result<()> {
+    infix(rt, Value::blank(), EQUAL, " == ", Value::blank())?;
+    infix(rt, Value::number(7), ADD, " + ", Value::blank())?;
+    prefix(rt, NOT, "not ", Value::truth(true))?;
+    prefix(rt, NOT, "not ", Value::blank())?;
+    prefix(rt, KNOWN, "known ", Value::number(0))?;
+    prefix(rt, KNOWN, "known ", Value::blank())?;
+    choice(rt, Value::truth(true), Value::number(1), Value::blank())?;
+    choice(rt, Value::truth(false), Value::blank(), Value::number(2))?;
+    choice(rt, Value::blank(), Value::number(3), Value::number(3))?;
+    infix(rt, Value::number(7), INSTEAD, " instead ", Value::number(9))?;
+    infix(rt, Value::blank(), INSTEAD, " instead ", Value::number(9))
 }
 
 // On either side false settles an and, true an or.
-fn settled() {
+fn settled(rt: &impl Print) -> io::Result<()> {
     let blank = Value::blank();
-    infix(Value::truth(false), AND, b" and ", blank);
-    infix(blank, AND, b" and ", Value::truth(false));
-    infix(Value::truth(true), AND, b" and ", blank);
-    infix(Value::truth(true), OR, b" or ", blank);
-    infix(blank, OR, b" or ", Value::truth(true));
-    infix(Value::truth(false), OR, b" or ", blank);
+    infix(rt, Value::truth(false), AND, " and ", blank)?;
+    infix(rt, blank, AND, " and ", Value::truth(false))?;
+    infix(rt, Value::truth(true), AND, " and ", blank)?;
+    infix(rt, Value::truth(true), OR, " or ", blank)?;
+    infix(rt, blank, OR, " or ", Value::truth(true))?;
+    infix(rt, Value::truth(false), OR, " or ", blank)
 }
 
 // The difference of ticks goes round at 32 bits.
-fn ticks() {
-    let since = b" since ";
-    numbers(LOWEST, TICK_DIFFERENCE, since, HIGHEST);
-    numbers(HIGHEST, TICK_DIFFERENCE, since, LOWEST);
-    numbers(0, TICK_DIFFERENCE, since, LOWEST);
-    numbers(-5, TICK_DIFFERENCE, since, -5);
-    numbers(5, TICK_DIFFERENCE, since, 7);
-    infix(Value::blank(), TICK_DIFFERENCE, since, Value::number(5));
-    infix(Value::number(5), TICK_DIFFERENCE, since, Value::blank());
+fn ticks(rt: &impl Print) -> io::Result<()> {
+    let since = " since ";
+    numbers(rt, LOWEST, TICK_DIFFERENCE, since, HIGHEST)?;
+    numbers(rt, HIGHEST, TICK_DIFFERENCE, since, LOWEST)?;
+    numbers(rt, 0, TICK_DIFFERENCE, since, LOWEST)?;
+    numbers(rt, -5, TICK_DIFFERENCE, since, -5)?;
+    numbers(rt, 5, TICK_DIFFERENCE, since, 7)?;
+    infix(rt, Value::blank(), TICK_DIFFERENCE, since, Value::number(5))?;
+    infix(rt, Value::number(5), TICK_DIFFERENCE, since, Value::blank())
 }
 
-pub fn print_all() {
-    starred();
-    bounds();
-    blanks();
-    settled();
-    ticks();
+pub fn print_all(rt: &impl Print) -> io::Result<()> {
+    starred(rt)?;
+    bounds(rt)?;
+    blanks(rt)?;
+    settled(rt)?;
+    ticks(rt)
 }

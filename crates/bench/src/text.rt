@@ -1,42 +1,40 @@
-// Writing to standard output.
-use libc::STDOUT_FILENO;
+// Writing to standard output. Where it cannot be written, the error goes up to main.
 use machine::Answer;
+use std::io;
 use value::Value;
 
-pub fn put(text: &[u8]) {
-    io::write_all(STDOUT_FILENO, text);
+pub fn put(rt: &impl Print, text: &str) -> io::Result<()> {
+    rt.print(text)
 }
 
-pub fn put_decimal(n: u64) {
-    io::print_decimal(STDOUT_FILENO, n);
+pub fn put_decimal(rt: &impl Print, n: u64) -> io::Result<()> {
+    rt.print(n)
 }
 
 // `number, place`.
-pub fn put_answer(answer: Answer) {
-    put_decimal(answer.number() as u64);
-    put(b", ");
-    put_decimal(answer.place() as u64);
+pub fn put_answer(rt: &impl Print, answer: Answer) -> io::Result<()> {
+    put_decimal(rt, answer.number() as u64)?;
+    put(rt, ", ")?;
+    put_decimal(rt, answer.place() as u64)
 }
 
-fn put_integer(z: i32) {
+fn put_integer(rt: &impl Print, z: i32) -> io::Result<()> {
     if z < 0 {
-        put(b"-");
+        put(rt, "-")?;
     }
-    put_decimal(value::magnitude(z) as u64);
+    put_decimal(rt, value::magnitude(z) as u64)
 }
 
-pub fn put_value(v: Value) {
+pub fn put_value(rt: &impl Print, v: Value) -> io::Result<()> {
     if v.mark == Value::BLANK {
-        put(b"blank");
-        return;
+        return put(rt, "blank");
     }
     if v.mark == Value::NUMBER {
-        put_integer(value::signed(v.content));
-        return;
+        return put_integer(rt, value::signed(v.content));
     }
     if v.content == 1 {
-        put(b"true");
+        put(rt, "true")
     } else {
-        put(b"false");
+        put(rt, "false")
     }
 }

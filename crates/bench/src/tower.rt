@@ -10,10 +10,8 @@ const BYTES: usize = 656;
 // Eight Globals, of which its sink takes the first.
 fn put_ground(program: &mut [u8]) {
     put_command(program, 24, [0, 0, 9, 0]);
-    let mut at: u16 = 72;
-    while at < 136 {
-        put_command(program, at, [4, 0, 0, 0]);
-        at += 8;
+    for i in 0..8u16 {
+        put_command(program, 72 + 8 * i, [4, 0, 0, 0]);
     }
     put_command(program, 136, [8, 0, 0, 0]);
 }
@@ -43,10 +41,8 @@ pub fn tower(floor: u8) -> [u8; BYTES] {
     put_command(&mut program, 0, [1, 1, 12, 0]);
     put_command(&mut program, 8, [0, 1, 0, 0]);
     put_ground(&mut program);
-    let mut below: u8 = 0;
-    while below < 10 {
+    for below in 0..10u8 {
         put_floor(&mut program, below);
-        below += 1;
     }
     put_main(&mut program, floor);
     program

@@ -91,12 +91,10 @@ fn due(bytes: &[u8], i: usize) -> u8 {
 
 // Whether output space has these bytes first, and then those of before.
 fn same_bytes(output: &[u8], bytes: &[u8]) -> bool {
-    let mut i = 0;
-    while i < output.len() {
-        if output[i] != due(bytes, i) {
+    for (i, b) in output.iter().enumerate() {
+        if *b != due(bytes, i) {
             return false;
         }
-        i += 1;
     }
     true
 }

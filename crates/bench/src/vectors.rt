@@ -3,9 +3,16 @@
 use crate::line::{Line, ROOM};
 use crate::text::{put, put_decimal};
 use crate::trial::{Call, Kind, agrees};
+use std::fs::File;
+use std::io::Read;
+use std::rt::{Env, Files};
+use std::{env, io};
 
 // The numbers are 0 to 32.
 const NUMBERS: usize = 33;
+
+// The most bytes of a file that are read at a time.
+const PIECE: usize = 65536;
 
 // How many vectors agree, for each number, and how many differ.
 #[derive(Clone, Copy)]
@@ -72,82 +79,101 @@ impl Progress {
 
     fn steps(self, text: &[u8], room: &mut [u8; ROOM]) -> Progress {
         let mut state = self;
-        let mut i = 0;
-        while i < text.len() {
-            state = state.step(text[i], room);
-            i += 1;
+        for b in text {
+            state = state.step(*b, room);
         }
         state
     }
 
     // Some of the file; there is no more where nothing came.
-    fn read_some(self, fd: i32, room: &mut [u8; ROOM]) -> Progress {
-        let mut text = io::large_buffer();
-        let n = io::read_full(fd, &mut text);
+    fn read_some(self, file: &mut impl Read, room: &mut [u8; ROOM]) -> io::Result<Progress> {
+        let mut text = [0u8; PIECE];
+        let n = file.read(&mut text)?;
         let mut state = self.steps(&text[..n], room);
         state.more = 0 < n;
-        state
+        Ok(state)
     }
 
-    // The file to its end. Nothing says that a file ends, so the loop counts its turns down.
-    fn read_all(self, fd: i32, room: &mut [u8; ROOM]) -> Progress {
+    // The file to its end. Nothing says that a file ends, so the loop counts its turns.
+    fn read_all(self, file: &mut impl Read, room: &mut [u8; ROOM]) -> io::Result<Progress> {
         let mut state = self;
-        let mut turns: u32 = 1000000;
-        while 0 < turns {
+        for _ in 0..u64::MAX {
             if !state.more {
-                return state;
+                break;
             }
-            state = state.read_some(fd, room);
-            turns -= 1;
+            state = state.read_some(file, room)?;
         }
-        state
+        Ok(state)
     }
 }
 
 // A line for each number that vectors and code agree on, and one for those that differ.
-fn print(label: &[u8], tally: Tally) {
-    let agree = tally.agree;
-    let mut n = 0;
-    while n < NUMBERS {
-        let count = agree[n];
+fn print(rt: &impl Print, label: &str, tally: Tally) -> io::Result<()> {
+    for n in 0..NUMBERS {
+        let count = tally.agree[n];
         if 0 < count {
-            put(label);
-            put_decimal(n as u64);
-            put_count(count);
+            put(rt, label)?;
+            put_decimal(rt, n as u64)?;
+            put_count(rt, count)?;
         }
-        n += 1;
     }
-    put(b"differ");
-    put_count(tally.differ);
+    put(rt, "differ")?;
+    put_count(rt, tally.differ)
 }
 
-fn put_count(n: u32) {
-    put(b": ");
-    put_decimal(n as u64);
-    put(b"\n");
+fn put_count(rt: &impl Print, n: u32) -> io::Result<()> {
+    put(rt, ": ")?;
+    put_decimal(rt, n as u64)?;
+    put(rt, "\n")
 }
 
-// Runs the file that an argument names.
-fn run_file(kind: Kind, label: &[u8], argument: usize) {
-    let mut path = io::buffer();
-    let length = os::arg(argument, &mut path);
-    let fd = os::open_read(&path[..length]);
-    if fd < 0 {
-        os::fail(&path[..length]);
-        return;
+// The path that an argument is; a missing one is empty, and there is no file of that name.
+fn path_at<R: Env + AllocGlobal>(rt: &R, argument: usize) -> io::Result<String> {
+    match env::args(rt)?.nth(argument) {
+        Some(path) => Ok(path),
+        None => Ok(String::new(rt.alloc())),
     }
+}
+
+// What the vectors of a file come to.
+fn tally_of(rt: &impl Files, kind: Kind, path: &str) -> io::Result<Tally> {
+    let mut file = File::open(rt, path)?;
     let mut room = [0u8; ROOM];
-    let state = Progress::begin(kind).read_all(fd, &mut room);
-    libc::close(fd);
-    print(label, state.tally);
+    let state = Progress::begin(kind).read_all(&mut file, &mut room)?;
+    Ok(state.tally)
 }
 
-pub fn run() {
-    run_file(Kind::Program(Call::Check), b"check ", 1);
-    run_file(Kind::Program(Call::Start), b"start ", 2);
-    run_file(Kind::Program(Call::Image), b"image ", 3);
-    run_file(Kind::Program(Call::Turn), b"turn ", 4);
-    run_file(Kind::Program(Call::Preview), b"preview ", 5);
-    run_file(Kind::Program(Call::Figure), b"figure ", 6);
-    run_file(Kind::Text, b"compile ", 7);
+// Runs the file that an argument names; where it cannot be read, standard error says which it was.
+fn run_file<R: Files + Env + Print + Eprint + AllocGlobal>(
+    rt: &R,
+    kind: Kind,
+    label: &str,
+    argument: usize,
+) -> io::Result<()> {
+    let path = path_at(rt, argument)?;
+    match tally_of(rt, kind, path.as_str()) {
+        Ok(tally) => print(rt, label, tally),
+        Err(error) => {
+            eprintln!(rt; "{path}: {error}")?;
+            Err(error)
+        }
+    }
+}
+
+// A file that cannot be read keeps none of the others from being run; the first error is then returned.
+pub fn run<R: Files + Env + Print + Eprint + AllocGlobal>(rt: &R) -> io::Result<()> {
+    let check = run_file(rt, Kind::Program(Call::Check), "check ", 1);
+    let start = run_file(rt, Kind::Program(Call::Start), "start ", 2);
+    let image = run_file(rt, Kind::Program(Call::Image), "image ", 3);
+    let turn = run_file(rt, Kind::Program(Call::Turn), "turn ", 4);
+    let preview = run_file(rt, Kind::Program(Call::Preview), "preview ", 5);
+    let figure = run_file(rt, Kind::Program(Call::Figure), "figure ", 6);
+    let compile = run_file(rt, Kind::Text, "compile ", 7);
+    check
+        .and(start)
+        .and(image)
+        .and(turn)
+        .and(preview)
+        .and(figure)
+        .and(compile)
 }

@@ -15,21 +15,17 @@ fn word_of(bytes: &[u8], i: usize) -> u32 {
 
 // Puts the words of `bytes` into memory, and zero into the further ones.
 pub fn fill(memory: &mut [u32], bytes: &[u8]) {
-    let mut i = 0;
-    while i < memory.len() {
-        memory[i] = word_of(bytes, i);
-        i += 1;
+    for (i, word) in memory.iter_mut().enumerate() {
+        *word = word_of(bytes, i);
     }
 }
 
 // Whether memory has the words of `bytes`, and zero in the further ones.
 pub fn same(memory: &[u32], bytes: &[u8]) -> bool {
-    let mut i = 0;
-    while i < memory.len() {
-        if memory[i] != word_of(bytes, i) {
+    for (i, word) in memory.iter().enumerate() {
+        if *word != word_of(bytes, i) {
             return false;
         }
-        i += 1;
     }
     true
 }
