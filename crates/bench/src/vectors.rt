@@ -1,5 +1,7 @@
 // Files of vectors, most of them from another implementation of the machine (DECISIONS says which are
 // not): for each number, how many agree with the proved code, and how many differ.
+ghost use Rattle.std.specs.Prelude.{◌≤◌, IfOk, length};
+
 use crate::line::{Line, ROOM};
 use crate::text::{put, put_decimal};
 use crate::trial::{Call, Kind, agrees};
@@ -11,8 +13,10 @@ use std::{env, io};
 // The numbers are 0 to 32.
 const NUMBERS: usize = 33;
 
-// The most bytes of a file that are read at a time.
+// The most bytes of a file that are read at a time, and how often.
 const PIECE: usize = 65536;
+
+const TURNS: u32 = 1000000;
 
 // How many vectors agree, for each number, and how many differ.
 #[derive(Clone, Copy)]
@@ -88,7 +92,7 @@ impl Progress {
     // Some of the file; there is no more where nothing came.
     fn read_some(self, file: &mut impl Read, room: &mut [u8; ROOM]) -> io::Result<Progress> {
         let mut text = [0u8; PIECE];
-        let n = file.read(&mut text)?;
+        let n = read_full(file, &mut text)?;
         let mut state = self.steps(&text[..n], room);
         state.more = 0 < n;
         Ok(state)
@@ -97,7 +101,7 @@ impl Progress {
     // The file to its end. Nothing says that a file ends, so the loop counts its turns.
     fn read_all(self, file: &mut impl Read, room: &mut [u8; ROOM]) -> io::Result<Progress> {
         let mut state = self;
-        for _ in 0..u64::MAX {
+        for _ in 0..TURNS {
             if !state.more {
                 break;
             }
@@ -105,6 +109,21 @@ impl Progress {
         }
         Ok(state)
     }
+}
+
+// Reads until the space is full or the file ends, and says how many bytes came.
+fn read_full(file: &mut impl Read, space: &mut [u8]) -> io::Result<usize>
+    ensures { IfOk result (λ n. n ≤ length space.new) }
+{
+    let mut n = 0;
+    while n < space.len() {
+        let more = file.read(&mut space[n..])?;
+        if more == 0 {
+            break;
+        }
+        n += more;
+    }
+    Ok(n)
 }
 
 // A line for each number that vectors and code agree on, and one for those that differ.
