@@ -30,8 +30,8 @@ test:
 run:
 	@mkdir -p target
 	@echo "proving and building the bench, some minutes the first time: see target/run.log" >&2
-	@cd crates/bench && rt run >../../target/run.log 2>&1 || { cat ../../target/run.log; exit 1; }
-	@cd crates/bench/data && ../out/bench $$(cat ../args)
+	@cd crates/bench && rt run -- $$(sed 's|^|data/|' args) 2>../../target/run.log || \
+	  { cat ../../target/run.log >&2; exit 1; }
 
 # Prints the machine code of the primitives that have to be without a branch, and fails on a jump in it.
 jumps:
