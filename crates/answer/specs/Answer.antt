@@ -1,7 +1,5 @@
 -- 5.7 The number and the place of an answer.
-use Rattle.std.specs.Prelude.{ℕ, ◌≡◌}
-use Rattle.answer.specs.declared.Answer.{Answer}
-use Rattle.answer.specs.declared.Answer.TheVariants.{Done, Refused}
+use Rattle.std.specs.Prelude.{ℕ, ◌≡◌, Result, Ok, Err}
 use Rattle.answer.specs.declared.Refusal.{Refusal}
 use Rattle.answer.specs.declared.Refusal.TheVariants.{ProgramLength, TableByte, Command, Operand, PortOrKind}
 use Rattle.answer.specs.declared.Refusal.TheVariants.{SetTwice, Missing, MemoryLength, UnsoundImage}
@@ -63,14 +61,22 @@ refusal_place (Circular q) = q
 refusal_place FigureTooLarge = 0
 refusal_place (Withdrawn q) = q
 
--- of an answer: 0 and the size that the call is asked for, or the refusal's
+-- what a call answers: done, with the size that it is asked for; or refused
+abbrev pub Answer : Type 0
+Answer = Result ℕ Refusal
+
+-- whether all is well, or what is against it
+abbrev pub Ruling : Type 0
+Ruling = Result (Unit {0}) Refusal
+
+-- of an answer: 0 and the size, or the refusal's
 abbrev pub number_of : Answer → ℕ
-number_of (Done size) = 0
-number_of (Refused w) = refusal_number w
+number_of (Ok size) = 0
+number_of (Err w) = refusal_number w
 
 abbrev pub place_of : Answer → ℕ
-place_of (Done size) = size
-place_of (Refused w) = refusal_place w
+place_of (Ok size) = size
+place_of (Err w) = refusal_place w
 
 -- 5.40 Number and place tell refusals apart: `refusals_apart` in proofs/Refusals.antt.
 abbrev pub RefusalsApart : Type 0

@@ -59,19 +59,8 @@ pub enum Refusal {
     Withdrawn(usize),
 }
 
-// Whether all is well, or what is against it.
-#[derive(Clone, Copy)]
-pub enum Ruling {
-    Fine,
-    Against(Refusal),
-}
-
 // The answer of every call: done, with the size that the call is asked for; or refused.
-#[derive(Clone, Copy)]
-pub enum Answer {
-    Done(usize),
-    Refused(Refusal),
-}
+pub type Answer = Result<usize, Refusal>;
 
 impl Refusal {
     pub fn number(self) -> u8
@@ -139,22 +128,22 @@ impl Refusal {
     }
 }
 
-impl Answer {
-    pub fn number(self) -> u8
-        ensures { result ≡ number_of self }
-    {
-        match self {
-            Answer::Done(_) => 0,
-            Answer::Refused(why) => why.number(),
-        }
+// The number of an answer: 0, or that of its refusal.
+pub fn number(answer: Answer) -> u8
+    ensures { result ≡ number_of answer }
+{
+    match answer {
+        Ok(_) => 0,
+        Err(why) => why.number(),
     }
+}
 
-    pub fn place(self) -> usize
-        ensures { result ≡ place_of self }
-    {
-        match self {
-            Answer::Done(size) => size,
-            Answer::Refused(why) => why.place(),
-        }
+// Its place: the size, or the place of its refusal.
+pub fn place(answer: Answer) -> usize
+    ensures { result ≡ place_of answer }
+{
+    match answer {
+        Ok(size) => size,
+        Err(why) => why.place(),
     }
 }

@@ -38,7 +38,7 @@ fn within(
     memory: &mut [u32],
     readings: &[u32],
 ) -> io::Result<()> {
-    let n = figure(program).place();
+    let n = place(figure(program));
     if memory.len() < n {
         return Ok(());
     }

@@ -7,7 +7,7 @@
 // A text's line has the text where others have a program, and then `n!` and the n bytes of output space
 // after the call, of which the last ones, as long as they are as before, may be left out.
 use image::MOST_WORDS;
-use machine::Answer;
+use machine::{Answer, number, place};
 
 // Memory before and after.
 pub const MEMORY: u8 = 3;
@@ -121,7 +121,7 @@ impl Line {
 
     // Whether these are the line's number and place.
     pub fn says(self, answer: Answer) -> bool {
-        (self.numbers[0] == answer.number() as u32) & (self.numbers[1] as usize == answer.place())
+        (self.numbers[0] == number(answer) as u32) & (self.numbers[1] as usize == place(answer))
     }
 
     pub fn program<'a>(self, room: &'a [u8]) -> &'a [u8] {

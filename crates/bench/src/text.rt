@@ -1,5 +1,5 @@
 // Writing to standard output. Where it cannot be written, the error goes up to main.
-use machine::Answer;
+use machine::{Answer, number, place};
 use std::io;
 use value::Value;
 
@@ -13,9 +13,9 @@ pub fn put_decimal(rt: &impl Print, n: u64) -> io::Result<()> {
 
 // `number, place`.
 pub fn put_answer(rt: &impl Print, answer: Answer) -> io::Result<()> {
-    put_decimal(rt, answer.number() as u64)?;
+    put_decimal(rt, number(answer) as u64)?;
     put(rt, ", ")?;
-    put_decimal(rt, answer.place() as u64)
+    put_decimal(rt, place(answer) as u64)
 }
 
 fn put_integer(rt: &impl Print, z: i32) -> io::Result<()> {

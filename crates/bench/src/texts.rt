@@ -3,7 +3,7 @@
 use crate::text::{put, put_answer};
 use crate::turns::put_turn_into;
 use haai::compile;
-use machine::Answer;
+use machine::{Answer, place};
 use std::io;
 
 // Bytes for what the texts below become.
@@ -47,7 +47,7 @@ fn put_rule_in(
     two: &[u32],
     three: &[u32],
 ) -> io::Result<()> {
-    let n = put_compiled(rt, name, text, output)?.place();
+    let n = place(put_compiled(rt, name, text, output)?);
     if output.len() < n {
         return Ok(());
     }

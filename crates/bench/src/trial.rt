@@ -4,7 +4,7 @@ use crate::line::{
     WORK_AFTER,
 };
 use crate::words::{fill, same};
-use image::{Judged, MOST_WORDS};
+use image::MOST_WORDS;
 use machine::{Answer, Refusal};
 use program::Header;
 
@@ -46,8 +46,8 @@ fn start_agrees(line: Line, room: &[u8], memory: &mut [u32]) -> bool {
 // Whether the image is sound: 0 and 0, or 9 and the place.
 fn image_agrees(line: Line, program: &[u8], memory: &[u32]) -> bool {
     match image::sound(program, memory) {
-        Judged::Sound => line.says(Answer::Done(0)),
-        Judged::Unsound(place) => line.says(Answer::Refused(Refusal::UnsoundImage(place))),
+        Ok(()) => line.says(Ok(0)),
+        Err(place) => line.says(Err(Refusal::UnsoundImage(place))),
     }
 }
 

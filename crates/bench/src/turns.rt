@@ -69,8 +69,8 @@ pub(crate) fn put_outcome(
     sinks: &[u32],
 ) -> io::Result<()> {
     match answer {
-        Answer::Done(u) => put_done(rt, sinks, u),
-        Answer::Refused(_) => put_refused(rt, answer, memory),
+        Ok(u) => put_done(rt, sinks, u),
+        Err(_) => put_refused(rt, answer, memory),
     }
 }
 

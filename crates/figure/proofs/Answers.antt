@@ -1,11 +1,10 @@
 -- What figure answers, and when: 23, 24, the figure, or the refusal of the check; and the bounds that it goes by.
-use Rattle.std.specs.Prelude.{ℕ, ◌+◌, ◌≤◌, ◌<◌, ◌≡◌, refl, ◌↔◌, List}
+use Rattle.std.specs.Prelude.{ℕ, ◌+◌, ◌≤◌, ◌<◌, ◌≡◌, refl, ◌↔◌, List, Ok, Err}
 use Rattle.std.proofs.Common.{sym, ◌∙◌, ap, subst, inl, inr, arith}
 use Rattle.value.proofs.Tests.{says_le, says_guard}
 use Rattle.program.specs.Bytes.{main_of}
 use Rattle.answer.specs.Answer.{number_of, place_of}
-use Rattle.answer.specs.declared.Answer.{Answer}
-use Rattle.answer.specs.declared.Answer.TheVariants.{Done, Refused}
+use Rattle.answer.specs.Answer.{Answer}
 use Rattle.answer.specs.declared.Refusal.TheVariants.{Circular, FigureTooLarge}
 use Rattle.answer.proofs.Refusals.{refusal_counts}
 use Rattle.load.specs.Check.{check_of, IsAccepted}
@@ -37,9 +36,9 @@ words p = main_at + bound_of p (main_of p)
 module _ (p : List ℕ) (a : Answer) where
   -- how an accepted program comes to the answer a
   data Outcome : Type 0 where
-    on_circle : {r : ℕ} → Lowest (OnCircle p) r → Refused (Circular r) ≡ a → Outcome
-    too_large : Straight p → most_words < words p → Refused FigureTooLarge ≡ a → Outcome
-    given : Straight p → words p ≤ most_words → Done (words p) ≡ a → Outcome
+    on_circle : {r : ℕ} → Lowest (OnCircle p) r → Err (Circular r) ≡ a → Outcome
+    too_large : Straight p → most_words < words p → Err FigureTooLarge ≡ a → Outcome
+    given : Straight p → words p ≤ most_words → Ok (words p) ≡ a → Outcome
 
   outcome : IsAccepted p → (figured p ≡ a) ↔ Outcome
   unfolding figured words_needed
@@ -59,7 +58,7 @@ module _ (p : List ℕ) (a : Answer) where
         (λ o.
             elim o [
               | on_circle {r} l e ↦
-                  first.1 (inl (λ s. s r l.0, ap (λ q. Refused (Circular q)) (lowest_is p rules r l) ∙ e))
+                  first.1 (inl (λ s. s r l.0, ap (λ q. Err (Circular q)) (lowest_is p rules r l) ∙ e))
               | too_large s l e ↦ first.1 (inr (s, second.1 (inl (λ h. omega arith, e))))
               | given s l e ↦ first.1 (inr (s, second.1 (inr (l, e))))
             ]),
@@ -69,10 +68,10 @@ module _ (p : List ℕ) (a : Answer) where
   module _ (own : CheckNumber (number_of a) → number_of a ≡ 0) where
     by_check_lem : (c : Answer) → check_of p ≡ c → (figured_by p c ≡ a) ↔ (IsAccepted p × Outcome)
     unfolding figured_by
-    by_check_lem (Done size) e =
+    by_check_lem (Ok size) e =
         let accepted : IsAccepted p = ap number_of e in
         ((λ f. (accepted, (outcome accepted).0 f)), λ h. (outcome accepted).1 h.1)
-    by_check_lem (Refused w) e = (
+    by_check_lem (Err w) e = (
       (λ f.
           let none = own (subst CheckNumber (ap number_of (e ∙ f)) (check_numbers p)) in
           absurd (omega (arith, refusal_counts w, ap number_of f))),
@@ -91,32 +90,32 @@ beyond l m (inr (inr h)) = absurd (omega arith)
 
 pub circular_fault : CircularFault
 circular_fault p r =
-    let is = answered p (Refused (Circular r)) (beyond (omega arith) (omega arith)) in
+    let is = answered p (Err (Circular r)) (beyond (omega arith) (omega arith)) in
     ((λ e. let h = is.0 e in (h.0, by h.1)), λ h. is.1 (h.0, on_circle h.1 refl))
   where
-    by : Outcome p (Refused (Circular r)) → Lowest (OnCircle p) r
+    by : Outcome p (Err (Circular r)) → Lowest (OnCircle p) r
     by (on_circle l e) = subst (Lowest (OnCircle p)) (ap place_of e) l
     by (too_large s l e) = absurd (omega (arith, ap number_of e))
     by (given s l e) = absurd (omega (arith, ap number_of e))
 
 pub too_large_fault : TooLargeFault
 too_large_fault p =
-    let is = answered p (Refused FigureTooLarge) (beyond (omega arith) (omega arith)) in
+    let is = answered p (Err FigureTooLarge) (beyond (omega arith) (omega arith)) in
     ((λ e. let h = is.0 e in by h.0 h.1), λ h. is.1 (h.0, too_large h.1 h.2 refl))
   where
-    by : IsAccepted p → Outcome p (Refused FigureTooLarge) → IsAccepted p × Straight p × (most_words < words p)
+    by : IsAccepted p → Outcome p (Err FigureTooLarge) → IsAccepted p × Straight p × (most_words < words p)
     by a (on_circle l e) = absurd (omega (arith, ap number_of e))
     by a (too_large s l e) = (a, s, l)
     by a (given s l e) = absurd (omega (arith, ap number_of e))
 
 pub figure_given : FigureGiven
 figure_given p n =
-    let is = answered p (Done n) (λ c. refl) in (
+    let is = answered p (Ok n) (λ c. refl) in (
       (λ e. let h = is.0 e in by h.0 h.1),
-      λ h. is.1 (h.0, given h.1 (omega (arith, h.2, h.3)) (ap Done (sym h.2))),
+      λ h. is.1 (h.0, given h.1 (omega (arith, h.2, h.3)) (ap Ok (sym h.2))),
     )
   where
-    by : IsAccepted p → Outcome p (Done n) → IsAccepted p × Straight p × (n ≡ words p) × (n ≤ most_words)
+    by : IsAccepted p → Outcome p (Ok n) → IsAccepted p × Straight p × (n ≡ words p) × (n ≤ most_words)
     by a (on_circle l e) = absurd (omega (arith, ap number_of e))
     by a (too_large s l e) = absurd (omega (arith, ap number_of e))
     by a (given s l e) = let z = ap place_of e in (a, s, sym z, omega arith)

@@ -1,12 +1,11 @@
 -- Memory of the figure's words or more meets neither 14 nor 15: in any turn and preview on a sound image
 -- (`enough_once`), and after any turns from a start (`enough`).
-use Rattle.std.specs.Prelude.{ℕ, ◌+◌, ◌≤◌, ◌≡◌, refl, ◌≢◌, List, [], ◌∷◌, length}
+use Rattle.std.specs.Prelude.{ℕ, ◌+◌, ◌≤◌, ◌≡◌, refl, ◌≢◌, List, [], ◌∷◌, length, Ok, Err}
 use Rattle.std.proofs.Common.{◌∙◌, ap, inl, arith}
 use Rattle.program.specs.Bytes.{main_of}
 use Rattle.program.specs.Location.{size_of}
 use Rattle.answer.specs.Answer.{refusal_number, refusal_place, number_of, place_of}
-use Rattle.answer.specs.declared.Answer.{Answer}
-use Rattle.answer.specs.declared.Answer.TheVariants.{Done, Refused}
+use Rattle.answer.specs.Answer.{Answer}
 use Rattle.answer.specs.declared.Refusal.{Refusal}
 use Rattle.answer.specs.declared.Refusal.TheVariants.{NoRoom, TooDeep}
 use Rattle.answer.proofs.Refusals.{refusals_apart, refusal_counts}
@@ -57,20 +56,20 @@ module _ (p : List ℕ) (a : IsAccepted p) (straight : Straight p) (w : List ℕ
   claim : TurnClaim p w t
   claim = demand_once p w t a few image
 
-  not_deep : (q : ℕ) → result.answer ≡ Refused (TooDeep q) → ⊥
+  not_deep : (q : ℕ) → result.answer ≡ Err (TooDeep q) → ⊥
   not_deep q e =
       let x = (claim.deep result q claim.result).0 e in
       omega (arith, (within q x.0 x.1 x.2).1, x.3)
 
-  not_full : main_at + bound_of p (main_of p) ≤ length w → (q : ℕ) → result.answer ≡ Refused (NoRoom q) → ⊥
+  not_full : main_at + bound_of p (main_of p) ≤ length w → (q : ℕ) → result.answer ≡ Err (NoRoom q) → ⊥
   not_full l q e =
       let x = (claim.full result q claim.result).0 e in
       omega (arith, (within q x.0 x.1 x.2).0, x.4)
 
 -- number and place tell which refusal an answer is
-refused_as : (a : Answer) (v : Refusal) → number_of a ≡ refusal_number v → place_of a ≡ refusal_place v → a ≡ Refused v
-refused_as (Done u) v n q = absurd (omega (arith, refusal_counts v))
-refused_as (Refused r) v n q = ap Refused (refusals_apart r v n q)
+refused_as : (a : Answer) (v : Refusal) → number_of a ≡ refusal_number v → place_of a ≡ refusal_place v → a ≡ Err v
+refused_as (Ok u) v n q = absurd (omega (arith, refusal_counts v))
+refused_as (Err r) v n q = ap Err (refusals_apart r v n q)
 
 -- a preview that is not refused by 22 has the turn's number
 previewed : (p w work rd sk : List ℕ) → NotShort (turn_of p w rd sk).answer

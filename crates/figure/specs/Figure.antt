@@ -1,9 +1,8 @@
 -- 4.29 The call figure, whole.
-use Rattle.std.specs.Prelude.{ℕ, ◌+◌, Bool, not, List}
+use Rattle.std.specs.Prelude.{ℕ, ◌+◌, Bool, not, List, Ok, Err}
 use Rattle.value.specs.Test.{◌≤?◌, ◌=?◌, guard, sweep}
 use Rattle.program.specs.Bytes.{reactors, main_of}
-use Rattle.answer.specs.declared.Answer.{Answer}
-use Rattle.answer.specs.declared.Answer.TheVariants.{Done, Refused}
+use Rattle.answer.specs.Answer.{Answer}
 use Rattle.answer.specs.declared.Refusal.TheVariants.{Circular, FigureTooLarge}
 use Rattle.load.specs.Check.{check_of}
 use Rattle.image.specs.Memory.{most_words, main_at}
@@ -22,13 +21,13 @@ words_needed p = main_at + bound_of p (main_of p)
 unfoldable pub figured : List ℕ → Answer
 figured p =
     let q = lowest_circular p (reached p) in
-    guard (q =? reactors p) (Refused (Circular q)) (λ _.
+    guard (q =? reactors p) (Err (Circular q)) (λ _.
     let n = words_needed p in
-    guard (n ≤? most_words) (Refused FigureTooLarge) (λ _. Done n))
+    guard (n ≤? most_words) (Err FigureTooLarge) (λ _. Ok n))
 
 unfoldable pub figured_by : List ℕ → Answer → Answer
-figured_by p (Done size) = figured p
-figured_by p (Refused w) = Refused w
+figured_by p (Ok size) = figured p
+figured_by p (Err w) = Err w
 
 -- 4.29 The program's own refusals come first.
 unfoldable pub figure_of : List ℕ → Answer

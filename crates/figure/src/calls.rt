@@ -8,7 +8,7 @@ ghost use Rattle.figure.specs.Figure as F;
 use crate::bound::bounds;
 use crate::reach::{close, lowest};
 use crate::steps::{TABLE_BYTES, fill_steps};
-use answer::{Answer, Refusal, Ruling};
+use answer::{Answer, Refusal};
 use image::{MAIN_AT, MOST_WORDS};
 use load::judge;
 use program::{main_of, reactors};
@@ -36,14 +36,14 @@ fn figured(program: &[u8], facts: &[u64; 64]) -> Answer
     let n = reactors(program);
     let q = lowest_circular(program, facts, n);
     if q < n {
-        return Answer::Refused(Refusal::Circular(q as usize));
+        return Err(Refusal::Circular(q as usize));
     }
     let bound = bounds(program, facts, n);
     let words = MAIN_AT as usize + bound[main_of(program) as usize] as usize;
     if words <= MOST_WORDS {
-        Answer::Done(words)
+        Ok(words)
     } else {
-        Answer::Refused(Refusal::FigureTooLarge)
+        Err(Refusal::FigureTooLarge)
     }
 }
 
@@ -52,8 +52,6 @@ pub fn figure(program: &[u8]) -> Answer
     ensures { result ≡ F.figure_of program.now }
 {
     let mut facts = [0u64; 64];
-    match judge(program, &mut facts) {
-        Ruling::Fine => figured(program, &facts),
-        Ruling::Against(w) => Answer::Refused(w),
-    }
+    judge(program, &mut facts)?;
+    figured(program, &facts)
 }

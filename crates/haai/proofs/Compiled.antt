@@ -1,11 +1,10 @@
 -- The call by what is found of a text: the ladder of its answers, and that tables and code are the whole.
-use Rattle.std.specs.Prelude.{ℕ, ◌+◌, ◌*◌, ◌≤◌, ◌<◌, ◌≡◌, refl, true, false, List, ◌++◌, length}
+use Rattle.std.specs.Prelude.{ℕ, ◌+◌, ◌*◌, ◌≤◌, ◌<◌, ◌≡◌, refl, true, false, List, ◌++◌, length, Ok, Err}
 use Rattle.std.proofs.Common.{sym, ◌∙◌, ap, arith}
 use Rattle.value.proofs.Tests.{goes, stops, eq!, eq×, le!, le×}
 use lib.ListN.{length-append}
 use Rattle.image.specs.Memory.{patch}
 use Rattle.image.proofs.Memory.Patch.{patch-length}
-use Rattle.answer.specs.declared.Answer.TheVariants.{Done, Refused}
 use Rattle.answer.specs.declared.Refusal.TheVariants.{TextForm, TextName, OutputSpace}
 use Rattle.haai.specs.Grammar.{Formed, items, fault, form_of}
 use Rattle.haai.specs.Names.{Known, fault_of, text_of}
@@ -30,16 +29,16 @@ module _ (t out : List ℕ) where
   form_is_right (fault q) e = let z : ◌≡◌ {A = ℕ} 0 1 = cc in absurd (omega arith)
 
   form_is_wrong : (f : Formed) (q : ℕ) → check_of f ≡ Wrong q
-      → by_form (length t) out f ≡ compiled (Refused (TextForm q)) out
+      → by_form (length t) out f ≡ compiled (Err (TextForm q)) out
   unfolding check_of by_form refused compiled
   form_is_wrong (items is) q e = let z : ◌≡◌ {A = ℕ} 0 1 = cc in absurd (omega arith)
-  form_is_wrong (fault p) q e = let z : p ≡ q = cc in ap (λ (x : ℕ). compiled (Refused (TextForm x)) out) z
+  form_is_wrong (fault p) q e = let z : p ≡ q = cc in ap (λ (x : ℕ). compiled (Err (TextForm x)) out) z
 
   pub right_goes : check_of (form_of t) ≡ Right → by_names (length t) out (known_by (length t) (form_of t)) ≡ compile_of t out
   unfolding compile_of
   right_goes e = sym (form_is_right (form_of t) e)
 
-  pub wrong_stops : (q : ℕ) → check_of (form_of t) ≡ Wrong q → compiled (Refused (TextForm q)) out ≡ compile_of t out
+  pub wrong_stops : (q : ℕ) → check_of (form_of t) ≡ Wrong q → compiled (Err (TextForm q)) out ≡ compile_of t out
   unfolding compile_of
   wrong_stops q e = sym (form_is_wrong (form_of t) q e)
 
@@ -50,7 +49,7 @@ module _ (n : ℕ) (out : List ℕ) (k : Known) where
   unfolding by_names
   clean_goes e = goes _ _ (eq! e) refl
 
-  pub fault_stops : (q : ℕ) → q ≡ fault_of k → (q ≡ n → ⊥) → compiled (Refused (TextName q)) out ≡ by_names n out k
+  pub fault_stops : (q : ℕ) → q ≡ fault_of k → (q ≡ n → ⊥) → compiled (Err (TextName q)) out ≡ by_names n out k
   unfolding by_names refused compiled
   fault_stops q e d =
       ap (λ (x : ℕ). refused out (TextName x)) e ∙ stops _ (eq× (λ z. d (e ∙ z))) refl
@@ -58,24 +57,24 @@ module _ (n : ℕ) (out : List ℕ) (k : Known) where
 -- ---- 18
 
 module _ (out : List ℕ) (x : Text) where
-  pub limit_stops : within_limits x.definitions ≡ false → compiled (Refused (OutputSpace 0)) out ≡ written out x
+  pub limit_stops : within_limits x.definitions ≡ false → compiled (Err (OutputSpace 0)) out ≡ written out x
   unfolding written refused compiled
   limit_stops e = stops _ e refl
 
   module _ (limits : within_limits x.definitions ≡ true) (n : ℕ) (whole : n ≡ length (program_of x)) where
-    pub space_stops : length out < n → compiled (Refused (OutputSpace n)) out ≡ written out x
+    pub space_stops : length out < n → compiled (Err (OutputSpace n)) out ≡ written out x
     unfolding written refused compiled
     space_stops l =
         let short : length out < length (program_of x) = omega arith in
         ap (λ (k : ℕ). refused out (OutputSpace k)) whole ∙ goes _ _ limits (stops _ (le× short) refl)
 
     pub written_whole : n ≤ length out → (new : List ℕ) → new ≡ patch out 0 (program_of x)
-        → compiled (Done n) new ≡ written out x
+        → compiled (Ok n) new ≡ written out x
     unfolding written compiled
     written_whole l new e =
         let room : length (program_of x) ≤ length out = omega arith in
-        ap (λ (k : ℕ). compiled (Done k) new) whole
-        ∙ ap (λ (o : List ℕ). compiled (Done (length (program_of x))) o) e
+        ap (λ (k : ℕ). compiled (Ok k) new) whole
+        ∙ ap (λ (o : List ℕ). compiled (Ok (length (program_of x))) o) e
         ∙ goes _ _ limits (goes _ _ (le! room) refl)
 
 -- ---- a text without fault, by what is found of it

@@ -11,7 +11,6 @@ use Rattle.haai.specs.Word.{defr_word, out_word, source_word}
 use Rattle.haai.specs.Grammar.{is_open, is_shut, named, operates, is_taken, on_to, counting, deepened, sourced}
 use Rattle.haai.specs.Grammar.{defined, after_expression, expression, step_at}
 use Rattle.haai.specs.Syntax as S
-use Rattle.haai.specs.Syntax as S
 use Rattle.haai.specs.Syntax.{Expr, Definition}
 use Rattle.haai.specs.Names.{Opened, Known, no_definition, add_source, add_reactor, add_parameter, with_pile}
 use Rattle.haai.specs.Names.{with_operand, add_expr, add_operator, closed, add_definition, learn}

@@ -11,7 +11,7 @@ use Rattle.value.specs.declared.Value.{Value}
 use Rattle.program.specs.Bytes.{main_of}
 use Rattle.program.specs.Location.{sink_count, sink_loc}
 use Rattle.answer.specs.Answer.{number_of}
-use Rattle.answer.specs.declared.Answer.TheVariants.{Done}
+use Rattle.std.specs.Prelude.{Ok}
 use Rattle.load.specs.Check.{IsAccepted}
 use Rattle.image.specs.Memory.{most_words, main_at, value_at, patch}
 use Rattle.image.specs.Sound.{SoundImage}
@@ -92,7 +92,7 @@ module _ (x : Text) (p : List ℕ) (a : IsAccepted p) (laid : Laid p x.definitio
   unfolding meaning_of main_of
   faithful w few image i u e = by (demand_once p w i a few image).result e
     where
-      by : {r : Turn} → Walked p w i r → r.answer ≡ Done u
+      by : {r : Turn} → Walked p w i r → r.answer ≡ Ok u
           → take (2 * sink_count p (main_of p)) r.sink_space
           ≡ pairs_of (sinks_of (global_value i.readings w) x.definitions)
       by (refused f) e = let z : ◌≡◌ {A = ℕ} 0 1 = cc in absurd (omega arith)

@@ -9,7 +9,6 @@ use Rattle.value.proofs.Tests.{not_false, lt?, lt×?, eq?, both?, pick_any, belo
 use Rattle.haai.specs.Word.{position, among, signs}
 use Rattle.haai.specs.Grammar.{Item}
 use Rattle.haai.specs.Syntax as S
-use Rattle.haai.specs.Syntax as S
 use Rattle.haai.specs.Syntax.{Operator, sign, Expr, Exprs, parameter, global, constant, apply, none, also}
 use Rattle.haai.specs.Syntax.{Definition}
 use Rattle.haai.specs.Names.{Opened, Known, nothing, unless, fresh, meant, fit_operand, operator_of, no_definition}

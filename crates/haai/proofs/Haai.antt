@@ -1,11 +1,10 @@
 -- A text that compiles: its bytes pass the check (`always_accepted`), and each completed turn's sinks are what its
 -- expressions mean (`always_faithful`).
-use Rattle.std.specs.Prelude.{ℕ, ◌+◌, ◌≡◌, refl, true, List, length, take, drop}
+use Rattle.std.specs.Prelude.{ℕ, ◌+◌, ◌≡◌, refl, true, List, length, take, drop, Ok}
 use Rattle.std.proofs.Common.{arith}
 use lib.Seq.{take-append_seam}
 use Rattle.value.specs.Test.{◌≤?◌, ◌=?◌}
 use Rattle.value.proofs.Tests.{eq?}
-use Rattle.answer.specs.declared.Answer.TheVariants.{Done}
 use Rattle.image.specs.Memory.{patch}
 use Rattle.haai.specs.Grammar.{Formed, items, fault, form_of}
 use Rattle.haai.specs.Syntax.{Text}
@@ -30,7 +29,7 @@ record Whole (x : Text) (n : ℕ) (c : Compilation) : Type 0 where
   bytes : take n c.output ≡ program_of x
 
 abbrev Accepts : Text → ℕ → Compilation → Type 0
-Accepts x n c = c.answer ≡ Done n → Whole x n c
+Accepts x n c = c.answer ≡ Ok n → Whole x n c
 
 module _ (out : List ℕ) (n : ℕ) where
   by_space : (x : Text) → (within_limits x.definitions ≡ true → Right x) → Accepts x n (written out x)

@@ -1,9 +1,8 @@
 -- 8.14, 8.15 What is proved of a text that compiles. An element of each of these types stands in proofs/Haai.antt.
-use Rattle.std.specs.Prelude.{ℕ, ◌*◌, ◌≡◌, List, [], ◌∷◌, take}
+use Rattle.std.specs.Prelude.{ℕ, ◌*◌, ◌≡◌, List, [], ◌∷◌, take, Ok}
 use Rattle.program.specs.Bytes.{main_of}
 use Rattle.program.specs.Location.{sink_count}
 use Rattle.answer.specs.Answer.{number_of}
-use Rattle.answer.specs.declared.Answer.TheVariants.{Done}
 use Rattle.load.specs.Check.{IsAccepted}
 use Rattle.image.specs.Start.{start_of}
 use Rattle.remus.specs.Exec.{global_value}
@@ -23,7 +22,7 @@ turn p m i = turn_of p m i.readings i.sink_space
 
 -- where the turn completes, main's sinks are what the text means for the readings and the time
 abbrev pub Faithful : Text → List ℕ → List ℕ → Input → Type 0
-Faithful x p m i = (u : ℕ) → (turn p m i).answer ≡ Done u
+Faithful x p m i = (u : ℕ) → (turn p m i).answer ≡ Ok u
     → take (2 * sink_count p (main_of p)) (turn p m i).sink_space ≡ pairs_of (meaning_of (global_value i.readings m) x)
 
 -- each of the turns, on the memory that the one before left
@@ -33,10 +32,10 @@ AllFaithful x p m (i ∷ is) = Faithful x p m i × AllFaithful x p (turn p m i).
 
 -- 8.14 What compile writes, the check accepts.
 abbrev pub AlwaysAccepted : Type 0
-AlwaysAccepted = (t out : List ℕ) (n : ℕ) → (compile_of t out).answer ≡ Done n → IsAccepted (bytes_for t out n)
+AlwaysAccepted = (t out : List ℕ) (n : ℕ) → (compile_of t out).answer ≡ Ok n → IsAccepted (bytes_for t out n)
 
 -- 8.15 In any list of turns from a start, each completed one's sinks are what main's expressions mean then.
 abbrev pub AlwaysFaithful : Type 0
-AlwaysFaithful = (t out : List ℕ) (n : ℕ) → (compile_of t out).answer ≡ Done n
+AlwaysFaithful = (t out : List ℕ) (n : ℕ) → (compile_of t out).answer ≡ Ok n
     → (m : List ℕ) → number_of (start_of (bytes_for t out n) m).answer ≡ 0
     → (is : List Input) → AllFaithful (tree_of t) (bytes_for t out n) (start_of (bytes_for t out n) m).memory is

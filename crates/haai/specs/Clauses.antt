@@ -2,7 +2,7 @@
 use Rattle.std.specs.Prelude.{ℕ, ◌+◌, ◌-◌, ◌<◌, Bool, not, List, length}
 use Rattle.value.specs.Test.{pick, guard, sweep, ◌<?◌, ◌=?◌, ◌or◌}
 use Rattle.program.specs.Bytes.{byte}
-use Rattle.answer.specs.declared.Answer.{Answer}
+use Rattle.answer.specs.Answer.{Answer}
 use Rattle.haai.specs.Word.{ends_word, is_letter, is_digit, minus_byte, has_minus, is_name, among, position, taken_words}
 use Rattle.haai.specs.Grammar.{most_brackets, deepened, whole, Formed, items, fault}
 use Rattle.haai.specs.Compile.{Compilation}

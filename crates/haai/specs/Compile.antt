@@ -1,9 +1,8 @@
 -- 8.12 The call: a text to bytecode.
-use Rattle.std.specs.Prelude.{ℕ, List, [], length}
+use Rattle.std.specs.Prelude.{ℕ, List, [], length, Ok, Err}
 use Rattle.value.specs.Test.{◌≤?◌, ◌=?◌, guard}
 use Rattle.image.specs.Memory.{patch}
-use Rattle.answer.specs.declared.Answer.{Answer}
-use Rattle.answer.specs.declared.Answer.TheVariants.{Done, Refused}
+use Rattle.answer.specs.Answer.{Answer}
 use Rattle.answer.specs.declared.Refusal.{Refusal}
 use Rattle.answer.specs.declared.Refusal.TheVariants.{TextForm, TextName, OutputSpace}
 use Rattle.haai.specs.Grammar.{Formed, items, fault, form_of}
@@ -17,7 +16,7 @@ pub record Compilation : Type 0 where
   pub output : List ℕ
 
 unfoldable pub refused : List ℕ → Refusal → Compilation
-refused out w = record { answer = Refused w; output = out }
+refused out w = record { answer = Err w; output = out }
 
 -- 5.28, 8.12 The bytes from the first of the output space on, if they fit; those after them stay.
 unfoldable pub written : List ℕ → Text → Compilation
@@ -25,7 +24,7 @@ written out x =
     guard (within_limits x.definitions) (refused out (OutputSpace 0)) (λ _.
     let p = program_of x in
     guard (length p ≤? length out) (refused out (OutputSpace (length p))) (λ _.
-    record { answer = Done (length p); output = patch out 0 p }))
+    record { answer = Ok (length p); output = patch out 0 p }))
 
 -- 8.13 First 16, of the whole text; then 17, at the lowest byte; then 18.
 unfoldable pub by_names : ℕ → List ℕ → Known → Compilation

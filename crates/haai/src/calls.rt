@@ -43,14 +43,14 @@ fn compile_clean(text: &[u8], table: &[u8; 128], f: Found, output: &mut [u8]) ->
 {
     let n = f.definitions;
     if !fits(table, n) {
-        return Answer::Refused(Refusal::OutputSpace(0));
+        return Err(Refusal::OutputSpace(0));
     }
     let whole = 8 + f.sources + 20 * n + code_length(table, n);
     if output.len() < whole {
-        return Answer::Refused(Refusal::OutputSpace(whole));
+        return Err(Refusal::OutputSpace(whole));
     }
     put_program(text, table, f, output);
-    Answer::Done(whole)
+    Ok(whole)
 }
 
 // 17, 18, or the program: of a text whose form is right.
@@ -63,7 +63,7 @@ fn compile_formed(text: &[u8], output: &mut [u8]) -> Answer
     let mut table = [0u8; 128];
     let f = names(text, &mut table);
     if f.fault != text.len() {
-        return Answer::Refused(Refusal::TextName(f.fault));
+        return Err(Refusal::TextName(f.fault));
     }
     compile_clean(text, &table, f, output)
 }
@@ -75,6 +75,6 @@ pub fn compile(text: &[u8], output: &mut [u8]) -> Answer
 {
     match form(text) {
         FormCheck::Right => compile_formed(text, output),
-        FormCheck::Wrong(q) => Answer::Refused(Refusal::TextForm(q)),
+        FormCheck::Wrong(q) => Err(Refusal::TextForm(q)),
     }
 }

@@ -1,6 +1,6 @@
 -- A D command by its two bytes, a deployment's children, a pass, and the ladder of soundness as the code climbs it.
 -- Assumes nothing.
-use Rattle.std.specs.Prelude.{ℕ, ◌+◌, ◌-◌, ◌≡◌, refl, Bool, true, false, List, replicate}
+use Rattle.std.specs.Prelude.{ℕ, ◌+◌, ◌-◌, ◌≡◌, refl, Bool, true, false, List, replicate, Ok, Err}
 use Rattle.std.proofs.Common.{sym, ◌∙◌, ap, ⊎_elim, arith}
 use Rattle.value.specs.Test.{◌and◌, ◌=?◌}
 use Rattle.value.proofs.Tests.{goes, stops, eq!, eq×, le?, both?, same?}
@@ -11,7 +11,6 @@ use Rattle.image.specs.Memory.{main_at, used, turns, reactor, wired, next, conte
 use Rattle.image.specs.Passes.{table_bytes, lowest, over, with_table_byte, blank_table, visit, table_after, fits}
 use Rattle.image.specs.Passes.{members_from, named_by, children_from, children_of, lowest_unfit, fresh_sound}
 use Rattle.image.specs.Passes.{grown_sound, by_turns, framed, sound_of}
-use Rattle.image.specs.declared.Judged.TheVariants.{Sound, Unsound}
 use Rattle.image.specs.Clauses.{made_of, SlotOf, Tiling, starts_on}
 use Rattle.image.specs.declared.DSlot.{DSlot}
 use Rattle.image.specs.declared.Pass.{Pass}
@@ -56,25 +55,25 @@ module _ (p m : List ℕ) where
     abbrev Clear : Bool
     Clear = (wired m main_at =? 0) and zero_at m (main_at + 3) (size - 3)
 
-    pub main_unfresh : Clear ≡ false → Unsound main_at ≡ fresh_sound p m
+    pub main_unfresh : Clear ≡ false → Err main_at ≡ fresh_sound p m
     unfolding fresh_sound
     main_unfresh e = rw (← sized) (stops _ e refl)
 
-    pub main_followed : Clear ≡ true → (used m ≡ main_at + size → ⊥) → Unsound (main_at + size) ≡ fresh_sound p m
+    pub main_followed : Clear ≡ true → (used m ≡ main_at + size → ⊥) → Err (main_at + size) ≡ fresh_sound p m
     unfolding fresh_sound
     main_followed e d = rw (← sized) (goes _ _ e (stops _ (eq× d) refl))
 
-    pub main_alone : Clear ≡ true → used m ≡ main_at + size → Sound ≡ fresh_sound p m
+    pub main_alone : Clear ≡ true → used m ≡ main_at + size → (Ok tt) ≡ fresh_sound p m
     unfolding fresh_sound
     main_alone e f = rw (← sized) (goes _ _ e (goes _ _ (eq! f) refl))
 
   -- the ladder
-  pub unframed : framed p m ≡ false → Unsound 0 ≡ sound_of p m
+  pub unframed : framed p m ≡ false → Err 0 ≡ sound_of p m
   unfolding sound_of
   unframed e = stops _ e refl
 
   module _ (right : framed p m ≡ true) where
-    pub chained : (next m main_at ≡ 0 → ⊥) → Unsound main_at ≡ sound_of p m
+    pub chained : (next m main_at ≡ 0 → ⊥) → Err main_at ≡ sound_of p m
     unfolding sound_of
     chained d = goes _ _ right (stops _ (eq× d) refl)
 

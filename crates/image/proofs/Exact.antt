@@ -1,4 +1,4 @@
--- Exact soundness: the ladder of the passes comes to `Sound` where the image is sound. Where else it stops is in Place.
+-- Exact soundness: the ladder of the passes comes to `(Ok tt)` where the image is sound. Where else it stops is in Place.
 pub mod Lists
 pub mod Tables
 pub mod Tiling
@@ -9,7 +9,7 @@ pub mod Names
 pub mod Depths
 pub mod Rungs
 pub mod Place
-use Rattle.std.specs.Prelude.{ℕ, ◌≤◌, ◌≡◌, refl, ◌↔◌, ◌≢◌, Bool, true, false, List, length}
+use Rattle.std.specs.Prelude.{ℕ, ◌≤◌, ◌≡◌, refl, ◌↔◌, ◌≢◌, Bool, true, false, List, length, Ok, Err}
 use Rattle.std.proofs.Common.{sym, ap, subst, ⊎_elim}
 use Rattle.std.proofs.Common.{arith}
 use Rattle.value.specs.Test.{guard, ◌=?◌}
@@ -21,18 +21,17 @@ use Rattle.load.specs.Rules.{Rules}
 use Rattle.image.specs.Memory.{most_words, main_at, turns, reactor, next, value_at, size_at}
 use Rattle.image.specs.Sound.{Deployed, InD, Fresh, Grown, SoundImage}
 use Rattle.image.specs.Passes.{fresh_sound, grown_sound, by_turns, sound_of, ExactSoundness}
-use Rattle.image.specs.declared.Judged.{Judged}
-use Rattle.image.specs.declared.Judged.TheVariants.{Sound, Unsound}
+use Rattle.image.specs.Passes.{Judged}
 use Rattle.image.specs.Fault.{Framed, Own, FreshMain, All}
 use Rattle.image.proofs.Memory.Tiles.{in_to, in_next}
 use Rattle.image.proofs.Exact.Tiling.{Laid, starts}
 use Rattle.image.proofs.Exact.Rungs.{unsound_not, framed_says, framed_laid, main_says, own_says, named_says}
 use Rattle.image.proofs.Exact.Rungs.{depth_says}
 
--- a ladder ends in `Sound` where each test passes
+-- a ladder ends in `(Ok tt)` where each test passes
 ladder : (t : Bool) (n : ℕ) (more : Unit {0} → Judged) →
-    (guard t (Unsound n) more ≡ Sound) ↔ ((t ≡ true) × (more tt ≡ Sound))
-ladder t n more = guards (λ (j : Judged). j ≡ Sound) t (Unsound n) more (unsound_not n)
+    (guard t (Err n) more ≡ Ok tt) ↔ ((t ≡ true) × (more tt ≡ Ok tt))
+ladder t n more = guards (λ (j : Judged). j ≡ Ok tt) t (Err n) more (unsound_not n)
 
 module _ (p m : List ℕ) where
   -- "all slots but D slots are zero"
@@ -41,7 +40,7 @@ module _ (p m : List ℕ) where
 
   -- ---- turns 0
 
-  fresh_test : reactor m main_at ≡ main_of p → next m main_at ≡ 0 → (fresh_sound p m ≡ Sound) ↔ Fresh p m
+  fresh_test : reactor m main_at ≡ main_of p → next m main_at ≡ 0 → (fresh_sound p m ≡ Ok tt) ↔ Fresh p m
   unfolding fresh_sound
   fresh_test first last =
       let w = main_says p m first last in (
@@ -66,7 +65,7 @@ module _ (p m : List ℕ) where
   module _ (laid : Laid p m) (first : reactor m main_at ≡ main_of p) (last : next m main_at ≡ 0) where
     -- ---- turns above 0
 
-    grown_test : (grown_sound p m (starts p m) ≡ Sound) ↔ (((d : ℕ) → Deployed p m d → Empty d) × Grown p m)
+    grown_test : (grown_sound p m (starts p m) ≡ Ok tt) ↔ (((d : ℕ) → Deployed p m d → Empty d) × Grown p m)
     unfolding grown_sound
     grown_test =
         let owns = own_says p m laid last in (
@@ -117,7 +116,7 @@ module _ (p m : List ℕ) where
       fresh : turns m ≡ 0 → Fresh p m
       grown : turns m ≢ 0 → Grown p m
 
-    turns_test : (t : Bool) → (turns m =? 0) ≡ t → (by_turns p m t ≡ Sound) ↔ ByTurns
+    turns_test : (t : Bool) → (turns m =? 0) ≡ t → (by_turns p m t ≡ Ok tt) ↔ ByTurns
     unfolding by_turns
     turns_test true q =
         let w = fresh_test first last in (
@@ -175,5 +174,5 @@ exact_soundness p few m small = (
 
 -- the same, of a program that keeps the rules
 pub rules_soundness : (p : List ℕ) → Rules p → (m : List ℕ) → length m ≤ most_words →
-    (sound_of p m ≡ Sound) ↔ SoundImage p m
+    (sound_of p m ≡ Ok tt) ↔ SoundImage p m
 rules_soundness p rules = exact_soundness p rules.tables.header.few_reactors

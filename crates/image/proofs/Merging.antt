@@ -1,7 +1,7 @@
 -- The sweep's table beside those of the passes: a child named, children one after the other, deployments one after the
 -- other, and the tables before the first. A sweep that comes to its end shows that no pass finds a fault.
 -- Assumes nothing.
-use Rattle.std.specs.Prelude.{ℕ, ◌+◌, ◌-◌, ◌/◌, ◌%◌, ◌≤◌, ◌<◌, ◌≡◌, refl, ◌≢◌, Bool, true}
+use Rattle.std.specs.Prelude.{ℕ, ◌+◌, ◌-◌, ◌/◌, ◌%◌, ◌≤◌, ◌<◌, ◌≡◌, refl, ◌≢◌, Bool, true, Ok}
 use Rattle.std.proofs.Common.{sym, ◌∙◌, ap, ⊎_elim}
 use Rattle.std.specs.Prelude.{false, ◌&&◌, ◌||◌, List, [], ◌∷◌, ◌++◌, length, get_or, set, replicate}
 use Rattle.std.proofs.Common.{arith}
@@ -18,7 +18,6 @@ use Rattle.image.specs.Passes as P
 use Rattle.image.specs.Passes.{table_bytes, lowest, over, table_byte, with_table_byte, blank_table, is_start, name}
 use Rattle.image.specs.Passes.{deepen, visit, fits, own_sound, children_of, table_after, lowest_unfit, tiles_from}
 use Rattle.image.specs.Passes.{grown_sound, framed, sound_of}
-use Rattle.image.specs.declared.Judged.TheVariants.{Sound}
 use Rattle.image.specs.Clauses.{starts_on, Merged, Later, Placed, Sweeps, Swept, Begun, Headed, Grown}
 use Rattle.image.specs.declared.Pass.{Pass}
 use Rattle.image.specs.declared.Pass.TheVariants.{Starts, Names, Depths}
@@ -348,11 +347,11 @@ module _ (p m : List ℕ) (u : ℕ) (its : u ≡ used m) (fits : u ≤ length m)
       rw (← its) (both! (le! fits) (both! (le! h.few)
       (both! (rw (← its) at h.first) (both! (rw (← its) at g.tiled) rest))))
 
-  grown_true : Sound ≡ grown_sound p m (starts_on p m (used m) main_at)
+  grown_true : (Ok tt) ≡ grown_sound p m (starts_on p m (used m) main_at)
   unfolding grown_sound
   grown_true = goes _ _ (eq! g.owns) (goes _ _ (eq! g.names) (goes _ _ (eq! g.depths) refl))
 
-  pub grown_sound_lem : sound_of p m ≡ Sound
+  pub grown_sound_lem : sound_of p m ≡ Ok tt
   grown_sound_lem = sym (grown_true ∙ grown_judged p m framed_true g.head.last g.head.late)
 
 -- nothing is past the end

@@ -8,7 +8,7 @@ use Rattle.value.proofs.Tests.{yes, goes, stops, le!, le×, Says, says_le, says_
 use Rattle.program.specs.Bytes.{main_of}
 use Rattle.program.specs.Location.{size_of}
 use Rattle.load.specs.Fault.{Between}
-use Rattle.answer.specs.declared.Answer.TheVariants.{Done, Refused}
+use Rattle.std.specs.Prelude.{Ok, Err}
 use Rattle.answer.specs.declared.Refusal.{Refusal}
 use Rattle.answer.specs.declared.Refusal.TheVariants.{MemoryLength, NoRoom}
 use Rattle.image.specs.Memory.{fewest_words, most_words, main_at, word, used, with_used, deploy}
@@ -34,23 +34,23 @@ main_placed p m₁ m₂ n r h z a b e =
     rw (b, a) (sym (yes _ (le! (omega arith)) (ap (λ (r : ℕ). deploy p (with_used (replicate n 0) main_at) r 0) (sym e))))
 
 module _ (p m : List ℕ) where
-  pub start_refused_lem : (w : Refusal) → started (Refused w) m ≡ start_by p m (Refused w)
+  pub start_refused_lem : (w : Refusal) → started (Err w) m ≡ start_by p m (Err w)
   unfolding started start_by start_refused
   start_refused_lem w = refl
 
   module _ (size : ℕ) where
     pub start_length : words_legal (length m) ≡ false
-        → started (Refused (MemoryLength (length m))) m ≡ start_by p m (Done size)
+        → started (Err (MemoryLength (length m))) m ≡ start_by p m (Ok size)
     unfolding started start_by start_refused
     start_length e = stops _ e refl
 
     module _ (legal : words_legal (length m) ≡ true) where
       pub start_full : (r : ℕ) → length m - main_at < size → r ≡ main_of p
-          → started (Refused (NoRoom r)) m ≡ start_by p m (Done size)
+          → started (Err (NoRoom r)) m ≡ start_by p m (Ok size)
       unfolding started start_by start_refused
       start_full r h e = goes _ _ legal (stops _ (le× h) (rw e))
 
       pub start_ready : (m₁ : List ℕ) → size ≤ length m - main_at → m₁ ≡ started_of p (length m)
-          → started (Done (main_at + size)) m₁ ≡ start_by p m (Done size)
+          → started (Ok (main_at + size)) m₁ ≡ start_by p m (Ok size)
       unfolding started start_by
       start_ready m₁ h e = goes _ _ legal (goes _ _ (le! h) (rw e))

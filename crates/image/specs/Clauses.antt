@@ -13,7 +13,7 @@ use Rattle.image.specs.declared.ChildStep.{ChildStep}
 use Rattle.image.specs.declared.ChildStep.TheVariants.{Name, Deepen}
 use Rattle.image.specs.declared.Pass.TheVariants.{Starts, Names, Depths}
 use Rattle.image.specs.Start.{Start}
-use Rattle.answer.specs.declared.Answer.{Answer}
+use Rattle.answer.specs.Answer.{Answer}
 
 -- where u after it fits a word; else nothing is placed
 unfoldable pub deploy_fits : List ℕ → List ℕ → ℕ → ℕ → List ℕ

@@ -1,7 +1,7 @@
 -- 5.19 Where an image that is not sound is at fault. Faults are told apart in this order: the frame, which is words 0
 -- and 1, the tiling with main first, and the words from u on; each deployment's own words; how often each is named;
 -- depths. The place of a frame and of a depth is 0, of any other the lowest deployment that has the fault.
-use Rattle.std.specs.Prelude.{ℕ, ◌+◌, ◌≤◌, ◌<◌, ◌≡◌, ◌↔◌, ◌≢◌, List, length}
+use Rattle.std.specs.Prelude.{ℕ, ◌+◌, ◌≤◌, ◌<◌, ◌≡◌, ◌↔◌, ◌≢◌, List, length, Err}
 use Rattle.value.specs.Value.{blank}
 use Rattle.program.specs.Bytes.{reactors, most_reactors, commands_d, main_of}
 use Rattle.program.specs.Command.{cmd_of, alloc_mono, make_poly, cell}
@@ -10,7 +10,6 @@ use Rattle.image.specs.Memory.{most_words, most_turns, most_depth, main_at, word
 use Rattle.image.specs.Memory.{value_at}
 use Rattle.image.specs.Sound.{Tiles, Deployed, InD, MonoSlot, PointSlot, CellSlot, NamedOnce, Depth}
 use Rattle.image.specs.Passes.{sound_of}
-use Rattle.image.specs.declared.Judged.TheVariants.{Unsound}
 
 module _ (p m : List ℕ) where
   pub record Framed : Type 0 where
@@ -81,4 +80,4 @@ module _ (p m : List ℕ) where
 abbrev pub ExactPlace : List ℕ → Type 0
 ExactPlace p =
     reactors p ≤ most_reactors → (m : List ℕ) → length m ≤ most_words →
-    (q : ℕ) → (sound_of p m ≡ Unsound q) ↔ FaultAt p m q
+    (q : ℕ) → (sound_of p m ≡ Err q) ↔ FaultAt p m q

@@ -12,10 +12,13 @@ use Rattle.program.specs.Kind.{legal}
 use Rattle.image.specs.Sound.{SoundImage}
 use Rattle.image.specs.Memory.{most_words, most_turns, most_depth, main_at, used, turns, reactor, wired, next, zero_at}
 use Rattle.image.specs.Memory.{mark, content, value_at, size_at, starts_below, slots_d, slots_r}
-use Rattle.image.specs.declared.Judged.{Judged}
-use Rattle.image.specs.declared.Judged.TheVariants.{Sound, Unsound}
+use Rattle.std.specs.Prelude.{Result, Ok, Err}
 use Rattle.image.specs.declared.Pass.{Pass}
 use Rattle.image.specs.declared.Pass.TheVariants.{Starts, Names, Depths}
+
+-- whether an image is sound; if not, the place that refusal 9 names
+abbrev pub Judged : Type 0
+Judged = Result (Unit {0}) ℕ
 
 -- the first deployment of a list for which the test fails, 0 if none
 unfoldable pub lowest : (ℕ → Bool) → List ℕ → ℕ
@@ -150,17 +153,17 @@ module _ (p : List ℕ) (m : List ℕ) where
   fresh_sound =
       let end = main_at + size_of p (main_of p) in
       guard ((wired m main_at =? 0) and zero_at m (main_at + head_words) (size_of p (main_of p) - head_words))
-      (Unsound main_at) (λ _.
-      guard (used m =? end) (Unsound end) (λ _. Sound))
+      (Err main_at) (λ _.
+      guard (used m =? end) (Err end) (λ _. (Ok tt)))
 
   -- with turns above 0: each deployment's own words, then how often each is named, then how deep each is
   unfoldable pub grown_sound : List ℕ → Judged
   grown_sound starts =
       let own = lowest_unfit Starts starts in
-      guard (own =? 0) (Unsound own) (λ _.
+      guard (own =? 0) (Err own) (λ _.
       let named = lowest_unfit Names starts in
-      guard (named =? 0) (Unsound named) (λ _.
-      guard (lowest_unfit Depths starts =? 0) (Unsound 0) (λ _. Sound)))
+      guard (named =? 0) (Err named) (λ _.
+      guard (lowest_unfit Depths starts =? 0) (Err 0) (λ _. (Ok tt))))
 
   unfoldable pub by_turns : Bool → Judged
   by_turns true = fresh_sound
@@ -175,11 +178,11 @@ module _ (p : List ℕ) (m : List ℕ) where
   -- main is the lowest deployment, so that its next comes before all that is asked of others
   unfoldable pub sound_of : Judged
   sound_of =
-      guard framed (Unsound 0) (λ _.
-      guard (next m main_at =? 0) (Unsound main_at) (λ _.
+      guard framed (Err 0) (λ _.
+      guard (next m main_at =? 0) (Err main_at) (λ _.
       by_turns (turns m =? 0)))
 
 -- Exact soundness, for a program of no more reactors than the check accepts. Proved in proofs/Exact.antt.
 abbrev pub ExactSoundness : List ℕ → Type 0
 ExactSoundness p = reactors p ≤ most_reactors → (m : List ℕ) → length m ≤ most_words →
-    (sound_of p m ≡ Sound) ↔ SoundImage p m
+    (sound_of p m ≡ Ok tt) ↔ SoundImage p m

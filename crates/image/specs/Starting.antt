@@ -1,6 +1,6 @@
 -- What start promises, for every program and memory. Proved in proofs/Memory/Starting.antt: an element of each of these
 -- types.
-use Rattle.std.specs.Prelude.{ℕ, ◌+◌, ◌≤◌, ◌≡◌, ◌⊎◌, ◌↔◌, ◌≢◌, List, length}
+use Rattle.std.specs.Prelude.{ℕ, ◌+◌, ◌≤◌, ◌≡◌, ◌⊎◌, ◌↔◌, ◌≢◌, List, length, Ok, Err}
 use Rattle.program.specs.Bytes.{main_of}
 use Rattle.program.specs.Location.{size_of}
 use Rattle.load.specs.Check.{IsAccepted}
@@ -10,7 +10,6 @@ use Rattle.answer.specs.declared.Refusal.{Refusal}
 use Rattle.image.specs.Memory.{fewest_words, most_words, main_at, turns}
 use Rattle.image.specs.Sound.{SoundImage}
 use Rattle.image.specs.Start.{started_of, start_of}
-use Rattle.answer.specs.declared.Answer.TheVariants.{Done, Refused}
 
 -- 3.1 Memory has a legal length.
 abbrev pub Words : List ℕ → Type 0
@@ -33,7 +32,7 @@ StartSucceeds = (p m : List ℕ) → (number_of (start_of p m).answer ≡ 0) ↔
 abbrev pub Starts : Type 0
 Starts =
     (p m : List ℕ) → Startable p m
-    → start_of p m ≡ record { answer = Done (main_at + size_of p (main_of p)); memory = started_of p (length m) }
+    → start_of p m ≡ record { answer = Ok (main_at + size_of p (main_of p)); memory = started_of p (length m) }
 
 -- 3.15 v after start: a sound image of no turn, by which each word is said.
 pub record AfterStart (p m v : List ℕ) : Type 0 where
@@ -59,7 +58,7 @@ pub data StartFault (p m : List ℕ) : ℕ → ℕ → Type 0 where
 -- number and place of every refusal: `start_fault`
 abbrev pub StartFirstFault : Type 0
 StartFirstFault =
-    (p m : List ℕ) (w : Refusal) → ((start_of p m).answer ≡ Refused w) ↔ StartFault p m (refusal_number w) (refusal_place w)
+    (p m : List ℕ) (w : Refusal) → ((start_of p m).answer ≡ Err w) ↔ StartFault p m (refusal_number w) (refusal_place w)
 
 -- 5.7 The numbers that start can give at all: the check's, 8 and 14.
 abbrev pub StartNumber : ℕ → Type 0

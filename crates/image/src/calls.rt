@@ -1,6 +1,5 @@
 // 4.5 Start.
-ghost use Rattle.std.specs.Prelude.{◌≤◌, ◌≡◌, length};
-ghost use Rattle.answer.specs.declared.Answer.TheVariants.{Done};
+ghost use Rattle.std.specs.Prelude.{◌≤◌, ◌≡◌, length, Ok};
 ghost use Rattle.image.specs.Clauses.{started};
 ghost use Rattle.image.specs.Memory as M;
 ghost use Rattle.image.specs.Start.{started_of, words_legal, start_by, start_of};
@@ -33,17 +32,17 @@ pub fn words_legal(n: usize) -> bool
 // Starts with a main of this size, where memory's length is legal and there is room.
 fn start_sized(size: usize, program: &[u8], memory: &mut [u32]) -> Answer
     ensures { let p = program.now in let m = memory.old in
-        started result memory.new ≡ start_by p m (Done size) }
+        started result memory.new ≡ start_by p m (Ok size) }
 {
     let n = memory.len();
     if !words_legal(n) {
-        return Answer::Refused(Refusal::MemoryLength(n));
+        return Err(Refusal::MemoryLength(n));
     }
     if n - (MAIN_AT as usize) < size {
-        return Answer::Refused(Refusal::NoRoom(main_of(program) as usize));
+        return Err(Refusal::NoRoom(main_of(program) as usize));
     }
     place_main(program, memory);
-    Answer::Done(MAIN_AT as usize + size)
+    Ok(MAIN_AT as usize + size)
 }
 
 // Start, after the check of the program.
@@ -51,10 +50,7 @@ fn start_by(checked: Answer, program: &[u8], memory: &mut [u32]) -> Answer
     ensures { let p = program.now in let m = memory.old in
         started result memory.new ≡ start_by p m checked }
 {
-    match checked {
-        Answer::Done(size) => start_sized(size, program, memory),
-        Answer::Refused(why) => Answer::Refused(why),
-    }
+    start_sized(checked?, program, memory)
 }
 
 // Start: done, with u, or refused; then memory is as at entry.

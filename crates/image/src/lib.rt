@@ -30,13 +30,6 @@ pub use words::{
 };
 pub use zero::wipe;
 
-// Whether an image is sound; if not, the place that refusal 9 names.
-#[derive(Clone, Copy)]
-pub enum Judged {
-    Sound,
-    Unsound(usize),
-}
-
 // The three passes of soundness: where deployments begin, how often each is named, how deep each is.
 #[derive(Clone, Copy)]
 pub enum Pass {

@@ -11,7 +11,7 @@ use crate::passes::run_pass;
 use crate::tiling::tiles;
 use crate::words::{MAIN_AT, MOST_TURNS, SLOTS_AT, next, reactor, turns, used, wired};
 use crate::zero::zero_at;
-use crate::{Judged, Pass};
+use crate::Pass;
 use program::{HEAD_WORDS, main_of, size_of};
 
 // Whether main comes first.
@@ -43,7 +43,7 @@ fn framed(program: &[u8], memory: &[u32]) -> bool
 }
 
 // With turns 0: main is unwired and its slots are zero, and no deployment follows it.
-fn fresh(program: &[u8], memory: &[u32]) -> Judged
+fn fresh(program: &[u8], memory: &[u32]) -> Result<(), usize>
     ensures { result ≡ P.fresh_sound program.now memory.now }
 {
     let main = main_of(program);
@@ -55,17 +55,17 @@ fn fresh(program: &[u8], memory: &[u32]) -> Judged
             (size - HEAD_WORDS) as usize,
         );
     if !clear {
-        return Judged::Unsound(MAIN_AT as usize);
+        return Err(MAIN_AT as usize);
     }
     let end = MAIN_AT + size;
     if used(memory) != end {
-        return Judged::Unsound(end as usize);
+        return Err(end as usize);
     }
-    Judged::Sound
+    Ok(())
 }
 
 // With turns above 0: every deployment's own words are right, each is named once, none is too deep.
-fn grown(program: &[u8], memory: &[u32], u: u32) -> Judged
+fn grown(program: &[u8], memory: &[u32], u: u32) -> Result<(), usize>
     requires { Tiling program.now memory.now u M.main_at }
     ensures { let p = program.now in let m = memory.now in
         result ≡ P.grown_sound p m (starts_on p m u M.main_at) }
@@ -74,28 +74,28 @@ fn grown(program: &[u8], memory: &[u32], u: u32) -> Judged
     fill_positions(program, &mut places);
     let own = run_pass(Pass::Starts, program, &places, memory, u);
     if own != 0 {
-        return Judged::Unsound(own as usize);
+        return Err(own as usize);
     }
     let named = run_pass(Pass::Names, program, &places, memory, u);
     if named != 0 {
-        return Judged::Unsound(named as usize);
+        return Err(named as usize);
     }
     if run_pass(Pass::Depths, program, &places, memory, u) != 0 {
-        return Judged::Unsound(0);
+        return Err(0);
     }
-    Judged::Sound
+    Ok(())
 }
 
 // Whether an image is sound for a program, and if not, where it is at fault: exactly so for up to 64
 // reactors and 16,384 words, which is all that check and length let pass (exact_soundness, exact_place).
-pub fn sound(program: &[u8], memory: &[u32]) -> Judged
+pub fn sound(program: &[u8], memory: &[u32]) -> Result<(), usize>
     ensures { result ≡ P.sound_of program.now memory.now }
 {
     if !framed(program, memory) {
-        return Judged::Unsound(0);
+        return Err(0);
     }
     if next(memory, MAIN_AT) != 0 {
-        return Judged::Unsound(MAIN_AT as usize);
+        return Err(MAIN_AT as usize);
     }
     if turns(memory) == 0 {
         return fresh(program, memory);

@@ -2,19 +2,17 @@
 // tests each and names its children. The table has a byte for each three words: 0 where no deployment
 // begins, 1 to 3 where one begins that is not named yet, and 4 more than its depth once it is. Where
 // a walk finds a fault it stops: the passes find its place.
-ghost use Rattle.std.specs.Prelude.{ℕ, ◌+◌, ◌≤◌, ◌<◌, ◌≡◌, true, List, [], ◌∷◌, length, replicate};
+ghost use Rattle.std.specs.Prelude.{ℕ, ◌+◌, ◌≤◌, ◌<◌, ◌≡◌, true, List, [], ◌∷◌, length, replicate, Ok};
 ghost use Rattle.value.specs.Test.{◌and◌, ◌<?◌};
 ghost use Rattle.program.specs.Bytes as B;
 ghost use Rattle.program.specs.Command as C;
 ghost use Rattle.program.specs.Clauses.{Facts, Tells};
 ghost use Rattle.image.specs.Memory as M;
 ghost use Rattle.image.specs.Passes as P;
-ghost use Rattle.image.specs.declared.Judged.TheVariants.{Sound};
 ghost use Rattle.image.specs.Clauses.{Tiling, starts_on, made_of, Placed, Sweeps, SlotSwept, SlotsSwept};
 ghost use Rattle.image.specs.Clauses.{OwnSwept, Swept, Begun, Headed, Grown};
 ghost use Rattle.image.specs.declared.Pass.TheVariants.{Starts};
 
-use crate::Judged;
 use crate::chain::joins;
 use crate::soundness::{main_first, sound};
 use crate::table::{TABLE_BYTES, is_start, mark_start, put_byte, put_table_byte, table_byte};
@@ -334,7 +332,7 @@ fn sweep_many(program: &[u8], facts: &[u64; 64], memory: &[u32], u: u32) -> bool
 // large table is in the frame of `sweep_many` alone, which two calls keep out of the turn's.
 fn surely_sound(program: &[u8], facts: &[u64; 64], memory: &[u32]) -> bool
     requires { Facts program.now facts.now }
-    ensures { result ≡ true → P.sound_of program.now memory.now ≡ Sound }
+    ensures { result ≡ true → P.sound_of program.now memory.now ≡ (Ok tt) }
 {
     let u = used(memory);
     let n = memory.len();
@@ -352,12 +350,12 @@ fn surely_sound(program: &[u8], facts: &[u64; 64], memory: &[u32]) -> bool
 
 // Whether an image is sound for a program, by a table of its facts. Where the sweep does not find it
 // sound, the tests in their order decide.
-pub fn sound_by(program: &[u8], facts: &[u64; 64], memory: &[u32]) -> Judged
+pub fn sound_by(program: &[u8], facts: &[u64; 64], memory: &[u32]) -> Result<(), usize>
     requires { Facts program.now facts.now }
     ensures { result ≡ P.sound_of program.now memory.now }
 {
     if surely_sound(program, facts, memory) {
-        return Judged::Sound;
+        return Ok(());
     }
     sound(program, memory)
 }

@@ -1,6 +1,6 @@
 -- One turn of the loops over a reactor's commands, and of the loop over the reactors, said of their definitions.
 -- Assumes nothing.
-use Rattle.std.specs.Prelude.{ℕ, zero, suc, ◌+◌, ◌-◌, ◌*◌, ◌≤◌, ◌<◌, ◌≡◌, refl, Bool, true}
+use Rattle.std.specs.Prelude.{ℕ, zero, suc, ◌+◌, ◌-◌, ◌*◌, ◌≤◌, ◌<◌, ◌≡◌, refl, Bool, true, Ok, Err}
 use Rattle.std.proofs.Common.{sym, ◌∙◌, ap, subst}
 use Rattle.std.specs.Prelude.{false, List}
 use Rattle.std.proofs.Common.{true≢false, arith}
@@ -15,16 +15,14 @@ use Rattle.load.specs.Refusal.{at_command}
 use Rattle.load.specs.Check.{ended, reactors_of}
 use Rattle.load.specs.Clauses.{LegalTables, Shaped, Within, Stepped, Stopped, Passed, Ran, refusal_next}
 use Rattle.load.specs.declared.Scan.{Scan}
-use Rattle.answer.specs.declared.Answer.{Answer}
-use Rattle.answer.specs.declared.Answer.TheVariants.{Refused}
+use Rattle.answer.specs.Answer.{Answer, Ruling}
 use Rattle.answer.specs.declared.Refusal.{Refusal}
 use Rattle.answer.specs.declared.Refusal.TheVariants.{Missing}
-use Rattle.answer.specs.declared.Ruling.TheVariants.{Against, Fine}
 use Rattle.load.proofs.Shapes.{after_shaped, after_within}
 use Rattle.load.proofs.Stands.{after_next}
 
 -- a ruling of why is no acceptance
-pub not_fine : {A : Type 0} {w : Refusal} → Against w ≡ Fine → A
+pub not_fine : {A : Type 0} {w : Refusal} → ◌≡◌ {A = Ruling} (Err w) (Ok tt) → A
 not_fine e = let z : ◌≡◌ {A = ℕ} 0 1 = cc in absurd (omega arith)
 
 -- ---- a command
@@ -154,13 +152,13 @@ module _ (p : List ℕ) (r : ℕ) where
 -- ---- a reactor
 
 module _ (more : Unit {0} → Answer) (entry : ℕ) where
-  ended_refused : (t : Scanned) (n q : ℕ) (u : Scan) → t ≡ scanned n q u → (n ≡ 0 → ⊥) → Refused (at_command n q) ≡
+  ended_refused : (t : Scanned) (n q : ℕ) (u : Scan) → t ≡ scanned n q u → (n ≡ 0 → ⊥) → Err (at_command n q) ≡
       ended more entry t t.code
   unfolding ended
   ended_refused t zero q u e d = absurd (d refl)
   ended_refused t (suc n) q u e d = sym (ap (λ (t : Scanned). ended more entry t t.code) e)
 
-  ended_missing : (t : Scanned) (u : Scan) → t ≡ scanned 0 0 u → complete u ≡ false → Refused (Missing entry) ≡ ended
+  ended_missing : (t : Scanned) (u : Scan) → t ≡ scanned 0 0 u → complete u ≡ false → Err (Missing entry) ≡ ended
       more entry t t.code
   unfolding ended
   ended_missing t u e q = stops _ q refl ∙ sym (ap (λ (t : Scanned). ended more entry t t.code) e)
@@ -189,12 +187,12 @@ module _ (accepted : Answer) (p : List ℕ) (r : ℕ) where
     ran_here = subst (λ (q : ℕ). Ran p q (commands_in p q) (begin_of p q) u t) eq ran
 
     pub reactor_refused : t ≡ true → (at : ℕ) → at ≡ command_at p r u.next →
-        Refused (at_command (refusal_of p r u (bytes_at p at) (decode (bytes_at p at))) at) ≡ reactors_of accepted m p r
+        Err (at_command (refusal_of p r u (bytes_at p at) (decode (bytes_at p at))) at) ≡ reactors_of accepted m p r
     unfolding bytes_of
     reactor_refused e at f =
         let stop = ran_here.stopped e in
         let all : commands_in p r ≡ commands_in p r + 0 = omega arith in
-        ap (λ (i : ℕ). Refused (at_command (refusal_of p r u (bytes_at p i) (decode (bytes_at p i))) i)) f
+        ap (λ (i : ℕ). Err (at_command (refusal_of p r u (bytes_at p i) (decode (bytes_at p i))) i)) f
         ∙ ended_refused (After (m - 1)) (entry_at p r) Scan-of _ _ u
         (ap (λ (n : ℕ). scan_of n p r (begin_of p r)) all ∙ stop.1 0) stop.0
         ∙ sym (reactors_step m h)
@@ -205,7 +203,7 @@ module _ (accepted : Answer) (p : List ℕ) (r : ℕ) where
       all_taken = let all : commands_in p r ≡ commands_in p r + 0 = omega arith in ap
           (λ (n : ℕ). scan_of n p r (begin_of p r)) all ∙ (ran_here.passed e).on 0
 
-      pub reactor_missing : complete u ≡ false → Refused (Missing (entry_at p r)) ≡ reactors_of accepted m p r
+      pub reactor_missing : complete u ≡ false → Err (Missing (entry_at p r)) ≡ reactors_of accepted m p r
       reactor_missing f = ended_missing (After (m - 1)) (entry_at p r) Scan-of u all_taken f ∙ sym (reactors_step m h)
 
       pub reactor_taken : complete u ≡ true → reactors_of accepted m p r ≡ reactors_of accepted (m - 1) p (r + 1)

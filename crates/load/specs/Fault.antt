@@ -1,6 +1,6 @@
 -- 5.2, 5.3 Why a program is refused: of all its faults the first, by number and place.
 -- All is said by positions: nothing here speaks of tests that compute, of their ladder or of the scan.
-use Rattle.std.specs.Prelude.{ℕ, ◌+◌, ◌≤◌, ◌<◌, ◌≡◌, ◌⊎◌, ◌↔◌, ◌≢◌, List, length}
+use Rattle.std.specs.Prelude.{ℕ, ◌+◌, ◌≤◌, ◌<◌, ◌≡◌, ◌⊎◌, ◌↔◌, ◌≢◌, List, length, Err}
 use Rattle.value.specs.Value.{number_kind, truth_kind, reactor_kind}
 use Rattle.value.specs.Primitive.{row_of, table, operands, remainder}
 use Rattle.value.specs.declared.Takes.{Takes}
@@ -19,7 +19,6 @@ use Rattle.load.specs.Rules.{HeaderRule, MainRule, ZeroBytes, IsValue, IsDeploym
 use Rattle.load.specs.Rules.{Allocates, Keeps, Sets, ReactorRule, TablesRight}
 use Rattle.load.specs.Order.{Never, OutOfOrder}
 use Rattle.answer.specs.declared.Refusal.{Refusal}
-use Rattle.answer.specs.declared.Answer.TheVariants.{Refused}
 
 -- ---- bytes of the header and the tables: where, and what is wrong there
 
@@ -203,7 +202,7 @@ module _ (p : List ℕ) where
 
 -- 5.2 The check refuses for the first fault, with its number and place.
 abbrev pub FirstFault : Type 0
-FirstFault = (p : List ℕ) (w : Refusal) → (check_of p ≡ Refused w) ↔ Fault p (refusal_number w) (refusal_place w)
+FirstFault = (p : List ℕ) (w : Refusal) → (check_of p ≡ Err w) ↔ Fault p (refusal_number w) (refusal_place w)
 
 -- 5.7 The numbers that the check can give at all.
 abbrev pub CheckNumber : ℕ → Type 0

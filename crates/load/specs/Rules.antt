@@ -1,6 +1,6 @@
 -- 2.30 Which programs are to be accepted, as a proposition. Nothing here speaks of the scan; positions in a reactor's
 -- command list (D then R, from 0) do.
-use Rattle.std.specs.Prelude.{ℕ, ◌+◌, ◌≤◌, ◌<◌, ◌≡◌, ◌⊎◌, ◌↔◌, true, List, length}
+use Rattle.std.specs.Prelude.{ℕ, ◌+◌, ◌≤◌, ◌<◌, ◌≡◌, ◌⊎◌, ◌↔◌, true, List, length, Ok}
 use Rattle.value.specs.Value.{number_kind, truth_kind, reactor_kind}
 use Rattle.value.specs.Primitive.{row_of, operands, Offered}
 use Rattle.value.specs.declared.Takes.{Takes}
@@ -15,7 +15,6 @@ use Rattle.program.specs.Location.{source_count, sink_count, command_loc, size_o
 use Rattle.program.specs.Kind.{kind_of, Content}
 use Rattle.program.specs.declared.Command.{Command}
 use Rattle.load.specs.Check.{check_of, IsAccepted}
-use Rattle.answer.specs.declared.Answer.TheVariants.{Done}
 
 -- ---- header and tables
 
@@ -191,4 +190,4 @@ ExactAcceptance = (p : List ℕ) → IsAccepted p ↔ Rules p
 
 -- 4.4 The answer is then the size of main: `accepted_size` in proofs/Exact/Ladder.antt.
 abbrev pub AcceptedSize : Type 0
-AcceptedSize = (p : List ℕ) → IsAccepted p → check_of p ≡ Done (size_of p (main_of p))
+AcceptedSize = (p : List ℕ) → IsAccepted p → check_of p ≡ Ok (size_of p (main_of p))

@@ -1,5 +1,5 @@
 // 5.3 The whole check.
-ghost use Rattle.std.specs.Prelude.{◌≤◌, ◌<◌, ◌≡◌, length, replicate};
+ghost use Rattle.std.specs.Prelude.{◌≤◌, ◌<◌, ◌≡◌, length, replicate, Ok};
 ghost use Rattle.value.specs.Test.{◌and◌, ◌≤?◌};
 ghost use Rattle.program.specs.Bytes as B;
 ghost use Rattle.program.specs.Command as C;
@@ -8,13 +8,12 @@ ghost use Rattle.load.specs.Check.{accepted, check_of, checked, reactors_of};
 ghost use Rattle.load.specs.Clauses.{LegalTables};
 ghost use Rattle.load.specs.Refusal.{at_command};
 ghost use Rattle.load.specs.Scan as S;
-ghost use Rattle.answer.specs.declared.Ruling.TheVariants.{Fine};
 
 use crate::Scan;
 use crate::known::facts_of;
 use crate::reactor::{complete, scan};
 use crate::tables::{header_fault, header_passes, table_fault, tables_pass};
-use answer::{Answer, Refusal, Ruling};
+use answer::{Answer, Refusal};
 use program::{
     Counts, Header, MOST_LOCATIONS, bytes_at, entry_at, fact, main_of, reactors, tables_end,
     whole_length,
@@ -47,14 +46,14 @@ fn refusal(program: &[u8], r: u8, at: u32, s: Scan) -> Refusal
 }
 
 // The reactors, one after the other.
-fn judge_reactors(program: &[u8], facts: &mut [u64; 64]) -> Ruling
+fn judge_reactors(program: &[u8], facts: &mut [u64; 64]) -> Result<(), Refusal>
     requires tables { LegalTables program.now }
     requires few { (0 < B.reactors program.now) × (B.reactors program.now ≤ B.most_reactors) }
     requires zeros { facts.old ≡ replicate 64 0 }
     requires whole { (length program.now ≡ B.whole_length program.now) × (length program.now ≤ B.most_bytes) }
     ensures ruling { let p = program.now in
         checked p result ≡ reactors_of (accepted p) (B.reactors p) p 0 }
-    ensures facts { result ≡ Fine → Facts program.now facts.new }
+    ensures facts { result ≡ Ok tt → Facts program.now facts.new }
 {
     let count = reactors(program);
     let mut first = tables_end(program) as u32;
@@ -70,17 +69,17 @@ fn judge_reactors(program: &[u8], facts: &mut [u64; 64]) -> Ruling
                 kind,
                 next: t.next,
             };
-            return Ruling::Against(refusal(program, r, first + 8 * (t.next as u32), s));
+            return Err(refusal(program, r, first + 8 * (t.next as u32), s));
         }
         if !complete(&standing, f.first_sink() + f.sinks as usize) {
-            return Ruling::Against(Refusal::Missing(entry_at(program, r as u32)));
+            return Err(Refusal::Missing(entry_at(program, r as u32)));
         }
         let k = Counts::new(first, f.sources, f.declared, f.running, t.results, f.sinks);
         facts[r as usize] = k.word;
         first = first + 8 * (f.declared as u32 + f.running as u32);
         r = r + 1;
     }
-    Ruling::Fine
+    Ok(())
 }
 
 // 7.1 Whether a program may have n bytes: the header's at least, and 65,535 at most.
@@ -91,28 +90,28 @@ fn length_legal(n: usize) -> bool
 }
 
 // Whether a program is accepted, or why not. Of an accepted one the facts are noted in a table of zeros.
-pub fn judge(program: &[u8], facts: &mut [u64; 64]) -> Ruling
+pub fn judge(program: &[u8], facts: &mut [u64; 64]) -> Result<(), Refusal>
     requires { facts.old ≡ replicate 64 0 }
     ensures ruling { let p = program.now in
         checked p result ≡ check_of p }
-    ensures facts { result ≡ Fine → Facts program.now facts.new }
+    ensures facts { result ≡ Ok tt → Facts program.now facts.new }
 {
     let n = program.len();
     if !length_legal(n) {
-        return Ruling::Against(Refusal::ProgramLength(n));
+        return Err(Refusal::ProgramLength(n));
     }
     if !header_passes(program) {
-        return Ruling::Against(Refusal::TableByte(header_fault(program) as usize));
+        return Err(Refusal::TableByte(header_fault(program) as usize));
     }
     let end = tables_end(program);
     if n < end as usize {
-        return Ruling::Against(Refusal::ProgramLength(n));
+        return Err(Refusal::ProgramLength(n));
     }
     if !tables_pass(program) {
-        return Ruling::Against(Refusal::TableByte(table_fault(program) as usize));
+        return Err(Refusal::TableByte(table_fault(program) as usize));
     }
     if n != whole_length(program) as usize {
-        return Ruling::Against(Refusal::ProgramLength(n));
+        return Err(Refusal::ProgramLength(n));
     }
     judge_reactors(program, facts)
 }
@@ -122,8 +121,6 @@ pub fn check(program: &[u8]) -> Answer
     ensures { result ≡ check_of program.now }
 {
     let mut facts = [0u64; 64];
-    match judge(program, &mut facts) {
-        Ruling::Fine => Answer::Done(fact(&facts, main_of(program) as u32).size() as usize),
-        Ruling::Against(w) => Answer::Refused(w),
-    }
+    judge(program, &mut facts)?;
+    Ok(fact(&facts, main_of(program) as u32).size() as usize)
 }

@@ -1,6 +1,6 @@
 -- What holds before each R command of a run, of the words, the table of places and the counts that the code goes by.
 -- Assumes nothing.
-use Rattle.std.specs.Prelude.{ℕ, suc, ◌+◌, ◌-◌, ◌*◌, ◌≤◌, ◌<◌, ◌≡◌, refl, true, List}
+use Rattle.std.specs.Prelude.{ℕ, suc, ◌+◌, ◌-◌, ◌*◌, ◌≤◌, ◌<◌, ◌≡◌, refl, true, List, Ok, Err}
 use Rattle.std.proofs.Common.{sym, ◌∙◌, ap, subst, ⊎_elim}
 use Rattle.std.specs.Prelude.{length, set}
 use Rattle.std.proofs.Common.{arith}
@@ -14,8 +14,7 @@ use Rattle.answer.specs.declared.Refusal.{Refusal}
 use Rattle.image.specs.Memory.{reactor, with_wired, slot}
 use Rattle.remus.specs.Run.{Ran, ran, stopped, commands, run_of}
 use Rattle.remus.specs.Steady.{Fits, Steady}
-use Rattle.answer.specs.declared.Ruling.{Ruling}
-use Rattle.answer.specs.declared.Ruling.TheVariants.{Fine, Against}
+use Rattle.answer.specs.Answer.{Ruling}
 use Rattle.machine.specs.declared.Outcome.{Outcome}
 use Rattle.machine.specs.declared.Outcome.TheVariants.{Given, Move, Call, Fail}
 use Rattle.machine.specs.Clauses.{did, doing, ran_as, Here, Workable, stepping, Left, Opened, Loaded, PlacedTo}
@@ -48,13 +47,13 @@ module _ (p rd : List ℕ) (h o : ℕ) (m : List ℕ) where
     pub steady_below : Steady p rd (65 - h) h m o → Steady p rd (suc (65 - (h + 1))) h m o
     steady_below s = subst (λ (x : ℕ). Steady p rd x h m o) levels s
 
-    pub ran_whole : (m₁ : List ℕ) → run_of (suc (65 - (h + 1))) p rd h m o ≡ ran m₁ → ran_as Fine m₁ ≡ run_of (65 - h) p
+    pub ran_whole : (m₁ : List ℕ) → run_of (suc (65 - (h + 1))) p rd h m o ≡ ran m₁ → ran_as (Ok tt) m₁ ≡ run_of (65 - h) p
         rd h m o
     unfolding ran_as
     ran_whole m₁ e = sym (ap (λ (x : ℕ). run_of x p rd h m o) levels ∙ e)
 
     pub ran_stopped : (w : Refusal) (m₁ : List ℕ) → run_of (suc (65 - (h + 1))) p rd h m o ≡ stopped w m₁
-        → ran_as (Against w) m₁ ≡ run_of (65 - h) p rd h m o
+        → ran_as (Err w) m₁ ≡ run_of (65 - h) p rd h m o
     unfolding ran_as
     ran_stopped w m₁ e = sym (ap (λ (x : ℕ). run_of x p rd h m o) levels ∙ e)
 
@@ -73,18 +72,18 @@ pub record Begun (p rd : List ℕ) (h o : ℕ) (m₀ m : List ℕ) : Type 0 wher
   pub left : Left p rd (65 - (h + 1)) h o (coming p rd h o m) (reactor m o) (commands_r p (reactor m o))
       (commands_d p (reactor m o)) m
   pub wired : with_wired m o 1 ≡ m
-  pub ends_whole : (m₁ : List ℕ) → coming p rd h o m ≡ ran m₁ → ran_as Fine m₁ ≡ run_of (65 - h) p rd h m₀ o
-  pub ends_stopped : (w : Refusal) (m₁ : List ℕ) → coming p rd h o m ≡ stopped w m₁ → ran_as (Against w) m₁ ≡ run_of
+  pub ends_whole : (m₁ : List ℕ) → coming p rd h o m ≡ ran m₁ → ran_as (Ok tt) m₁ ≡ run_of (65 - h) p rd h m₀ o
+  pub ends_stopped : (w : Refusal) (m₁ : List ℕ) → coming p rd h o m ≡ stopped w m₁ → ran_as (Err w) m₁ ≡ run_of
       (65 - h) p rd h m₀ o
 
 pub begun : (p t rd : List ℕ) (h o : ℕ) (m₀ m : List ℕ) (q : Ruling) → Loaded p t → Workable m₀ → Steady p rd (65 - h) h
-    m₀ o → q ≡ Fine
+    m₀ o → q ≡ Ok tt
     → ((rd' : List ℕ) (f : ℕ) → Steady p rd' (suc f) h m₀ o → Opened p rd' f h o m₀ q m) → Begun p rd h o m₀ m
 begun p t rd h o m₀ m q loaded w s e code =
     let d = not_deep p rd h o m₀ s in
     let s₁ = steady_below p rd h o m₀ d s in
     let l = entered_legal p rd (65 - (h + 1)) h o m₀ w s₁ in
-    let g : Opened p rd (65 - (h + 1)) h o m₀ Fine m = rw e at (code rd (65 - (h + 1)) s₁) in
+    let g : Opened p rd (65 - (h + 1)) h o m₀ (Ok tt) m = rw e at (code rd (65 - (h + 1)) s₁) in
     let k = starts p rd (65 - (h + 1)) h o m₀ m (loaded.some _ l) g in
     let x : run_of (suc (65 - (h + 1))) p rd h m₀ o ≡ coming p rd h o m = rw k.0 g.0.run in
     record {
@@ -99,12 +98,12 @@ begun p t rd h o m₀ m q loaded w s e code =
 
 -- or it has stopped
 pub stopped_there : (p rd : List ℕ) (h o : ℕ) (m₀ m : List ℕ) (q : Ruling) (v : Refusal) → Steady p rd (65 - h) h m₀ o →
-    q ≡ Against v
-    → ((rd' : List ℕ) (f : ℕ) → Steady p rd' (suc f) h m₀ o → Opened p rd' f h o m₀ q m) → ran_as (Against v) m ≡ run_of
+    q ≡ Err v
+    → ((rd' : List ℕ) (f : ℕ) → Steady p rd' (suc f) h m₀ o → Opened p rd' f h o m₀ q m) → ran_as (Err v) m ≡ run_of
     (65 - h) p rd h m₀ o
 stopped_there p rd h o m₀ m q v s e code =
     let d = not_deep p rd h o m₀ s in
-    let g : Opened p rd (65 - (h + 1)) h o m₀ (Against v) m = rw e at
+    let g : Opened p rd (65 - (h + 1)) h o m₀ (Err v) m = rw e at
     (code rd (65 - (h + 1)) (steady_below p rd h o m₀ d s)) in
     ran_stopped p rd h o m₀ d v m g
 
@@ -275,7 +274,7 @@ module _ (p t rd : List ℕ) (h o : ℕ) (m₀ : List ℕ) (first at end : ℕ) 
           nested = on_call p rd f h o x r m j under g.left g.wiring q m₁ code d z
 
           -- m₂ and s₂ after the nested run
-          pub going_call : (m₂ s₂ : List ℕ) → ran_as Fine m₂ ≡ run_of f p rd (h + 1) m₁ d → length s₂ ≡ 256 → PlacedTo p
+          pub going_call : (m₂ s₂ : List ℕ) → ran_as (Ok tt) m₂ ≡ run_of f p rd (h + 1) m₁ d → length s₂ ≡ 256 → PlacedTo p
               r s₂ (first + (j + 1))
               → Going m₂ s₂ n (j + 1)
           going_call m₂ s₂ y e k =
@@ -283,5 +282,5 @@ module _ (p t rd : List ℕ) (h o : ℕ) (m₀ : List ℕ) (first at end : ℕ) 
               let a = g.count in
               next m₂ s₂ n y'.0 e k (let b = y'.1 in omega arith)
 
-          pub stops : (w : Refusal) (m₂ : List ℕ) → ran_as (Against w) m₂ ≡ run_of f p rd (h + 1) m₁ d → x ≡ stopped w m₂
+          pub stops : (w : Refusal) (m₂ : List ℕ) → ran_as (Err w) m₂ ≡ run_of f p rd (h + 1) m₁ d → x ≡ stopped w m₂
           stops w m₂ y = stops_call p rd f h o x r m j under g.left g.wiring q m₁ code d z w m₂ y

@@ -1,6 +1,6 @@
 -- D commands, one after the other.
 -- Assumes nothing.
-use Rattle.std.specs.Prelude.{ℕ, suc, ◌+◌, ◌-◌, ◌*◌, ◌≤◌, ◌<◌, ◌≡◌, refl, List}
+use Rattle.std.specs.Prelude.{ℕ, suc, ◌+◌, ◌-◌, ◌*◌, ◌≤◌, ◌<◌, ◌≡◌, refl, List, Ok, Err}
 use Rattle.std.proofs.Common.{sym, ◌∙◌, ap, arith}
 use Rattle.program.specs.Bytes.{commands_d, commands_in, commands_at, command_at}
 use Rattle.program.specs.Command.{bytes_at, bytes_of, cmd_of}
@@ -12,8 +12,7 @@ use Rattle.answer.specs.declared.Refusal.{Refusal}
 use Rattle.remus.specs.Run.{Ran, stopped}
 use Rattle.remus.specs.Steady.{Fits}
 use Rattle.machine.specs.Clauses.{Here, Declares, ran_as, stepping, Left}
-use Rattle.answer.specs.declared.Ruling.{Ruling}
-use Rattle.answer.specs.declared.Ruling.TheVariants.{Fine, Against}
+use Rattle.answer.specs.Answer.{Ruling}
 use Rattle.machine.proofs.Running.{knows, ready_apart, steps, goes_on, breaks_off}
 use Rattle.machine.proofs.Opening.{left_at}
 
@@ -55,12 +54,12 @@ module _ (p rd : List ℕ) (f h o : ℕ) (x : Ran) (r : ℕ) (m m₁ : List ℕ)
   unfolding commands_in
   more = left_at p rd f h o (omega arith) refl l
 
-  pub declared_on : q ≡ Fine → Left p rd f h o x r rest (j + 1) m₁
+  pub declared_on : q ≡ Ok tt → Left p rd f h o x r rest (j + 1) m₁
   unfolding ran_as
   declared_on w = goes_on p rd f h o x r rest j m more m₁
       (declares p rd f h o x r rest j m more i here e q m₁ code ∙ ap (λ (y : Ruling). ran_as y m₁) w)
 
-  pub declared_off : (v : Refusal) → q ≡ Against v → x ≡ stopped v m₁
+  pub declared_off : (v : Refusal) → q ≡ Err v → x ≡ stopped v m₁
   unfolding ran_as
   declared_off v w =
       breaks_off p rd f h o x r rest j m more v m₁ (declares p rd f h o x r rest j m more i here e q m₁ code ∙ ap

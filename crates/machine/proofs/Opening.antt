@@ -1,6 +1,6 @@
 -- A run's beginning: before D, past it, and once the deployment is wired.
 -- Assumes nothing.
-use Rattle.std.specs.Prelude.{ℕ, suc, ◌+◌, ◌-◌, ◌<◌, ◌≡◌, refl, ◌≢◌, List}
+use Rattle.std.specs.Prelude.{ℕ, suc, ◌+◌, ◌-◌, ◌<◌, ◌≡◌, refl, ◌≢◌, List, Ok}
 use Rattle.std.proofs.Common.{sym, ◌∙◌, ap, subst, arith}
 use lib.Seq.{set-set}
 use Rattle.value.proofs.Tests.{yes, no, eq!, eq×}
@@ -10,8 +10,7 @@ use Rattle.remus.specs.Exec.{opening, ready, eff}
 use Rattle.remus.specs.Run.{Ran, and_then, commands, step_of, run_of}
 use Rattle.remus.specs.Steady.{Fits, Through, Steady}
 use Rattle.machine.specs.Clauses.{Workable, stepping, Knowing, Left, Declared, Opened}
-use Rattle.answer.specs.declared.Ruling.{Ruling}
-use Rattle.answer.specs.declared.Ruling.TheVariants.{Fine}
+use Rattle.answer.specs.Answer.{Ruling}
 use Rattle.machine.proofs.WordsFit.{keeps_wired}
 use Rattle.machine.proofs.Running.{wired_reactor, ready_there}
 
@@ -95,16 +94,16 @@ module _ (p rd : List ℕ) (f h o : ℕ) where
         )
 
   -- as the code leaves it, q and m₂ the end and the words
-  pub opened : (m₀ m : List ℕ) → 0 < commands_r p (reactor m₀ o) → (q : Ruling) (m₂ : List ℕ) → q ≡ Fine → m₂ ≡ with_wired
+  pub opened : (m₀ m : List ℕ) → 0 < commands_r p (reactor m₀ o) → (q : Ruling) (m₂ : List ℕ) → q ≡ Ok tt → m₂ ≡ with_wired
       m o 1
-      → Declared p rd f h o m₀ Fine m → Opened p rd f h o m₀ q m₂
+      → Declared p rd f h o m₀ (Ok tt) m → Opened p rd f h o m₀ q m₂
   opened m₀ m some q m₂ e k l =
       let n : commands_r p (reactor m₀ o) ≡ suc (commands_r p (reactor m₀ o) - 1) = omega arith in
       let g = wires _ _ (commands_r p (reactor m₀ o) - 1) m (left_at n refl l) in
       rw (e, k) (left_at (sym n) refl g.0, g.1)
 
   -- the same from the words m on
-  pub starts : (m₀ m : List ℕ) → 0 < commands_r p (reactor m₀ o) → Opened p rd f h o m₀ Fine m
+  pub starts : (m₀ m : List ℕ) → 0 < commands_r p (reactor m₀ o) → Opened p rd f h o m₀ (Ok tt) m
       → (reactor m o ≡ reactor m₀ o)
       × Left p rd f h o (commands (stepping p rd f h o) (commands_r p (reactor m o)) (commands_d p (reactor m o)) m)
       (reactor m o)

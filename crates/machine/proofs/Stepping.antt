@@ -1,6 +1,6 @@
 -- R commands, one after the other, and the table of places beside them.
 -- Assumes nothing.
-use Rattle.std.specs.Prelude.{ℕ, zero, suc, ◌+◌, ◌-◌, ◌*◌, ◌≤◌, ◌<◌, ◌≡◌, refl, Bool, true}
+use Rattle.std.specs.Prelude.{ℕ, zero, suc, ◌+◌, ◌-◌, ◌*◌, ◌≤◌, ◌<◌, ◌≡◌, refl, Bool, true, Ok, Err}
 use Rattle.std.proofs.Common.{sym, ◌∙◌, ap, ⊎_elim}
 use Rattle.std.specs.Prelude.{false, List, length, set}
 use Rattle.std.proofs.Common.{arith}
@@ -17,7 +17,6 @@ use Rattle.image.specs.Memory.{reactor, with_wired}
 use Rattle.remus.specs.Exec.{Eff, move, call, fail, exec, allocated, branched, chosen, operated, ready, eff}
 use Rattle.remus.specs.Run.{Ran, ran, stopped, entered, run_of}
 use Rattle.remus.specs.Steady.{Fits, Steady}
-use Rattle.answer.specs.declared.Ruling.TheVariants.{Fine, Against}
 use Rattle.machine.specs.declared.Outcome.{Outcome}
 use Rattle.machine.specs.declared.Outcome.TheVariants.{Given, Move, Call, Fail}
 use Rattle.machine.specs.Clauses.{did, doing, ran_as, Workable, stepping, Knowing, Left, PlacedTo}
@@ -179,7 +178,7 @@ module _ (p rd : List ℕ) (f h o : ℕ) (x : Ran) (r : ℕ) (m : List ℕ) (j :
         on_call = (knowing.calls m₁ d has_called, workable_opened p rd h m o i d m₁ l.workable has_called)
 
         -- the nested run comes to its end, or stops
-        pub after_call : (m₂ : List ℕ) → ran_as Fine m₂ ≡ run_of f p rd (h + 1) m₁ d
+        pub after_call : (m₂ : List ℕ) → ran_as (Ok tt) m₂ ≡ run_of f p rd (h + 1) m₁ d
             → Left p rd f h o x r rest (commands_d p r + (j + 1)) m₂ × (results p r (j + 1) ≡ results p r j)
         unfolding entered ran_as pick
         after_call m₂ z = (
@@ -188,7 +187,7 @@ module _ (p rd : List ℕ) (f h o : ℕ) (x : Ran) (r : ℕ) (m : List ℕ) (j :
               (calls_none p rd h m o i m₁ d c calling) ∙ (omega arith),
         )
 
-        pub stops_call : (w : Refusal) (m₂ : List ℕ) → ran_as (Against w) m₂ ≡ run_of f p rd (h + 1) m₁ d
+        pub stops_call : (w : Refusal) (m₂ : List ℕ) → ran_as (Err w) m₂ ≡ run_of f p rd (h + 1) m₁ d
             → x ≡ stopped w m₂
         unfolding entered ran_as
         stops_call w m₂ z = breaks_off p rd f h o x r rest i m more w m₂ (stepped _ calling ∙ sym z)

@@ -1,21 +1,19 @@
 -- The turn's own steps: how main's run ended, and what the questions say of what is brought.
 -- Assumes nothing.
-use Rattle.std.specs.Prelude.{ℕ, ◌*◌, ◌≤◌, ◌<◌, ◌≡◌, refl, List, length}
+use Rattle.std.specs.Prelude.{ℕ, ◌*◌, ◌≤◌, ◌<◌, ◌≡◌, refl, List, length, Ok, Err}
 use Rattle.std.proofs.Common.{sym, ap, subst, arith}
 use Rattle.program.specs.Bytes.{main_of}
 use Rattle.program.specs.Location.{sink_count}
 use Rattle.answer.specs.declared.Refusal.{Refusal}
 use Rattle.image.specs.Memory.{most_turns, main_at, used, turns}
 use Rattle.remus.specs.Run.{ran, stopped, run_of, main_run}
-use Rattle.image.specs.declared.Judged.{Judged}
-use Rattle.image.specs.declared.Judged.TheVariants.{Sound, Unsound}
+use Rattle.image.specs.Passes.{Judged}
 use Rattle.remus.specs.Turn.{asked_of, by_asked, by_sound}
-use Rattle.answer.specs.declared.Ruling.{Ruling}
-use Rattle.answer.specs.declared.Ruling.TheVariants.{Fine, Against}
+use Rattle.answer.specs.Answer.{Ruling}
 use Rattle.remus.specs.Claim.{Fit}
 use Rattle.remus.proofs.Fits.{fits}
 use Rattle.remus.specs.Undo.{undo_of}
-use Rattle.answer.specs.declared.Answer.{Answer}
+use Rattle.answer.specs.Answer.{Answer}
 use Rattle.machine.specs.Clauses.{Workable, ran_as, turned, ready_of, Safe}
 use Rattle.machine.proofs.WordsFit.{run_keeps, Worked}
 
@@ -25,15 +23,15 @@ pub workable : {p rd m : List ℕ} → Safe p rd m → turns m < most_turns → 
 workable s h = record { few = s.few; past = s.past; clock = omega arith }
 
 module _ (p rd m m' : List ℕ) where
-  pub run_whole : ran_as Fine m' ≡ run_of 64 p rd 1 m main_at → main_run p rd m ≡ ran m'
+  pub run_whole : ran_as (Ok tt) m' ≡ run_of 64 p rd 1 m main_at → main_run p rd m ≡ ran m'
   unfolding ran_as main_run
   run_whole e = sym e
 
-  pub run_stopped : (w : Refusal) → ran_as (Against w) m' ≡ run_of 64 p rd 1 m main_at → main_run p rd m ≡ stopped w m'
+  pub run_stopped : (w : Refusal) → ran_as (Err w) m' ≡ run_of 64 p rd 1 m main_at → main_run p rd m ≡ stopped w m'
   unfolding ran_as main_run
   run_stopped w e = sym e
 
-  pub clock_after : Workable m → ran_as Fine m' ≡ run_of 64 p rd 1 m main_at → turns m' < 4294967295
+  pub clock_after : Workable m → ran_as (Ok tt) m' ≡ run_of 64 p rd 1 m main_at → turns m' < 4294967295
   unfolding ran_as
   clock_after w e = (subst Worked (sym e) (run_keeps p rd 64 1 m main_at w)).clock
 
@@ -45,7 +43,7 @@ undone p m m' u e h = rw e h
 
 -- ---- what is brought
 
-module _ (p m rd sk : List ℕ) (e : asked_of p m rd sk ≡ Fine) where
+module _ (p m rd sk : List ℕ) (e : asked_of p m rd sk ≡ Ok tt) where
   fit : Fit p m (record { readings = rd; sink_space = sk })
   fit = (fits p m _).1 e
 
@@ -58,12 +56,12 @@ module _ (p m rd sk : List ℕ) (e : asked_of p m rd sk ≡ Fine) where
 -- ---- 9, and 10 to 13
 
 module _ (p m rd sk : List ℕ) where
-  pub ready_fine : (j : Judged) → ready_of p m rd sk j ≡ Fine → (j ≡ Sound) × (asked_of p m rd sk ≡ Fine)
+  pub ready_fine : (j : Judged) → ready_of p m rd sk j ≡ Ok tt → (j ≡ Ok tt) × (asked_of p m rd sk ≡ Ok tt)
   unfolding ready_of
-  ready_fine Sound e = (refl, e)
-  ready_fine (Unsound q) e = let z : ◌≡◌ {A = ℕ} 0 1 = cc in absurd (omega arith)
+  ready_fine (Ok tt) e = (refl, e)
+  ready_fine (Err q) e = let z : ◌≡◌ {A = ℕ} 0 1 = cc in absurd (omega arith)
 
   pub by_ready : (j : Judged) (r : Ruling) → ready_of p m rd sk j ≡ r → by_sound p m rd sk j ≡ by_asked p m rd sk r
   unfolding ready_of by_sound by_asked
-  by_ready Sound r e = ap (by_asked p m rd sk) e
-  by_ready (Unsound q) r e = ap (by_asked p m rd sk) e
+  by_ready (Ok tt) r e = ap (by_asked p m rd sk) e
+  by_ready (Err q) r e = ap (by_asked p m rd sk) e

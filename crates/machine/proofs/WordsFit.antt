@@ -1,6 +1,6 @@
 -- Each command, and so each run, leaves words on which u and the time fit a word.
 -- Assumes nothing.
-use Rattle.std.specs.Prelude.{ℕ, zero, suc, ◌+◌, ◌≤◌, ◌<◌, ◌≡◌, Bool, true, false, List, [], ◌∷◌}
+use Rattle.std.specs.Prelude.{ℕ, zero, suc, ◌+◌, ◌≤◌, ◌<◌, ◌≡◌, Bool, true, false, List, [], ◌∷◌, Ok}
 use Rattle.std.proofs.Common.{sym, subst, ⊎_elim}
 use Rattle.std.specs.Prelude.{length, set}
 use Rattle.std.proofs.Common.{arith}
@@ -16,7 +16,6 @@ use Rattle.remus.specs.Exec.{Eff, move, call, fail, exec, allocated, branched, c
 use Rattle.remus.specs.Exec.{ready, eff}
 use Rattle.remus.specs.Run.{Ran, ran, stopped, and_then, entered, commands, step_of, run_of}
 use Rattle.remus.proofs.Undo.Back.{word_set, word_unset}
-use Rattle.answer.specs.declared.Ruling.TheVariants.{Fine}
 use Rattle.machine.specs.Clauses.{Workable, ran_as}
 
 -- ---- words
@@ -179,7 +178,7 @@ module _ (p rd : List ℕ) where
       w₁) _ _ m w
 
   -- the words after a command of a run
-  pub workable_after : (f k h o i : ℕ) (m m₁ : List ℕ) → Workable m → ran_as Fine m₁ ≡ step_of (run_of f p rd k) p rd h o
+  pub workable_after : (f k h o i : ℕ) (m m₁ : List ℕ) → Workable m → ran_as (Ok tt) m₁ ≡ step_of (run_of f p rd k) p rd h o
       i m → Workable m₁
   unfolding ran_as
   workable_after f k h o i m m₁ w e = subst Worked (sym e) (step_keeps (run_of f p rd k) (run_keeps f k) h o i m w)

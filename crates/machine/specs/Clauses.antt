@@ -11,8 +11,8 @@ use Rattle.remus.specs.Run.{Ran, ran, stopped, entered, commands, step_of, run_o
 use Rattle.remus.specs.Cells.{keep_one, keep_of}
 use Rattle.remus.specs.Clear.{clear_one}
 use Rattle.remus.specs.Undo.{one_back, undo_of}
-use Rattle.answer.specs.declared.Ruling.{Ruling}
-use Rattle.answer.specs.declared.Ruling.TheVariants.{Fine, Against}
+use Rattle.answer.specs.Answer.{Ruling}
+use Rattle.std.specs.Prelude.{Ok, Err}
 use Rattle.machine.specs.declared.Outcome.{Outcome}
 use Rattle.machine.specs.declared.Outcome.TheVariants.{Given, Move, Call, Fail}
 use Rattle.machine.specs.declared.Each.{Each}
@@ -23,12 +23,11 @@ use Rattle.remus.specs.Steady.{Through, Orderly, Steady}
 use Rattle.answer.specs.declared.Refusal.{Refusal}
 use Rattle.answer.specs.declared.Refusal.TheVariants.{UnsoundImage}
 use Rattle.image.specs.Passes.{sound_of}
-use Rattle.image.specs.declared.Judged.{Judged}
-use Rattle.image.specs.declared.Judged.TheVariants.{Sound, Unsound}
+use Rattle.image.specs.Passes.{Judged}
 use Rattle.image.specs.Clauses.{Tiling}
 use Rattle.remus.specs.Turn.{Turn, asked_of}
 use Rattle.remus.specs.Preview.{Preview}
-use Rattle.answer.specs.declared.Answer.{Answer}
+use Rattle.answer.specs.Answer.{Answer}
 
 -- a command's outcome, and the words then
 pub data Acted : Type 0 where
@@ -60,8 +59,8 @@ pub record Stands (m : List ℕ) (o : ℕ) : Type 0 where
 
 -- a run's end with the words then
 unfoldable pub ran_as : Ruling → List ℕ → Ran
-ran_as Fine m = ran m
-ran_as (Against w) m = stopped w m
+ran_as (Ok tt) m = ran m
+ran_as (Err w) m = stopped w m
 
 -- a D command's end and the words m' are what command c does, whatever the readings, and whatever a nested run would do
 abbrev pub Declares : List ℕ → ℕ → List ℕ → ℕ → ℕ → Cmd → Ruling → List ℕ → Type 0
@@ -179,14 +178,14 @@ module _ (p rd : List ℕ) (f h o : ℕ) where
 
   -- D has been carried out, or the run has stopped there
   abbrev pub Declared : List ℕ → Ruling → List ℕ → Type 0
-  Declared m₀ Fine m =
+  Declared m₀ (Ok tt) m =
       Left (run_of (suc f) p rd h m₀ o) (reactor m₀ o) (commands_r p (reactor m₀ o)) (commands_d p (reactor m₀ o)) m
-  Declared m₀ (Against w) m = run_of (suc f) p rd h m₀ o ≡ stopped w m
+  Declared m₀ (Err w) m = run_of (suc f) p rd h m₀ o ≡ stopped w m
 
   -- and the deployment is wired
   abbrev pub Opened : List ℕ → Ruling → List ℕ → Type 0
-  Opened m₀ Fine m = Declared m₀ Fine m × (with_wired m o 1 ≡ m)
-  Opened m₀ (Against w) m = Declared m₀ (Against w) m
+  Opened m₀ (Ok tt) m = Declared m₀ (Ok tt) m × (with_wired m o 1 ≡ m)
+  Opened m₀ (Err w) m = Declared m₀ (Err w) m
 
 -- ---- the whole turn
 
@@ -196,8 +195,8 @@ turned r m sk = record { answer = r; memory = m; sink_space = sk }
 
 -- what is against a turn on an image so judged: 9, or 10 to 13
 unfoldable pub ready_of : List ℕ → List ℕ → List ℕ → List ℕ → Judged → Ruling
-ready_of p m rd sk Sound = asked_of p m rd sk
-ready_of p m rd sk (Unsound q) = Against (UnsoundImage q)
+ready_of p m rd sk (Ok tt) = asked_of p m rd sk
+ready_of p m rd sk (Err q) = Err (UnsoundImage q)
 
 -- a preview's answer with the words then
 unfoldable pub previewed : Answer → List ℕ → List ℕ → Preview
@@ -217,7 +216,7 @@ pub record Ending (p m : List ℕ) : Type 0 where
 pub record Safe (p rd m : List ℕ) : Type 0 where
   pub few : length m ≤ most_words
   pub past : main_at ≤ used m
-  pub steady : (sk : List ℕ) → asked_of p m rd sk ≡ Fine → Steady p rd most_depth 1 m main_at
+  pub steady : (sk : List ℕ) → asked_of p m rd sk ≡ Ok tt → Steady p rd most_depth 1 m main_at
   pub ends : (m' : List ℕ) → main_run p rd m ≡ ran m' → Ending p m'
   pub stops : (w : Refusal) (m' : List ℕ) → main_run p rd m ≡ stopped w m' → Tiling p m' (used m) main_at
   pub undoes : (w : Refusal) (m' : List ℕ) → main_run p rd m ≡ stopped w m' → undo_of p (used m) m' ≡ m
@@ -226,4 +225,4 @@ pub record Safe (p rd m : List ℕ) : Type 0 where
 -- the readings
 pub record Sure (p t : List ℕ) : Type 0 where
   pub loaded : Loaded p t
-  pub safe : (m rd : List ℕ) → length m ≤ most_words → sound_of p m ≡ Sound → Safe p rd m
+  pub safe : (m rd : List ℕ) → length m ≤ most_words → sound_of p m ≡ Ok tt → Safe p rd m

@@ -14,7 +14,7 @@ ghost use Rattle.machine.specs.Clauses.{did, acted, Acts, Declares, Here, Stands
 
 use crate::Outcome;
 use crate::command::give;
-use answer::{Refusal, Ruling};
+use answer::Refusal;
 use image::{MOST_DEPTH, next, pair_within, put, put_pair, reactor, set_used, used, word};
 use program::{fact, reactors};
 use value::Value;
@@ -42,7 +42,7 @@ fn place_new(memory: &mut [u32], r: u32, old: u32, size: u32)
 }
 
 // 1 AllocMono: a new deployment of reactor x.
-pub(crate) fn alloc_mono(facts: &[u64; 64], memory: &mut [u32], h: u8, here: usize, x: u8) -> Ruling
+pub(crate) fn alloc_mono(facts: &[u64; 64], memory: &mut [u32], h: u8, here: usize, x: u8) -> Result<(), Refusal>
     requires here_bound { here < 8589934592 }
     requires memory_len_bound { length memory.old ≤ M.most_words }
     ensures { let m = memory.old in
@@ -50,11 +50,11 @@ pub(crate) fn alloc_mono(facts: &[u64; 64], memory: &mut [u32], h: u8, here: usi
         → Stands m o → Here p m o i here → Declares p h m o i (C.alloc_mono x) result memory.new) }
 {
     if MOST_DEPTH <= h {
-        return Ruling::Against(Refusal::TooDeep(x as usize));
+        return Err(Refusal::TooDeep(x as usize));
     }
     let size = fact(facts, x as u32).size();
     if !room(memory, size) {
-        return Ruling::Against(Refusal::NoRoom(x as usize));
+        return Err(Refusal::NoRoom(x as usize));
     }
     let u = used(memory);
     place_new(memory, x as u32, 0, size);
@@ -66,7 +66,7 @@ pub(crate) fn alloc_mono(facts: &[u64; 64], memory: &mut [u32], h: u8, here: usi
             content: u,
         },
     );
-    Ruling::Fine
+    Ok(())
 }
 
 // The deployment of reactor q on the chain from `head`; 0 if there is none.

@@ -5,7 +5,7 @@ ghost use Rattle.program.specs.Kind as K;
 ghost use Rattle.remus.specs.Turn as T;
 
 use crate::command::reading_at;
-use answer::{Refusal, Ruling};
+use answer::Refusal;
 use image::{MOST_TURNS, turns};
 use program::{global_kind, globals, legal, main_of, sink_count};
 
@@ -35,25 +35,25 @@ fn bad_reading(program: &[u8], readings: &[u32]) -> u8
 }
 
 // The first question that is not answered well.
-pub(crate) fn asked(program: &[u8], memory: &[u32], readings: &[u32], space: &[u32]) -> Ruling
+pub(crate) fn asked(program: &[u8], memory: &[u32], readings: &[u32], space: &[u32]) -> Result<(), Refusal>
     ensures { let p = program.now in let m = memory.now in let rd = readings.now in
         let sk = space.now in
         result ≡ T.asked_of p m rd sk }
 {
     let g = globals(program);
     if readings.len() != 2 * (g as usize) {
-        return Ruling::Against(Refusal::ReadingsLength(readings.len()));
+        return Err(Refusal::ReadingsLength(readings.len()));
     }
     let k = bad_reading(program, readings);
     if k != g {
-        return Ruling::Against(Refusal::Reading(k as usize));
+        return Err(Refusal::Reading(k as usize));
     }
     let need = 2 * (sink_count(program, main_of(program) as u32) as usize);
     if space.len() < need {
-        return Ruling::Against(Refusal::SinkSpace(need));
+        return Err(Refusal::SinkSpace(need));
     }
     if MOST_TURNS <= turns(memory) {
-        return Ruling::Against(Refusal::Clock);
+        return Err(Refusal::Clock);
     }
-    Ruling::Fine
+    Ok(())
 }

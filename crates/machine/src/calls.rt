@@ -1,6 +1,6 @@
 // 4.7, 4.23 A turn, and a preview. A turn runs in place; where it is refused, the words before it are brought back.
 // A preview's turn runs in the work memory, on a copy.
-ghost use Rattle.std.specs.Prelude.{◌*◌, ◌≤◌, ◌<◌, ◌≡◌, length};
+ghost use Rattle.std.specs.Prelude.{◌*◌, ◌≤◌, ◌<◌, ◌≡◌, length, Ok, Err};
 ghost use Rattle.program.specs.Bytes as B;
 ghost use Rattle.program.specs.Location as L;
 ghost use Rattle.program.specs.Clauses.{Facts};
@@ -14,15 +14,14 @@ ghost use Rattle.remus.specs.Steady.{Steady};
 ghost use Rattle.remus.specs.Undo as U;
 ghost use Rattle.remus.specs.Turn as T;
 ghost use Rattle.remus.specs.Preview.{preview_by, preview_of};
-ghost use Rattle.answer.specs.declared.Answer.TheVariants.{Done, Refused};
 ghost use Rattle.machine.specs.Clauses.{turned, previewed, ready_of, Ending, Safe, Sure, Loaded, TimeFits};
 
 use crate::asked::asked;
 use crate::finish::{finish, write_sinks};
 use crate::run::run;
 use crate::undo::undo;
-use answer::{Answer, Refusal, Ruling};
-use image::{Judged, MAIN_AT, sound_by, used, words_legal};
+use answer::{Answer, Refusal};
+use image::{MAIN_AT, sound_by, used, words_legal};
 use load::judge;
 
 // Main has run to its end.
@@ -33,23 +32,23 @@ fn complete(program: &[u8], facts: &[u64; 64], memory: &mut [u32], space: &mut [
     requires program_in_bounds { 2 * L.sink_count program.now (B.main_of program.now) ≤ length space.old }
     ensures { let p = program.now in let m = memory.old in let sk = space.old in
         turned result memory.new space.new
-        ≡ turned (Done (M.used m)) (E.finished p m) (E.sunk p m sk) }
+        ≡ turned (Ok (M.used m)) (E.finished p m) (E.sunk p m sk) }
 {
     let u = used(memory);
     write_sinks(program, facts, memory, space);
     finish(program, facts, memory);
-    Answer::Done(u as usize)
+    Ok(u as usize)
 }
 
 // Main's run was refused; u is that of before.
 fn give_back(program: &[u8], facts: &[u64; 64], memory: &mut [u32], u: u32, w: Refusal) -> Answer
     requires loaded { Loaded program.now facts.now }
     requires tiling { Tiling program.now memory.old u M.main_at }
-    ensures is { result ≡ Refused w }
+    ensures is { result ≡ Err w }
     ensures words { memory.new ≡ U.undo_of program.now u memory.old }
 {
     undo(program, facts, memory, u);
-    Answer::Refused(w)
+    Err(w)
 }
 
 // Runs main, from depth 1.
@@ -72,8 +71,8 @@ fn run_main(
     let u = used(memory);
     let mut slots = [0u8; 256];
     match run(program, facts, readings, memory, &mut slots, 1, MAIN_AT) {
-        Ruling::Fine => complete(program, facts, memory, space),
-        Ruling::Against(w) => give_back(program, facts, memory, u, w),
+        Ok(()) => complete(program, facts, memory, space),
+        Err(w) => give_back(program, facts, memory, u, w),
     }
 }
 
@@ -84,16 +83,14 @@ fn ready(
     memory: &[u32],
     readings: &[u32],
     space: &[u32],
-) -> Ruling
+) -> Result<(), Refusal>
     requires { Facts program.now facts.now }
     ensures { let p = program.now in let m = memory.now in let rd = readings.now in
         let sk = space.now in
         result ≡ ready_of p m rd sk (sound_of p m) }
 {
-    match sound_by(program, facts, memory) {
-        Judged::Sound => asked(program, memory, readings, space),
-        Judged::Unsound(q) => Ruling::Against(Refusal::UnsoundImage(q)),
-    }
+    sound_by(program, facts, memory).map_err(Refusal::UnsoundImage)?;
+    asked(program, memory, readings, space)
 }
 
 // A turn of an accepted program: 8 and what follows.
@@ -111,12 +108,10 @@ fn turn_accepted(
 {
     let n = memory.len();
     if !words_legal(n) {
-        return Answer::Refused(Refusal::MemoryLength(n));
+        return Err(Refusal::MemoryLength(n));
     }
-    match ready(program, facts, memory, readings, space) {
-        Ruling::Fine => run_main(program, facts, memory, readings, space),
-        Ruling::Against(w) => Answer::Refused(w),
-    }
+    ready(program, facts, memory, readings, space)?;
+    run_main(program, facts, memory, readings, space)
 }
 
 // A turn on any bytes and words: done, with u, or refused; then memory and sink space are as at entry.
@@ -126,10 +121,8 @@ pub fn turn(program: &[u8], memory: &mut [u32], readings: &[u32], sinks: &mut [u
         turned result memory.new sinks.new ≡ T.turn_of p m rd sk }
 {
     let mut facts = [0u64; 64];
-    match judge(program, &mut facts) {
-        Ruling::Fine => turn_accepted(program, &facts, memory, readings, sinks),
-        Ruling::Against(w) => Answer::Refused(w),
-    }
+    judge(program, &mut facts)?;
+    turn_accepted(program, &facts, memory, readings, sinks)
 }
 
 // The words of `from` into `to`, which is as long.
@@ -162,19 +155,15 @@ fn preview_accepted(
 {
     let n = memory.len();
     if !words_legal(n) {
-        return Answer::Refused(Refusal::MemoryLength(n));
+        return Err(Refusal::MemoryLength(n));
     }
     let k = work.len();
     if k != n {
-        return Answer::Refused(Refusal::WorkLength(k));
+        return Err(Refusal::WorkLength(k));
     }
-    match ready(program, facts, memory, readings, space) {
-        Ruling::Fine => {
-            copy_words(memory, work);
-            run_main(program, facts, work, readings, space)
-        }
-        Ruling::Against(w) => Answer::Refused(w),
-    }
+    ready(program, facts, memory, readings, space)?;
+    copy_words(memory, work);
+    run_main(program, facts, work, readings, space)
 }
 
 // 4.23 A preview on any bytes and words: the turn's answer and sinks, and in the work memory what the turn would leave.
@@ -190,8 +179,6 @@ pub fn preview(
         previewed result work.new sinks.new ≡ preview_of p m wk rd sk }
 {
     let mut facts = [0u64; 64];
-    match judge(program, &mut facts) {
-        Ruling::Fine => preview_accepted(program, &facts, memory, work, readings, sinks),
-        Ruling::Against(w) => Answer::Refused(w),
-    }
+    judge(program, &mut facts)?;
+    preview_accepted(program, &facts, memory, work, readings, sinks)
 }

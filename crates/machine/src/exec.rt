@@ -13,13 +13,13 @@ use crate::allocate::{alloc_mono, alloc_poly};
 use crate::cells::{fetch, keep};
 use crate::command::{constant, consume, global, of_kind, primitive, react, sink, supply};
 use crate::places::slot_index;
-use answer::Ruling;
+use answer::Refusal;
 use image::put_pair;
 use program::{Command, bytes_within};
 use value::Value;
 
 // 2 MakePoly: an empty branch point.
-fn make_poly(memory: &mut [u32], here: usize) -> Ruling
+fn make_poly(memory: &mut [u32], here: usize) -> Result<(), Refusal>
     requires { here < 8589934592 }
     ensures { let m = memory.old in
         ((p : List ℕ) (h o i x : ℕ) → Here p m o i here
@@ -33,11 +33,11 @@ fn make_poly(memory: &mut [u32], here: usize) -> Ruling
             content: 0,
         },
     );
-    Ruling::Fine
+    Ok(())
 }
 
 // 11 Cell: its first content, v of kind x.
-fn cell(memory: &mut [u32], here: usize, x: u8, v: u32) -> Ruling
+fn cell(memory: &mut [u32], here: usize, x: u8, v: u32) -> Result<(), Refusal>
     requires { here < 8589934592 }
     ensures { let m = memory.old in
         ((p : List ℕ) (h o i : ℕ) → Here p m o i here
@@ -45,7 +45,7 @@ fn cell(memory: &mut [u32], here: usize, x: u8, v: u32) -> Ruling
 {
     let first = of_kind(x, v);
     put_pair(memory, here, first);
-    Ruling::Fine
+    Ok(())
 }
 
 // Carries out the D command c, whose words lie at `here`.
@@ -55,7 +55,7 @@ pub(crate) fn declare(
     h: u8,
     here: usize,
     c: Command,
-) -> Ruling
+) -> Result<(), Refusal>
     requires here_bound { here < 8589934592 }
     requires memory_len_bound { length memory.old ≤ M.most_words }
     ensures { let m = memory.old in
@@ -68,7 +68,7 @@ pub(crate) fn declare(
         Command::ALLOC_MONO => alloc_mono(facts, memory, h, here, c.x),
         Command::MAKE_POLY => make_poly(memory, here),
         Command::CELL => cell(memory, here, c.x, c.v()),
-        _ => Ruling::Fine,
+        _ => Ok(()),
     }
 }
 

@@ -24,7 +24,7 @@ mod places;
 mod run;
 mod undo;
 
-pub use answer::{Answer, Refusal};
+pub use answer::{Answer, Refusal, number, place};
 pub use calls::{preview, turn};
 pub use image::start;
 pub use load::check;

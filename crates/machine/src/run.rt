@@ -1,18 +1,17 @@
 // 6.3 to 6.6 The run of a deployment. One that is not wired carries out D first; at a React a nested one
 // runs whole. The run calls itself for the nested one, and 64 less the depth falls.
-ghost use Rattle.std.specs.Prelude.{ℕ, suc, ◌+◌, ◌-◌, ◌<◌, ◌≡◌, List, length};
+ghost use Rattle.std.specs.Prelude.{ℕ, suc, ◌+◌, ◌-◌, ◌<◌, ◌≡◌, List, length, Ok};
 ghost use Rattle.program.specs.Bytes as B;
 ghost use Rattle.program.specs.Clauses.{Tells};
 ghost use Rattle.image.specs.Memory as M;
 ghost use Rattle.remus.specs.Run as R;
 ghost use Rattle.remus.specs.Steady.{Steady};
 ghost use Rattle.machine.specs.Clauses.{ran_as, Workable, Declared, Opened, Loaded};
-ghost use Rattle.answer.specs.declared.Ruling.TheVariants.{Fine};
 
 use crate::Outcome;
 use crate::exec::{declare, exec};
 use crate::places::{after, lay, note};
-use answer::Ruling;
+use answer::Refusal;
 use image::{reactor, set_wired, wired};
 use program::{Counts, bytes_within, fact};
 
@@ -24,7 +23,7 @@ fn wire(
     counts: Counts,
     h: u8,
     o: u32,
-) -> Ruling
+) -> Result<(), Refusal>
     requires loaded { Loaded program.now facts.now }
     requires o_bound { M.reactor memory.old o < B.reactors program.now }
     requires tells { Tells program.now (M.reactor memory.old o) counts.word }
@@ -41,21 +40,18 @@ fn wire(
         let k = j as usize;
         j += 1;
         let c = bytes_within(program, at + 8 * k);
-        match declare(facts, memory, h, first + 2 * k, c) {
-            Ruling::Fine => {}
-            Ruling::Against(w) => return Ruling::Against(w),
-        }
+        declare(facts, memory, h, first + 2 * k, c)?;
     }
-    Ruling::Fine
+    Ok(())
 }
 
 // D has ended: the deployment is wired.
-fn make_wired(memory: &mut [u32], o: u32) -> Ruling
-    ensures is { result ≡ Fine }
+fn make_wired(memory: &mut [u32], o: u32) -> Result<(), Refusal>
+    ensures is { result ≡ (Ok tt) }
     ensures words { memory.new ≡ M.with_wired memory.old o 1 }
 {
     set_wired(memory, o, 1);
-    Ruling::Fine
+    Ok(())
 }
 
 // Carries them out where that is still to be done.
@@ -66,7 +62,7 @@ fn enter(
     counts: Counts,
     h: u8,
     o: u32,
-) -> Ruling
+) -> Result<(), Refusal>
     requires loaded { Loaded program.now facts.now }
     requires o_bound { M.reactor memory.old o < B.reactors program.now }
     requires tells { Tells program.now (M.reactor memory.old o) counts.word }
@@ -75,12 +71,12 @@ fn enter(
         ((rd : List ℕ) (f : ℕ) → Steady p rd (suc f) h m o → Opened p rd f h o m result memory.new) }
 {
     if wired(memory, o) != 0 {
-        return make_wired(memory, o);
+        set_wired(memory, o, 1);
+        return Ok(());
     }
-    match wire(program, facts, memory, counts, h, o) {
-        Ruling::Fine => make_wired(memory, o),
-        Ruling::Against(w) => Ruling::Against(w),
-    }
+    wire(program, facts, memory, counts, h, o)?;
+    set_wired(memory, o, 1);
+    Ok(())
 }
 
 // Runs the deployment at o, which stands at depth h, to its end. The table of places is lent to each
@@ -93,7 +89,7 @@ pub(crate) fn run(
     slots: &mut [u8; 256],
     h: u8,
     o: u32,
-) -> Ruling
+) -> Result<(), Refusal>
     requires loaded { Loaded program.now facts.now }
     requires workable { Workable memory.old }
     requires steady { Steady program.now readings.now (65 - h) h memory.old o }
@@ -103,10 +99,7 @@ pub(crate) fn run(
         ran_as result memory.new ≡ R.run_of (65 - h) p rd h m o }
 {
     let counts = fact(facts, reactor(memory, o));
-    match enter(program, facts, memory, counts, h, o) {
-        Ruling::Fine => {}
-        Ruling::Against(w) => return Ruling::Against(w),
-    }
+    enter(program, facts, memory, counts, h, o)?;
     let first = counts.first() as u8;
     let at = counts.at() as usize + 8 * (counts.commands_d() as usize);
     let end = counts.commands_r();
@@ -121,12 +114,12 @@ pub(crate) fn run(
         match exec(program, facts, readings, memory, slots, h, o, here, i) {
             Outcome::Given => n += 1,
             Outcome::Move => {}
-            Outcome::Call(d) => match run(program, facts, readings, memory, slots, h + 1, d) {
-                Ruling::Fine => lay(program, slots, at, first, j),
-                Ruling::Against(w) => return Ruling::Against(w),
-            },
-            Outcome::Fail(w) => return Ruling::Against(w),
+            Outcome::Call(d) => {
+                run(program, facts, readings, memory, slots, h + 1, d)?;
+                lay(program, slots, at, first, j)
+            }
+            Outcome::Fail(w) => return Err(w),
         }
     }
-    Ruling::Fine
+    Ok(())
 }

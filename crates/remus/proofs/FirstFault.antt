@@ -1,12 +1,11 @@
 -- A turn is refused before its first step exactly for its first fault: `first_fault`, and with it `turn_numbers`.
-use Rattle.std.specs.Prelude.{ℕ, ◌≡◌, refl, ◌↔◌, ◌≢◌, false, List, length}
+use Rattle.std.specs.Prelude.{ℕ, ◌≡◌, refl, ◌↔◌, ◌≢◌, false, List, length, Ok, Err}
 use Rattle.std.proofs.Common.{sym, ◌∙◌, ap, subst, inl, inr, ⊎_elim}
 use Rattle.std.proofs.Common.{arith}
 use Rattle.value.proofs.Tests.{cases, same?, goes, stops, says×}
 use Rattle.load.specs.Check.{check_of, IsAccepted}
 use Rattle.answer.specs.Answer.{refusal_number, refusal_place, number_of}
-use Rattle.answer.specs.declared.Answer.{Answer}
-use Rattle.answer.specs.declared.Answer.TheVariants.{Done, Refused}
+use Rattle.answer.specs.Answer.{Answer}
 use Rattle.answer.specs.declared.Refusal.{Refusal}
 use Rattle.answer.specs.declared.Refusal.TheVariants.{MemoryLength, UnsoundImage, NoRoom, TooDeep}
 use Rattle.load.proofs.Exact.{exact}
@@ -15,8 +14,7 @@ use Rattle.load.proofs.Exact.Faults.{first_fault as check_fault, fault_given, fa
 use Rattle.answer.proofs.Refusals.{Told, told}
 use Rattle.image.specs.Sound.{SoundImage}
 use Rattle.image.specs.Passes.{sound_of}
-use Rattle.image.specs.declared.Judged.{Judged}
-use Rattle.image.specs.declared.Judged.TheVariants.{Sound, Unsound}
+use Rattle.image.specs.Passes.{Judged}
 use Rattle.image.specs.Fault.{FaultAt}
 use Rattle.image.specs.Start.{words_legal}
 use Rattle.image.specs.Starting.{Words}
@@ -24,8 +22,7 @@ use Rattle.image.proofs.Exact.{rules_soundness}
 use Rattle.image.proofs.Exact.Place.{exact_place}
 use Rattle.image.proofs.Starts.{words_legal_lem}
 use Rattle.remus.specs.Turn.{Turn, asked_of, turn_refused, by_asked, by_sound, by_check, turn_of}
-use Rattle.answer.specs.declared.Ruling.{Ruling}
-use Rattle.answer.specs.declared.Ruling.TheVariants.{Fine, Against}
+use Rattle.answer.specs.Answer.{Ruling}
 use Rattle.remus.specs.Walk.{Input}
 use Rattle.remus.specs.Claim.{Ends, completed, out_of_depth, no_room}
 use Rattle.remus.specs.Fault.{Fault, program, words, image, brought, FirstFault, TurnNumber, TurnNumbers}
@@ -42,7 +39,7 @@ module _ (p m rd sk : List ℕ) where
   abbrev Refuses : Refusal → Type 0
   Refuses v = turn_of p m rd sk ≡ turn_refused p m rd sk v
 
-  at_program : (v : Refusal) → check_of p ≡ Refused v → Refuses v
+  at_program : (v : Refusal) → check_of p ≡ Err v → Refuses v
   unfolding turn_of by_check
   at_program v e = rw e refl
 
@@ -51,21 +48,21 @@ module _ (p m rd sk : List ℕ) where
   at_words a e = rw (accepted_size p a) (sym (stops _ e refl))
 
   module _ (a : IsAccepted p) (l : Words m) where
-    at_image : (q : ℕ) → sound_of p m ≡ Unsound q → Refuses (UnsoundImage q)
+    at_image : (q : ℕ) → sound_of p m ≡ Err q → Refuses (UnsoundImage q)
     unfolding turn_of by_check by_sound
     at_image q e = rw (accepted_size p a) (sym (goes _ _ ((words_legal_lem _).1 l) (rw e refl)))
 
-    judged : (sound_of p m ≡ Sound) ↔ SoundImage p m
+    judged : (sound_of p m ≡ Ok tt) ↔ SoundImage p m
     judged = rules_soundness p ((exact p).0 a) m l.1
 
-    placed : (q : ℕ) → (sound_of p m ≡ Unsound q) ↔ FaultAt p m q
+    placed : (q : ℕ) → (sound_of p m ≡ Err q) ↔ FaultAt p m q
     placed = exact_place p ((exact p).0 a).tables.header.few_reactors m l.1
 
-    at_asked : SoundImage p m → (v : Refusal) → asked_of p m rd sk ≡ Against v → Refuses v
+    at_asked : SoundImage p m → (v : Refusal) → asked_of p m rd sk ≡ Err v → Refuses v
     unfolding by_asked
     at_asked s v e = turn_is p m t a l.1 s (judged.1 s) ∙ rw e refl
 
-  answers : (v : Refusal) → Refuses v → (turn_of p m rd sk).answer ≡ Refused v
+  answers : (v : Refusal) → Refuses v → (turn_of p m rd sk).answer ≡ Err v
   unfolding turn_refused
   answers v e = ap (λ (x : Turn). x.answer) e
 
@@ -81,11 +78,11 @@ module _ (p m rd sk : List ℕ) where
   abbrev FaultOf : Refusal → Type 0
   FaultOf w = Fault p m rd sk (refusal_number w) (refusal_place w)
 
-  back : (w : Refusal) → FaultOf w → (turn_of p m rd sk).answer ≡ Refused w
+  back : (w : Refusal) → FaultOf w → (turn_of p m rd sk).answer ≡ Err w
   back w f = answers w (told Refuses w (given f))
 
   module _ (w : Refusal) (not_14 : refusal_number w ≢ 14) (not_15 : refusal_number w ≢ 15)
-      (e : (turn_of p m rd sk).answer ≡ Refused w) where
+      (e : (turn_of p m rd sk).answer ≡ Err w) where
     -- the fault of v is the one
     same : (v : Refusal) → Refuses v → FaultOf v → FaultOf w
     same v q f = let a = answers v q in let z : v ≡ w = cc in subst FaultOf z f
@@ -98,17 +95,17 @@ module _ (p m rd sk : List ℕ) where
 
     module _ (a : IsAccepted p) (l : Words m) where
       by_asked_lem : SoundImage p m → (x : Ruling) → asked_of p m rd sk ≡ x → FaultOf w
-      by_asked_lem s Fine q =
+      by_asked_lem s (Ok tt) q =
           let c = demand_once p m t a l.1 s in no_end (c.ends (turn_of p m rd sk) ((fits p m t).1 q) c.result)
-      by_asked_lem s (Against v) q = same v (at_asked a l s v q) (brought a l s ((asking p m rd sk v).0 q))
+      by_asked_lem s (Err v) q = same v (at_asked a l s v q) (brought a l s ((asking p m rd sk v).0 q))
 
       by_image : (j : Judged) → sound_of p m ≡ j → FaultOf w
-      by_image Sound q = by_asked_lem ((judged a l).0 q) (asked_of p m rd sk) refl
-      by_image (Unsound k) q = same (UnsoundImage k) (at_image a l k q) (image a l ((placed a l k).0 q))
+      by_image (Ok tt) q = by_asked_lem ((judged a l).0 q) (asked_of p m rd sk) refl
+      by_image (Err k) q = same (UnsoundImage k) (at_image a l k q) (image a l ((placed a l k).0 q))
 
     by_check_lem : (c : Answer) → check_of p ≡ c → FaultOf w
-    by_check_lem (Refused v) q = same v (at_program v q) (program ((check_fault p v).0 q))
-    by_check_lem (Done size) q =
+    by_check_lem (Err v) q = same v (at_program v q) (program ((check_fault p v).0 q))
+    by_check_lem (Ok size) q =
         let a : IsAccepted p = rw q refl in
         cases (words_legal (length m)) (λ x. by_image a ((words_legal_lem _).0 x) (sound_of p m) refl)
         (λ x. same (MemoryLength (length m)) (at_words a x) (words a ((says× (words_legal_lem _)).0 x)))
@@ -130,7 +127,7 @@ fault_told (brought a l s f) = let b = asking_number f in inr (omega arith, omeg
 pub turn_numbers : TurnNumbers
 turn_numbers p m rd sk = by (turn_of p m rd sk).answer refl
   where
-    told : (w : Refusal) → (turn_of p m rd sk).answer ≡ Refused w → TurnNumber (refusal_number w)
+    told : (w : Refusal) → (turn_of p m rd sk).answer ≡ Err w → TurnNumber (refusal_number w)
     told w e =
         ⊎_elim (λ q. inr (omega arith, omega arith))
         (λ x.
@@ -139,5 +136,5 @@ turn_numbers p m rd sk = by (turn_of p m rd sk).answer refl
         (same? (refusal_number w) 14)
 
     by : (a : Answer) → (turn_of p m rd sk).answer ≡ a → TurnNumber (number_of (turn_of p m rd sk).answer)
-    by (Done u) e = rw e (inl (inl (omega arith)))
-    by (Refused w) e = rw e (told w e)
+    by (Ok u) e = rw e (inl (inl (omega arith)))
+    by (Err w) e = rw e (told w e)

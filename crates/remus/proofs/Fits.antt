@@ -1,6 +1,6 @@
 -- What a turn brings: 10 to 13 refuse it exactly for its first fault (`asking`), and not at all just where it is as it
 -- should be (`fits`).
-use Rattle.std.specs.Prelude.{ℕ, ◌+◌, ◌*◌, ◌<◌, ◌≡◌, refl, ◌↔◌, ◌≢◌, Bool, List, length}
+use Rattle.std.specs.Prelude.{ℕ, ◌+◌, ◌*◌, ◌<◌, ◌≡◌, refl, ◌↔◌, ◌≢◌, Bool, List, length, Ok, Err}
 use Rattle.std.proofs.Common.{sym, subst, inl, inr, arith}
 use Rattle.value.specs.Test.{◌<?◌, ◌=?◌}
 use Rattle.value.proofs.Tests.{cases, clash, lt!, lt×, lt?, lt×?, le!, le×, le?, eq!, eq×, eq?, goes, stops, guards}
@@ -16,8 +16,7 @@ use Rattle.answer.specs.declared.Refusal.{Refusal}
 use Rattle.answer.specs.declared.Refusal.TheVariants.{ReadingsLength, Reading, SinkSpace, Clock}
 use Rattle.answer.proofs.Refusals.{Told, told}
 use Rattle.remus.specs.Turn.{asked_of, bad_reading, reading_at}
-use Rattle.answer.specs.declared.Ruling.{Ruling}
-use Rattle.answer.specs.declared.Ruling.TheVariants.{Fine, Against}
+use Rattle.answer.specs.Answer.{Ruling}
 use Rattle.remus.specs.Fault.{LegalReading, LegalReadings, Asking, count, reading, space, clock}
 use Rattle.remus.specs.Walk.{Input}
 use Rattle.remus.specs.Claim.{Fit}
@@ -69,7 +68,7 @@ module _ (p rd : List ℕ) where
 
 -- ---- 10 to 13
 
-never : (v : Refusal) → Against v ≡ Fine → ⊥
+never : (v : Refusal) → Err v ≡ Ok tt → ⊥
 never v e = let z : ◌≡◌ {A = ℕ} 0 1 = cc in omega arith
 
 module _ (p m rd sk : List ℕ) where
@@ -77,13 +76,13 @@ module _ (p m rd sk : List ℕ) where
   AskingFor w = Asking p m rd sk (refusal_number w) (refusal_place w)
 
   -- the refusal w is the one found
-  as_asking : (v w : Refusal) → Against v ≡ Against w → AskingFor v → AskingFor w
+  as_asking : (v w : Refusal) → Err v ≡ Err w → AskingFor v → AskingFor w
   as_asking v w e f = let same : v ≡ w = cc in subst AskingFor same f
 
-  found_asking : (w : Refusal) → asked_of p m rd sk ≡ Against w → AskingFor w
+  found_asking : (w : Refusal) → asked_of p m rd sk ≡ Err w → AskingFor w
   unfolding asked_of
   found_asking w e =
-      let Is : Ruling → Type 0 = λ a. a ≡ Against w in
+      let Is : Ruling → Type 0 = λ a. a ≡ Err w in
       elim ((says_guard Is says_eq _ _).0 e) [
         | inl a ↦ as_asking _ w a.1 (count a.0)
         | inr a ↦ elim ((says_guard Is (readings_legal p rd) _ _).0 a.1) [
@@ -101,7 +100,7 @@ module _ (p m rd sk : List ℕ) where
       ]
 
   -- a refusal is given with the number and place of the fault
-  pub given_asking : {n q : ℕ} → Asking p m rd sk n q → Told (λ v. asked_of p m rd sk ≡ Against v) n q
+  pub given_asking : {n q : ℕ} → Asking p m rd sk n q → Told (λ v. asked_of p m rd sk ≡ Err v) n q
   unfolding asked_of
   given_asking (count h) = (ReadingsLength (length rd), sym (stops _ (eq× h) refl), refl, refl)
   given_asking (reading {k} a l h n) =
@@ -120,8 +119,8 @@ module _ (p m rd sk : List ℕ) where
     refl,
   )
 
-  pub asking : (w : Refusal) → (asked_of p m rd sk ≡ Against w) ↔ AskingFor w
-  asking w = (found_asking w, λ f. told (λ v. asked_of p m rd sk ≡ Against v) w (given_asking f))
+  pub asking : (w : Refusal) → (asked_of p m rd sk ≡ Err w) ↔ AskingFor w
+  asking w = (found_asking w, λ f. told (λ v. asked_of p m rd sk ≡ Err v) w (given_asking f))
 
 pub asking_number : {p m rd sk : List ℕ} {n q : ℕ} → Asking p m rd sk n q → Between 10 13 n
 asking_number (count h) = (omega arith, omega arith)
@@ -130,10 +129,10 @@ asking_number (space a h l) = (omega arith, omega arith)
 asking_number (clock a h c l) = (omega arith, omega arith)
 
 module _ (p w : List ℕ) (t : Input) where
-  pub fits : Fit p w t ↔ (asked_of p w t.readings t.sink_space ≡ Fine)
+  pub fits : Fit p w t ↔ (asked_of p w t.readings t.sink_space ≡ Ok tt)
   unfolding asked_of
   fits =
-      let P : Ruling → Type 0 = (λ a. a ≡ Fine) in (
+      let P : Ruling → Type 0 = (λ a. a ≡ Ok tt) in (
         λ h.
             (guards P _ _ _ (never _)).1 (
               eq! h.count,

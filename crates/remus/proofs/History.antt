@@ -1,6 +1,6 @@
 -- What cells hold over a list of turns: from what holds of each turn (`Lasting`) to what every Fetch reads (`history`).
 -- One turn leads a cell from its content to the next (`leads`).
-use Rattle.std.specs.Prelude.{ℕ, ◌≤◌, ◌<◌, ◌≡◌, refl, ◌⊎◌, List, [], ◌∷◌, length}
+use Rattle.std.specs.Prelude.{ℕ, ◌≤◌, ◌<◌, ◌≡◌, refl, ◌⊎◌, List, [], ◌∷◌, length, Ok, Err}
 use Rattle.std.proofs.Common.{sym, ◌∙◌, ap, subst, inl, inr}
 use Rattle.std.proofs.Common.{arith}
 use Rattle.value.specs.declared.Value.{Value}
@@ -17,8 +17,7 @@ use Rattle.remus.specs.Walk.{State, run, Input, Walked, left}
 use Rattle.remus.specs.Point.{◌∈◌}
 use Rattle.remus.specs.Claim.{CellIn, Begins, stands, fresh, Runs, Becomes, stays, Point, Leaves, AfterTurn}
 use Rattle.remus.specs.Claim.{TurnClaim, TurnOf, now, after as next_turn, Remembers, no_turn, and_then}
-use Rattle.answer.specs.declared.Answer.{Answer}
-use Rattle.answer.specs.declared.Answer.TheVariants.{Done, Refused}
+use Rattle.answer.specs.Answer.{Answer}
 use Rattle.remus.proofs.Once.{walked_once}
 use Rattle.remus.proofs.Walk.Top.{Onward, onward_self, onward_on}
 use Rattle.remus.proofs.Walk.Past.{begins_one, cell_moved}
@@ -90,7 +89,7 @@ module _ (p w : List ℕ) (t : Input) (h : Lasting p w t) (d l : ℕ) (f : Value
           n (subst (λ (z : List ℕ). Deployed p z d) (sym (leaves_words r.state r.leaves)) i)
 
       by : (a : Answer) → (result_of p w t).answer ≡ a → (Deployed p w' d) ⊎ (Deployed p w' d → ⊥) → Next x
-      by (Refused v) e z =
+      by (Err v) e z =
           let same = (h.claim.refused (result_of p w t) v h.claim.result e).0 in (
             x,
             stays (λ r.
@@ -100,10 +99,10 @@ module _ (p w : List ℕ) (t : Input) (h : Lasting p w t) (d l : ℕ) (f : Value
                 omega arith),
             subst (λ (z : List ℕ). Begins p z d l f x) (sym same) b,
           )
-      by (Done n) e (inr z) =
+      by (Ok n) e (inr z) =
           let first = absent (λ i. z (h.outer.kept d i)) b in
           (x, stays (not_run z), subst (Begins p w' d l f) (sym first) (fresh (λ i. absurd (z i))))
-      by (Done n) e (inl i) =
+      by (Ok n) e (inl i) =
           let k = (h.claim.complete (result_of p w t) n h.claim.result).0 e in
           let m = finished p k.0.words in
           let g = h.finish k.0 k.1 in

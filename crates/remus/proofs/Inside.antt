@@ -1,6 +1,6 @@
 -- What has to be known of the walk inside one turn, p the program, w the words before it, t what it brings: the
 -- hypotheses from which the turn's claim follows.
-use Rattle.std.specs.Prelude.{ℕ, ◌+◌, ◌-◌, ◌≤◌, ◌<◌, ◌≡◌, ◌≢◌, List, length}
+use Rattle.std.specs.Prelude.{ℕ, ◌+◌, ◌-◌, ◌≤◌, ◌<◌, ◌≡◌, ◌≢◌, List, length, Ok}
 use Rattle.value.specs.declared.Value.{Value}
 use Rattle.program.specs.Bytes.{main_of}
 use Rattle.program.specs.Command.{Cmd, fetch, gives}
@@ -11,7 +11,6 @@ use Rattle.image.specs.Memory.{most_depth, main_at, used, turns, value_at}
 use Rattle.image.specs.Sound.{Tiles, Deployed, Depth}
 use Rattle.remus.specs.Run.{ran, stopped, main_run}
 use Rattle.remus.specs.Turn.{asked_of}
-use Rattle.answer.specs.declared.Ruling.TheVariants.{Fine}
 use Rattle.remus.specs.Walk.{State, Input, location, begun, stop, step}
 use Rattle.remus.specs.Point.{◌∈◌, Within, Can, ReadsWell, Allocation, WalkAllocates}
 use Rattle.remus.specs.Claim.{During, Point, Leaves, CellIn, Begins}
@@ -47,7 +46,7 @@ module _ (p w : List ℕ) (t : Input) where
     -- every sink of main is noted as it leaves
     pub written : (s : State) → Leaves p w t s → (x : ℕ) → x < sink_count p (main_of p)
         → location main_at (sink_loc p (main_of p) x) ∈ s.notes
-    pub walk_ends : asked_of p w t.readings t.sink_space ≡ Fine → Ending
+    pub walk_ends : asked_of p w t.readings t.sink_space ≡ Ok tt → Ending
     -- it stops for these reasons, and where there is one
     pub stopping : (s : State) (v : Refusal) → During p w t s → step p t.readings s ≡ stop v → Stop s v
     pub stopped_by : (s : State) (v : Refusal) → Stop s v → step p t.readings s ≡ stop v

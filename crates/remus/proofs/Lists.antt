@@ -1,5 +1,5 @@
 -- Lists of turns: from what holds of each turn on a sound image to the claim about a whole list.
-use Rattle.std.specs.Prelude.{ℕ, ◌+◌, ◌≤◌, ◌≡◌, refl, List, [], ◌∷◌, length}
+use Rattle.std.specs.Prelude.{ℕ, ◌+◌, ◌≤◌, ◌≡◌, refl, List, [], ◌∷◌, length, Ok, Err}
 use Rattle.std.proofs.Common.{sym, ◌∙◌, ap, subst, arith}
 use Rattle.program.specs.Bytes.{main_of}
 use Rattle.program.specs.Location.{size_of}
@@ -13,15 +13,14 @@ use Rattle.remus.specs.Turn.{Turn}
 use Rattle.remus.specs.Walk.{Input, Walks, no_turn as no_walk, and_then}
 use Rattle.remus.specs.Claim.{fresh, TurnClaim, Completed, turns_of, memory_after, TurnOf, now, after, Grows}
 use Rattle.remus.specs.Claim.{no_turn, completed, refused, Claim}
-use Rattle.answer.specs.declared.Answer.{Answer}
-use Rattle.answer.specs.declared.Answer.TheVariants.{Done, Refused}
+use Rattle.answer.specs.Answer.{Answer}
 use Rattle.remus.proofs.Once.{walked_once}
 use Rattle.remus.proofs.History.{result_of, Lasting, history}
 
 -- a turn on the words w: its claim, what it leaves, and by how much u has grown if it completes
 pub record TurnHolds (p w : List ℕ) (t : Input) : Type 0 where
   pub lasting : Lasting p w t
-  pub grows : (u : ℕ) → (result_of p w t).answer ≡ Done u →
+  pub grows : (u : ℕ) → (result_of p w t).answer ≡ Ok u →
       (k : ℕ) × Completed p w t k × (used (result_of p w t).memory ≡ used w + k)
 
 -- every turn on a sound image of n words
@@ -60,11 +59,11 @@ module _ (p : List ℕ) (n : ℕ) (each : EveryTurn p n) where
 
       by : (a : Answer) → (result_of p w t).answer ≡ a →
           (k : ℕ) × Grows p w (t ∷ ts) k × (used (memory_after p (result_of p w t).memory ts) ≡ used w + k)
-      by (Done u) e =
+      by (Ok u) e =
           let g = h.grows u e in
           let k = f.grown in
           (g.0 + k.0, completed c.result e g.1 k.1, omega (arith, g.2, k.2))
-      by (Refused v) e =
+      by (Err v) e =
           let k = f.grown in
           let same = (c.refused (result_of p w t) v c.result e).0 in
           (k.0, refused c.result e k.1, k.2 ∙ ap (λ (x : List ℕ). used x + k.0) same)

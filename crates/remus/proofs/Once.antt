@@ -1,5 +1,5 @@
 -- The walk's result of a turn is one: a step is a function, so that two ends that the walk comes to are the same.
-use Rattle.std.specs.Prelude.{ℕ, ◌≡◌, refl, ◌⊎◌, List, []}
+use Rattle.std.specs.Prelude.{ℕ, ◌≡◌, refl, ◌⊎◌, List, [], Ok, Err}
 use Rattle.std.proofs.Common.{sym, ap, subst, inl, inr, arith}
 use Rattle.answer.specs.declared.Refusal.{Refusal}
 use Rattle.image.specs.Memory.{used}
@@ -8,7 +8,6 @@ use Rattle.remus.specs.Turn.{Turn}
 use Rattle.remus.specs.Walk.{State, go, stop, over, step, step_on, Reach, stay, on, begun, Input, refused, stopped}
 use Rattle.remus.specs.Walk.{left}
 use Rattle.remus.specs.Claim.{WalkedOnce}
-use Rattle.answer.specs.declared.Answer.TheVariants.{Done, Refused}
 
 module _ (p rd : List ℕ) where
   -- the walk goes no further from s
@@ -69,11 +68,11 @@ module _ (p rd : List ℕ) where
 
 -- a refusal leaves what it found
 abbrev entry : List ℕ → Input → Refusal → Turn
-entry w t v = record { answer = Refused v; memory = w; sink_space = t.sink_space }
+entry w t v = record { answer = Err v; memory = w; sink_space = t.sink_space }
 
 abbrev exit : List ℕ → Input → State → Turn
 exit p t s = record {
-  answer = Done (used s.words);
+  answer = Ok (used s.words);
   memory = finished p s.words;
   sink_space = sunk p s.words t.sink_space;
 }

@@ -1,5 +1,5 @@
 -- One turn: from what holds inside it to its claim, and to what the list of turns needs of it.
-use Rattle.std.specs.Prelude.{ℕ, ◌+◌, ◌≤◌, ◌≡◌, refl, ◌↔◌, ◌≢◌, true, List, length}
+use Rattle.std.specs.Prelude.{ℕ, ◌+◌, ◌≤◌, ◌≡◌, refl, ◌↔◌, ◌≢◌, true, List, length, Ok, Err}
 use Rattle.std.proofs.Common.{sym, ◌∙◌, ap, subst, arith}
 use Rattle.value.proofs.Tests.{goes}
 use Rattle.load.specs.Check.{IsAccepted}
@@ -10,17 +10,14 @@ use Rattle.load.proofs.Exact.Ladder.{accepted_size}
 use Rattle.image.specs.Memory.{most_words, used}
 use Rattle.image.specs.Sound.{SoundImage}
 use Rattle.image.specs.Passes.{sound_of}
-use Rattle.image.specs.declared.Judged.TheVariants.{Sound}
 use Rattle.image.specs.Start.{words_legal}
 use Rattle.image.proofs.Memory.Each.{in_below}
 use Rattle.image.proofs.Starts.{words_legal_lem}
 use Rattle.remus.specs.Turn.{Turn, asked_of, turn_of, by_check, by_sound, by_asked, by_run, turn_refused as refused_turn}
-use Rattle.answer.specs.declared.Ruling.{Ruling}
-use Rattle.answer.specs.declared.Ruling.TheVariants.{Fine, Against}
+use Rattle.answer.specs.Answer.{Ruling}
 use Rattle.remus.specs.Walk.{State, Input, Walked, refused, stopped, left}
 use Rattle.remus.specs.Claim.{During, AllocatesAt, TooDeepAt, NoRoomAt, Leaves, Fit, Ends, completed, out_of_depth}
 use Rattle.remus.specs.Claim.{no_room, TurnClaim, Completed}
-use Rattle.answer.specs.declared.Answer.TheVariants.{Done, Refused}
 use Rattle.remus.proofs.Once.{walked_once}
 use Rattle.remus.proofs.Fits.{asking, asking_number, fits}
 use Rattle.remus.proofs.Sinks.{sinks_written}
@@ -31,7 +28,7 @@ use Rattle.remus.proofs.Inside.{Ending, leaves, stops, Stop, deep, full, Inside}
 -- ---- the turn's own ladder, on a sound image of an accepted program
 
 module _ (p w : List ℕ) (t : Input) (yes_program : IsAccepted p) (few : length w ≤ most_words) (image : SoundImage p w)
-    (judged : sound_of p w ≡ Sound) where
+    (judged : sound_of p w ≡ Ok tt) where
   abbrev rd : List ℕ
   rd = t.readings
 
@@ -47,15 +44,15 @@ module _ (p w : List ℕ) (t : Input) (yes_program : IsAccepted p) (few : length
       rw (accepted_size p yes_program) (sym (goes _ _ legal (rw judged refl)))
 
   module _ (inside : Inside p w t) where
-    by_ending : asked_of p w rd sk ≡ Fine → Ending p w t → Walked p w t (by_asked p w rd sk Fine)
+    by_ending : asked_of p w rd sk ≡ Ok tt → Ending p w t → Walked p w t (by_asked p w rd sk (Ok tt))
     unfolding by_asked by_run refused_turn
     by_ending e (leaves s l q) = rw q (left s e l.during.comes l.empty)
     by_ending e (stops s v m d k q) = rw q (stopped s e d.comes k)
 
     by_asked_lem : (a : Ruling) → asked_of p w rd sk ≡ a → Walked p w t (by_asked p w rd sk a)
     unfolding by_asked refused_turn
-    by_asked_lem Fine e = by_ending e (inside.walk_ends e)
-    by_asked_lem (Against v) e = refused e
+    by_asked_lem (Ok tt) e = by_ending e (inside.walk_ends e)
+    by_asked_lem (Err v) e = refused e
 
     -- the walk's result is the machine's
     result : Walked p w t (turn_of p w rd sk)
@@ -63,11 +60,11 @@ module _ (p w : List ℕ) (t : Input) (yes_program : IsAccepted p) (few : length
 
     -- where the walk stops, and where main leaves, the result is known
     stop_answer : (r : Turn) (s : State) (v : Refusal) → Walked p w t r → Stop p w t s v →
-        During p w t s → r.answer ≡ Refused v
+        During p w t s → r.answer ≡ Err v
     stop_answer r s v q k d = ap (λ (x : Turn). x.answer)
         (walked_once p w t r _ q (stopped s d.allowed d.comes (inside.stopped_by s v k)))
 
-    leave_answer : (r : Turn) (s : State) → Walked p w t r → Leaves p w t s → r.answer ≡ Done (used s.words)
+    leave_answer : (r : Turn) (s : State) → Walked p w t r → Leaves p w t s → r.answer ≡ Ok (used s.words)
     leave_answer r s q l = ap (λ (x : Turn). x.answer)
         (walked_once p w t r _ q (left s l.during.allowed l.during.comes l.empty))
 
@@ -75,7 +72,7 @@ module _ (p w : List ℕ) (t : Input) (yes_program : IsAccepted p) (few : length
     ends r f (refused e) = absurd (let a = (fits p w t).0 f in let z : ◌≡◌ {A = ℕ} 0 1 = cc in omega arith)
     ends r f (stopped {w = v} s e q k) = by (inside.stopping s v (record { allowed = e; comes = q }) k)
       where
-        by : {v : Refusal} → Stop p w t s v → Ends p w t (record { answer = Refused v; memory = w; sink_space = sk })
+        by : {v : Refusal} → Stop p w t s v → Ends p w t (record { answer = Err v; memory = w; sink_space = sk })
         by (deep {q} m o c a b d) = out_of_depth q refl
         by (full {q} m o c a b d g) = no_room q refl
     ends r f (left s e q k) =
@@ -85,7 +82,7 @@ module _ (p w : List ℕ) (t : Input) (yes_program : IsAccepted p) (few : length
         (inside.finish s l).after
 
     -- a turn that 10 to 13 refuse ends neither with 14 nor with 15
-    asked_low : (v : Refusal) → 14 ≤ refusal_number v → asked_of p w rd sk ≡ Against v → ⊥
+    asked_low : (v : Refusal) → 14 ≤ refusal_number v → asked_of p w rd sk ≡ Err v → ⊥
     asked_low v h e = omega (arith, asking_number ((asking p w rd sk v).0 e))
 
     -- what a stop with v says of v
@@ -113,14 +110,14 @@ module _ (p w : List ℕ) (t : Input) (yes_program : IsAccepted p) (few : length
     )
 
     -- what a result with the answer v says of v
-    says : (r : Turn) → Walked p w t r → (v : Refusal) → 14 ≤ refusal_number v → r.answer ≡ Refused v → Said v
+    says : (r : Turn) → Walked p w t r → (v : Refusal) → 14 ≤ refusal_number v → r.answer ≡ Err v → Said v
     says r (refused {w = x} e) v h q = let z : v ≡ x = cc in absurd (asked_low v h (rw z e))
     says r (stopped {w = x} s e q k) v h a =
         let z : x ≡ v = cc in
         subst Said z (said s x (inside.stopping s x (record { allowed = e; comes = q }) k))
     says r (left s e q k) v h a = let z : ◌≡◌ {A = ℕ} 0 1 = cc in absurd (omega arith)
 
-    deep_ends : (r : Turn) (q : ℕ) → Walked p w t r → (r.answer ≡ Refused (TooDeep q)) ↔ TooDeepAt p w t q
+    deep_ends : (r : Turn) (q : ℕ) → Walked p w t r → (r.answer ≡ Err (TooDeep q)) ↔ TooDeepAt p w t q
     deep_ends r q k = (
       λ e. (says r k (TooDeep q) (omega arith) e).0 q refl,
       λ h.
@@ -129,7 +126,7 @@ module _ (p w : List ℕ) (t : Input) (yes_program : IsAccepted p) (few : length
           (deep h.1 a.owner a.command a.point a.is (rw a.height h.3)) a.point.during,
     )
 
-    full_ends : (r : Turn) (q : ℕ) → Walked p w t r → (r.answer ≡ Refused (NoRoom q)) ↔ NoRoomAt p w t q
+    full_ends : (r : Turn) (q : ℕ) → Walked p w t r → (r.answer ≡ Err (NoRoom q)) ↔ NoRoomAt p w t q
     full_ends r q k = (
       λ e. (says r k (NoRoom q) (omega arith) e).1 q refl,
       λ h.
@@ -139,13 +136,13 @@ module _ (p w : List ℕ) (t : Input) (yes_program : IsAccepted p) (few : length
           a.point.during,
     )
 
-    left_with : (r : Turn) (u : ℕ) → Walked p w t r → r.answer ≡ Done u →
+    left_with : (r : Turn) (u : ℕ) → Walked p w t r → r.answer ≡ Ok u →
         (s : State) × Leaves p w t s × (used s.words ≡ u)
     left_with r u (refused e) a = let z : ◌≡◌ {A = ℕ} 0 1 = cc in absurd (omega arith)
     left_with r u (stopped s e q k) a = let z : ◌≡◌ {A = ℕ} 0 1 = cc in absurd (omega arith)
     left_with r u (left s e q k) a = (s, record { during = record { allowed = e; comes = q }; empty = k }, cc)
 
-    as_at_entry : (r : Turn) (v : Refusal) → Walked p w t r → r.answer ≡ Refused v →
+    as_at_entry : (r : Turn) (v : Refusal) → Walked p w t r → r.answer ≡ Err v →
         (r.memory ≡ w) × (r.sink_space ≡ sk)
     as_at_entry r v (refused e) a = (refl, refl)
     as_at_entry r v (stopped s e q k) a = (refl, refl)
@@ -163,7 +160,7 @@ module _ (p w : List ℕ) (t : Input) (yes_program : IsAccepted p) (few : length
           ends = ends;
           deep = deep_ends;
           full = full_ends;
-          complete = λ r u k. (left_with r u k, λ h. leave_answer r h.0 k h.1 ∙ ap Done h.2);
+          complete = λ r u k. (left_with r u k, λ h. leave_answer r h.0 k h.1 ∙ ap Ok h.2);
           refused = as_at_entry;
         }
 
@@ -173,7 +170,7 @@ module _ (p w : List ℕ) (t : Input) (yes_program : IsAccepted p) (few : length
     pub record Left (r : Turn) : Type 0 where
       pub sound_image : SoundImage p r.memory
       pub same_length : length r.memory ≡ length w
-      pub grows : (u : ℕ) → r.answer ≡ Done u → (k : ℕ) × Completed p w t k × (used r.memory ≡ used w + k)
+      pub grows : (u : ℕ) → r.answer ≡ Ok u → (k : ℕ) × Completed p w t k × (used r.memory ≡ used w + k)
 
     leaves_sound : (r : Turn) → Walked p w t r → Left r
     leaves_sound r (refused e) = record {

@@ -1,6 +1,6 @@
 -- What a preview shows and leaves: `preview_foretells`, `preview_refused_leaves`, `work_length_fault`,
 -- `preview_numbers`; and that a turn which runs ends with 0, 14 or 15 (`run_number`). Assumes nothing.
-use Rattle.std.specs.Prelude.{ℕ, ◌+◌, ◌*◌, ◌≤◌, ◌≡◌, refl, ◌⊎◌, ◌≢◌, true}
+use Rattle.std.specs.Prelude.{ℕ, ◌+◌, ◌*◌, ◌≤◌, ◌≡◌, refl, ◌⊎◌, ◌≢◌, true, Ok, Err}
 use Rattle.std.proofs.Common.{sym, ◌∙◌, ap, subst, inl, inr, ⊎_elim}
 use Rattle.std.specs.Prelude.{false, List, ◌++◌, length, drop}
 use Rattle.std.proofs.Common.{arith}
@@ -10,12 +10,10 @@ use Rattle.value.proofs.Tests.{cases, same?, eq!, eq×, goes, stops, yes, no, sa
 use Rattle.program.specs.Bytes.{main_of}
 use Rattle.program.specs.Location.{sink_count}
 use Rattle.answer.specs.Answer.{number_of, place_of, refusal_number}
-use Rattle.answer.specs.declared.Answer.{Answer}
-use Rattle.answer.specs.declared.Answer.TheVariants.{Done, Refused}
+use Rattle.answer.specs.Answer.{Answer}
 use Rattle.answer.specs.declared.Refusal.{Refusal}
 use Rattle.answer.specs.declared.Refusal.TheVariants.{MemoryLength, WorkLength}
-use Rattle.answer.specs.declared.Ruling.{Ruling}
-use Rattle.answer.specs.declared.Ruling.TheVariants.{Fine, Against}
+use Rattle.answer.specs.Answer.{Ruling}
 use Rattle.answer.proofs.Refusals.{refusal_counts}
 use Rattle.load.specs.Check.{check_of, IsAccepted}
 use Rattle.load.specs.Fault.{CheckNumber}
@@ -23,8 +21,7 @@ use Rattle.load.proofs.Exact.Faults.{check_numbers}
 use Rattle.load.proofs.Exact.Ladder.{accepted_size}
 use Rattle.image.specs.Memory.{most_words, patch}
 use Rattle.image.specs.Passes.{sound_of}
-use Rattle.image.specs.declared.Judged.{Judged}
-use Rattle.image.specs.declared.Judged.TheVariants.{Sound, Unsound}
+use Rattle.image.specs.Passes.{Judged}
 use Rattle.image.specs.Sound.{SoundImage}
 use Rattle.image.specs.Start.{words_legal}
 use Rattle.image.specs.Starting.{Words}
@@ -82,23 +79,23 @@ module _ (p m rd : List ℕ) where
 
   asked_again : (sk : List ℕ) (a : Ruling) → asked_of p m rd sk ≡ a → Again brought sk
   unfolding by_asked turn_refused
-  asked_again sk Fine e =
+  asked_again sk (Ok tt) e =
       let h = ((fits p m (record { readings = rd; sink_space = sk })).1 e).room in
       let s = (by_run p m rd sk (main_run p rd m)).sink_space in
-      let f : asked_of p m rd s ≡ Fine = asked_alike s sk (run_length sk (main_run p rd m) h) ∙ e in
+      let f : asked_of p m rd s ≡ (Ok tt) = asked_alike s sk (run_length sk (main_run p rd m) h) ∙ e in
       rw (e, f) (run_again sk (main_run p rd m))
-  asked_again sk (Against w) e = rw (e, e) refl
+  asked_again sk (Err w) e = rw (e, e) refl
 
   judged_again : (sk : List ℕ) (j : Judged) → Again (λ s. by_sound p m rd s j) sk
   unfolding by_sound turn_refused
-  judged_again sk Sound = asked_again sk (asked_of p m rd sk) refl
-  judged_again sk (Unsound q) = refl
+  judged_again sk (Ok tt) = asked_again sk (asked_of p m rd sk) refl
+  judged_again sk (Err q) = refl
 
   checked_again : (sk : List ℕ) (c : Answer) → Again (λ s. by_check p m rd s c) sk
   unfolding by_check turn_refused guard
-  checked_again sk (Done size) =
+  checked_again sk (Ok size) =
       cases (words_legal (length m)) (λ e. rw e (judged_again sk (sound_of p m))) (λ e. rw e refl)
-  checked_again sk (Refused w) = refl
+  checked_again sk (Err w) = refl
 
   turn_again : (sk : List ℕ) → Again (turn_of p m rd) sk
   unfolding turn_of
@@ -122,13 +119,13 @@ module _ (p m rd sk : List ℕ) where
   ends_number r (out_of_depth q e) = (from_run_says _).1 (inr (inr (ap number_of e)))
   ends_number r (no_room q e) = (from_run_says _).1 (inr (inl (ap number_of e)))
 
-  pub run_number : IsAccepted p → length m ≤ most_words → SoundImage p m → asked_of p m rd sk ≡ Fine
+  pub run_number : IsAccepted p → length m ≤ most_words → SoundImage p m → asked_of p m rd sk ≡ Ok tt
       → from_run (number_of (turn_of p m rd sk).answer) ≡ true
   run_number a l s e =
       let c = demand_once p m t a l s in
       ends_number (turn_of p m rd sk) (c.ends (turn_of p m rd sk) ((fits p m t).1 e) c.result)
 
-  pub asked_number : (w : Refusal) → asked_of p m rd sk ≡ Against w → from_run (refusal_number w) ≡ false
+  pub asked_number : (w : Refusal) → asked_of p m rd sk ≡ Err w → from_run (refusal_number w) ≡ false
   asked_number w e =
       let b = asking_number ((asking p m rd sk w).0 e) in
       not_from_run _ (λ z. omega arith) (λ z. omega arith) (λ z. omega arith)
@@ -138,7 +135,7 @@ pub tried_kept : (p m work rd sk : List ℕ) (w : Refusal) → from_run (refusal
     → preview_refused p m work rd sk w ≡ tried work (turn_refused p m rd sk w)
 unfolding preview_refused tried turn_refused
 tried_kept p m work rd sk w n =
-    ap (λ (l : List ℕ). record { answer = Refused w; work = l; sink_space = sk }) (no m n refl)
+    ap (λ (l : List ℕ). record { answer = Err w; work = l; sink_space = sk }) (no m n refl)
 
 -- ---- how a preview ends
 
@@ -151,12 +148,12 @@ data Shown (p m work rd sk : List ℕ) (v : Preview) : Type 0 where
   equal : v ≡ tried work (turn_of p m rd sk) → Shown p m work rd sk v
 
 module _ (p m work rd sk : List ℕ) where
-  pub at_program : (w : Refusal) → check_of p ≡ Refused w
+  pub at_program : (w : Refusal) → check_of p ≡ Err w
       → (turn_of p m rd sk ≡ turn_refused p m rd sk w) × (preview_of p m work rd sk ≡ preview_refused p m work rd sk w)
   unfolding preview_of preview_by turn_of by_check
   at_program w e = rw e (refl, refl)
 
-  module _ (size : ℕ) (e : check_of p ≡ Done size) where
+  module _ (size : ℕ) (e : check_of p ≡ Ok size) where
     pub at_words : words_legal (length m) ≡ false → let w = MemoryLength (length m) in
         (turn_of p m rd sk ≡ turn_refused p m rd sk w) × (preview_of p m work rd sk ≡ preview_refused p m work rd sk w)
     unfolding preview_of preview_by turn_of by_check
@@ -173,14 +170,14 @@ module _ (p m work rd sk : List ℕ) where
       at_turn q = rw e (sym (goes _ _ l (goes _ _ (eq! q) refl)))
 
   shown : (c : Answer) → check_of p ≡ c → Shown p m work rd sk (preview_of p m work rd sk)
-  shown (Done size) e =
+  shown (Ok size) e =
       let a : IsAccepted p = rw e refl in
       cases (words_legal (length m))
       (λ l.
       ⊎_elim (λ q. equal (at_turn size e l q)) (λ q. unequal a ((words_legal_lem _).0 l) q (at_work size e l q))
       (same? (length work) (length m)))
       (λ l. let h = at_words size e l in before (MemoryLength (length m)) (inr refl) h.0 h.1)
-  shown (Refused w) e =
+  shown (Err w) e =
       let h = at_program w e in before w (inl (subst CheckNumber (ap number_of e) (check_numbers p))) h.0 h.1
 
 -- what is tested before the work memory is neither 14 nor 15 nor 22
@@ -283,18 +280,18 @@ module _ (p m work rd sk : List ℕ) (q : ℕ) where
   At = IsAccepted p × Words m × (length work ≢ length m) × (q ≡ length work)
 
   -- v is refused by 22, with place q
-  told : (v : Preview) → Shown p m work rd sk v → v.answer ≡ Refused (WorkLength q) → At
+  told : (v : Preview) → Shown p m work rd sk v → v.answer ≡ Err (WorkLength q) → At
   unfolding preview_refused tried
   told v (before w n f e) r = absurd ((early _ n).2 (ap number_of (sym (ap (λ (u : Preview). u.answer) e) ∙ r)))
   told v (unequal a l k e) r = (a, l, k, ap place_of (sym r ∙ ap (λ (u : Preview). u.answer) e))
   told v (equal e) r =
       absurd (turn_not_22 _ (turn_numbers p m rd sk) (ap number_of (sym (ap (λ (u : Preview). u.answer) e) ∙ r)))
 
-  given : At → (preview_of p m work rd sk).answer ≡ Refused (WorkLength q)
+  given : At → (preview_of p m work rd sk).answer ≡ Err (WorkLength q)
   unfolding preview_refused
   given (a, l, k, e) =
       ap (λ (u : Preview). u.answer) (at_work p m work rd sk _ (accepted_size p a) ((words_legal_lem _).1 l) k)
-      ∙ ap (λ (n : ℕ). Refused (WorkLength n)) (sym e)
+      ∙ ap (λ (n : ℕ). Err (WorkLength n)) (sym e)
 
 pub work_length_fault : WorkLengthFault
 work_length_fault p m work rd sk q =

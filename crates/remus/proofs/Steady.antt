@@ -17,7 +17,7 @@ use Rattle.image.proofs.Memory.Tiles.{in_ge, in_to, in_fits, in_reactor}
 use Rattle.remus.specs.Exec.{Eff, move, call, fail, eff, opening, ready}
 use Rattle.remus.specs.Run.{ran, entered, step_of, run_of}
 use Rattle.remus.specs.Turn.{asked_of}
-use Rattle.answer.specs.declared.Ruling.TheVariants.{Fine}
+use Rattle.std.specs.Prelude.{Ok}
 use Rattle.remus.specs.Walk.{Note, Frame, notes_of, onto, begun}
 use Rattle.remus.specs.Steady.{ReadsUpTo, Fits, Through, Orderly, Steady}
 use Rattle.remus.proofs.Walk.Facts.{Facts, facts}
@@ -184,7 +184,7 @@ module _ (p : List ℕ) (rules : Rules p) where
         )
 
 -- main's run in a turn that 10 to 13 do not refuse
-pub steady : (p : List ℕ) → Rules p → (w rd sk : List ℕ) → SoundImage p w → asked_of p w rd sk ≡ Fine
+pub steady : (p : List ℕ) → Rules p → (w rd sk : List ℕ) → SoundImage p w → asked_of p w rd sk ≡ Ok tt
     → Steady p rd most_depth 1 w main_at
 unfolding begun
 steady p rules w rd sk sound asked =

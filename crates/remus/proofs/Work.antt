@@ -1,7 +1,7 @@
 -- A completed turn runs no deployment twice, and at most 160 commands for each that stands at its end: `work`. The
 -- commands carried out are at most those behind in the open deployments and 160 for each deployment that has run; and
 -- no two of these are the same. Assumes nothing.
-use Rattle.std.specs.Prelude.{ℕ, ◌+◌, ◌*◌, ◌≤◌, ◌<◌, ◌≡◌, refl, List, [], ◌∷◌}
+use Rattle.std.specs.Prelude.{ℕ, ◌+◌, ◌*◌, ◌≤◌, ◌<◌, ◌≡◌, refl, List, [], ◌∷◌, Ok}
 use Rattle.std.proofs.Common.{sym, ◌∙◌, ap, inl, inr, ⊎_elim}
 use Rattle.std.specs.Prelude.{◌++◌, length}
 use Rattle.std.proofs.Common.{arith}
@@ -24,7 +24,6 @@ use Rattle.remus.specs.Clear.{finished}
 use Rattle.remus.specs.Walk.{Note, run, Frame, State, go, notes_of, onto, begun, step, Reach, stay, on, Input}
 use Rattle.remus.specs.Point.{◌∈◌, first, later}
 use Rattle.remus.specs.Turn.{asked_of}
-use Rattle.answer.specs.declared.Ruling.TheVariants.{Fine}
 use Rattle.remus.specs.Work.{Carried, stay as none_carried, command, leaving, RunTwice, now, before, standing}
 use Rattle.remus.specs.Work.{Work}
 use Rattle.remus.proofs.Once.{empty_over}
@@ -151,7 +150,7 @@ module _ (p : List ℕ) (rules : Rules p) (w : List ℕ) (few : length w ≤ mos
       let e = empty_over p rd (state m [] ns) refl in let q : ◌≡◌ {A = ℕ} 0 1 = cc in absurd (omega arith)
   by_pile (f ∷ fs) v k s = onward v k s
 
-  counted : asked_of p w rd t.sink_space ≡ Fine → {s : State} → Reach p rd (begun p w) s → Counted s
+  counted : asked_of p w rd t.sink_space ≡ Ok tt → {s : State} → Reach p rd (begun p w) s → Counted s
   unfolding begun
   counted a stay =
       record {

@@ -1,5 +1,5 @@
 -- 6.34 One statement about any list of turns of an accepted program, from memory that its start has made ready.
-use Rattle.std.specs.Prelude.{ℕ, ◌+◌, ◌-◌, ◌*◌, ◌≤◌, ◌<◌, ◌≡◌, ◌↔◌, ◌≢◌, List, [], ◌∷◌, length}
+use Rattle.std.specs.Prelude.{ℕ, ◌+◌, ◌-◌, ◌*◌, ◌≤◌, ◌<◌, ◌≡◌, ◌↔◌, ◌≢◌, List, [], ◌∷◌, length, Ok, Err}
 use Rattle.value.specs.Value.{blank, mark_of, value}
 use Rattle.value.specs.declared.Value.{Value}
 use Rattle.program.specs.Bytes.{globals, main_of}
@@ -15,11 +15,9 @@ use Rattle.image.specs.Sound.{Tiles, Deployed, InD, Depth, SoundImage}
 use Rattle.image.specs.Start.{start_of}
 use Rattle.answer.specs.Answer.{number_of}
 use Rattle.remus.specs.Turn.{Turn, turn_of, asked_of}
-use Rattle.answer.specs.declared.Ruling.TheVariants.{Fine}
 use Rattle.remus.specs.Fault.{LegalReadings}
 use Rattle.remus.specs.Walk.{location, run, State, Reach, begun, Input, Walked, Walks}
 use Rattle.remus.specs.Point.{◌∈◌, Before, Within, Can, ReadsWell, Allocation, WalkAllocates}
-use Rattle.answer.specs.declared.Answer.TheVariants.{Done, Refused}
 
 -- ---- cells: l is a location of the deployment d
 
@@ -41,7 +39,7 @@ pub data Begins (p w : List ℕ) (d l : ℕ) (f : Value) : Value → Type 0 wher
 module _ (p w : List ℕ) (t : Input) where
   -- s is a state of the turn, which 10 to 13 do not refuse
   pub record During (s : State) : Type 0 where
-    pub allowed : asked_of p w t.readings t.sink_space ≡ Fine
+    pub allowed : asked_of p w t.readings t.sink_space ≡ Ok tt
     pub comes : Reach p t.readings (begun p w) s
 
   -- a point of the turn: in state s, with the words m, command c of o is next
@@ -134,10 +132,10 @@ module _ (p w : List ℕ) (t : Input) where
   -- 6.33 How a turn ends that brings what it should: with 0, every sink written and memory cleared, with 15, or with
   -- 14.
   pub data Ends (r : Turn) : Type 0 where
-    completed : (s : State) → Leaves s → r.answer ≡ Done (used s.words) → Written s r.sink_space
+    completed : (s : State) → Leaves s → r.answer ≡ Ok (used s.words) → Written s r.sink_space
         → AfterTurn s.words r.memory → Ends r
-    out_of_depth : (q : ℕ) → r.answer ≡ Refused (TooDeep q) → Ends r
-    no_room : (q : ℕ) → r.answer ≡ Refused (NoRoom q) → Ends r
+    out_of_depth : (q : ℕ) → r.answer ≡ Err (TooDeep q) → Ends r
+    no_room : (q : ℕ) → r.answer ≡ Err (NoRoom q) → Ends r
 
   pub record TurnClaim : Type 0 where
     -- 6.34 The turn's answer and words are the walk's. So the turn ends.
@@ -156,15 +154,15 @@ module _ (p w : List ℕ) (t : Input) where
         → Begins p w o b f (value_at p m o b)
     -- what a turn that brings what it should comes to, and nothing else
     pub ends : (r : Turn) → Fit → Walked p w t r → Ends r
-    -- 6.14 Refused with 15 exactly at an allocation that would have depth 65.
-    pub deep : (r : Turn) (q : ℕ) → Walked p w t r → (r.answer ≡ Refused (TooDeep q)) ↔ TooDeepAt q
-    -- 6.14 Refused with 14 exactly at another allocation that is larger than what is left.
-    pub full : (r : Turn) (q : ℕ) → Walked p w t r → (r.answer ≡ Refused (NoRoom q)) ↔ NoRoomAt q
+    -- 6.14 Err with 15 exactly at an allocation that would have depth 65.
+    pub deep : (r : Turn) (q : ℕ) → Walked p w t r → (r.answer ≡ Err (TooDeep q)) ↔ TooDeepAt q
+    -- 6.14 Err with 14 exactly at another allocation that is larger than what is left.
+    pub full : (r : Turn) (q : ℕ) → Walked p w t r → (r.answer ≡ Err (NoRoom q)) ↔ NoRoomAt q
     -- 6.1 Completed, with 0, exactly where main comes to its end.
     pub complete : (r : Turn) (u : ℕ) → Walked p w t r
-        → (r.answer ≡ Done u) ↔ ((s : State) × Leaves s × (used s.words ≡ u))
-    -- 4.11, 6.26 Refused by 10 to 13 before a step, or by 14 and 15 at one: no word is changed.
-    pub refused : (r : Turn) (v : Refusal) → Walked p w t r → r.answer ≡ Refused v
+        → (r.answer ≡ Ok u) ↔ ((s : State) × Leaves s × (used s.words ≡ u))
+    -- 4.11, 6.26 Err by 10 to 13 before a step, or by 14 and 15 at one: no word is changed.
+    pub refused : (r : Turn) (v : Refusal) → Walked p w t r → r.answer ≡ Err v
         → (r.memory ≡ w) × (r.sink_space ≡ t.sink_space)
 
   -- k words were allocated in the turn, which completes
@@ -202,9 +200,9 @@ pub data Remembers (p : List ℕ) (d l : ℕ) : List ℕ → Value → List Inpu
 pub data Grows (p : List ℕ) : List ℕ → List Input → ℕ → Type 0 where
   no_turn : {m : List ℕ} → Grows p m [] 0
   completed : {m : List ℕ} {t : Input} {ts : List Input} {r : Turn} {u k j : ℕ}
-      → Walked p m t r → r.answer ≡ Done u → Completed p m t k → Grows p r.memory ts j → Grows p m (t ∷ ts) (k + j)
+      → Walked p m t r → r.answer ≡ Ok u → Completed p m t k → Grows p r.memory ts j → Grows p m (t ∷ ts) (k + j)
   refused : {m : List ℕ} {t : Input} {ts : List Input} {r : Turn} {v : Refusal} {j : ℕ}
-      → Walked p m t r → r.answer ≡ Refused v → Grows p r.memory ts j → Grows p m (t ∷ ts) j
+      → Walked p m t r → r.answer ≡ Err v → Grows p r.memory ts j → Grows p m (t ∷ ts) j
 
 -- p the program, v the words that its start has left, ts the list of turns
 pub record Claim (p v : List ℕ) (ts : List Input) : Type 0 where

@@ -1,7 +1,7 @@
 -- 5.6 For which fault a turn is refused before its first step, by number and place. Each case says what its fault is
 -- and that what comes before it is right, so that nothing here speaks of a ladder of tests. Proved in
 -- proofs/FirstFault.antt: `first_fault`, `turn_numbers`.
-use Rattle.std.specs.Prelude.{ℕ, ◌+◌, ◌*◌, ◌≤◌, ◌<◌, ◌≡◌, ◌⊎◌, ◌↔◌, ◌≢◌, List, length}
+use Rattle.std.specs.Prelude.{ℕ, ◌+◌, ◌*◌, ◌≤◌, ◌<◌, ◌≡◌, ◌⊎◌, ◌↔◌, ◌≢◌, List, length, Err}
 use Rattle.program.specs.Bytes.{globals, global_kind, main_of}
 use Rattle.program.specs.Location.{sink_count}
 use Rattle.program.specs.Kind.{OfKind}
@@ -15,7 +15,6 @@ use Rattle.image.specs.Sound.{SoundImage}
 use Rattle.image.specs.Fault.{FaultAt}
 use Rattle.image.specs.Starting.{Words}
 use Rattle.remus.specs.Turn.{turn_of, reading_at}
-use Rattle.answer.specs.declared.Answer.TheVariants.{Refused}
 
 -- reading k, from 0, is of its global's kind
 abbrev pub LegalReading : List ℕ → List ℕ → ℕ → Type 0
@@ -50,7 +49,7 @@ module _ (p m rd sk : List ℕ) where
 abbrev pub FirstFault : Type 0
 FirstFault =
     (p m rd sk : List ℕ) (w : Refusal) → refusal_number w ≢ 14 → refusal_number w ≢ 15
-    → ((turn_of p m rd sk).answer ≡ Refused w) ↔ Fault p m rd sk (refusal_number w) (refusal_place w)
+    → ((turn_of p m rd sk).answer ≡ Err w) ↔ Fault p m rd sk (refusal_number w) (refusal_place w)
 
 -- 5.7 The numbers that a turn can give at all: the check's, and 8 to 15.
 abbrev pub TurnNumber : ℕ → Type 0

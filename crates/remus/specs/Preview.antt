@@ -1,9 +1,8 @@
 -- 4.23 The call preview, whole: answer and every lent word. It tries a turn on a copy of the memory.
-use Rattle.std.specs.Prelude.{ℕ, ◌≡◌, ◌≢◌, ◌⊎◌, ◌↔◌, Bool, List, length}
+use Rattle.std.specs.Prelude.{ℕ, ◌≡◌, ◌≢◌, ◌⊎◌, ◌↔◌, Bool, List, length, Ok, Err}
 use Rattle.value.specs.Test.{pick, ◌=?◌, ◌or◌, guard}
 use Rattle.answer.specs.Answer.{number_of}
-use Rattle.answer.specs.declared.Answer.{Answer}
-use Rattle.answer.specs.declared.Answer.TheVariants.{Done, Refused}
+use Rattle.answer.specs.Answer.{Answer}
 use Rattle.answer.specs.declared.Refusal.{Refusal}
 use Rattle.answer.specs.declared.Refusal.TheVariants.{MemoryLength, WorkLength}
 use Rattle.load.specs.Check.{check_of, IsAccepted}
@@ -32,15 +31,15 @@ tried work t = record {
 
 -- m the memory; work the work memory and sk the sink space at entry
 module _ (p m work rd sk : List ℕ) where
-  -- 4.26 Refused before the turn is tried: work memory and sink space stay as they were.
+  -- 4.26 Err before the turn is tried: work memory and sink space stay as they were.
   unfoldable pub preview_refused : Refusal → Preview
-  preview_refused w = record { answer = Refused w; work = work; sink_space = sk }
+  preview_refused w = record { answer = Err w; work = work; sink_space = sk }
 
   unfoldable pub preview_by : Answer → Preview
-  preview_by (Done size) =
+  preview_by (Ok size) =
       guard (words_legal (length m)) (preview_refused (MemoryLength (length m))) (λ _.
       guard (length work =? length m) (preview_refused (WorkLength (length work))) (λ _. tried work (turn_of p m rd sk)))
-  preview_by (Refused w) = preview_refused w
+  preview_by (Err w) = preview_refused w
 
   -- 4.24 A preview: the program's own refusals, 8, 22, then the turn's others.
   unfoldable pub preview_of : Preview
@@ -69,7 +68,7 @@ PreviewRefusedLeaves = (p m work rd sk : List ℕ) → let v = preview_of p m wo
 -- 5.32 When a preview is refused by 22, with the work memory's words as its place.
 abbrev pub WorkLengthFault : Type 0
 WorkLengthFault = (p m work rd sk : List ℕ) (q : ℕ)
-    → ((preview_of p m work rd sk).answer ≡ Refused (WorkLength q))
+    → ((preview_of p m work rd sk).answer ≡ Err (WorkLength q))
     ↔ (IsAccepted p × Words m × (length work ≢ length m) × (q ≡ length work))
 
 -- A preview's number is one of a turn's, or 22.

@@ -11,8 +11,7 @@ use Rattle.image.specs.Memory.{main_at, used, reactor, content}
 use Rattle.remus.specs.Exec.{Eff, move, call, fail, there, eff, opening, ready}
 use Rattle.remus.specs.Clear.{finished, sunk}
 use Rattle.remus.specs.Turn.{Turn, asked_of}
-use Rattle.answer.specs.declared.Ruling.TheVariants.{Fine, Against}
-use Rattle.answer.specs.declared.Answer.TheVariants.{Done, Refused}
+use Rattle.std.specs.Prelude.{Ok, Err}
 
 pub data Note : Type 0 where
   location : (d l : ℕ) → Note
@@ -108,17 +107,17 @@ pub record Input : Type 0 where
 
 -- 6.34 What the walk's turn from the words m comes to.
 pub data Walked (p m : List ℕ) (t : Input) : Turn → Type 0 where
-  -- 6.1 Refused by 10 to 13, before any step.
-  refused : {w : Refusal} → asked_of p m t.readings t.sink_space ≡ Against w
-      → Walked p m t (record { answer = Refused w; memory = m; sink_space = t.sink_space })
-  -- 6.14, 6.26 Refused by 15 or 14 at an allocation; no word has changed then.
-  stopped : {w : Refusal} (s : State) → asked_of p m t.readings t.sink_space ≡ Fine
+  -- 6.1 Err by 10 to 13, before any step.
+  refused : {w : Refusal} → asked_of p m t.readings t.sink_space ≡ Err w
+      → Walked p m t (record { answer = Err w; memory = m; sink_space = t.sink_space })
+  -- 6.14, 6.26 Err by 15 or 14 at an allocation; no word has changed then.
+  stopped : {w : Refusal} (s : State) → asked_of p m t.readings t.sink_space ≡ Ok tt
       → Reach p t.readings (begun p m) s → step p t.readings s ≡ stop w
-      → Walked p m t (record { answer = Refused w; memory = m; sink_space = t.sink_space })
+      → Walked p m t (record { answer = Err w; memory = m; sink_space = t.sink_space })
   -- 6.1, 6.24 Completed, as main has come to its end.
-  left : (s : State) → asked_of p m t.readings t.sink_space ≡ Fine → Reach p t.readings (begun p m) s
+  left : (s : State) → asked_of p m t.readings t.sink_space ≡ Ok tt → Reach p t.readings (begun p m) s
       → s.pile ≡ [] → Walked p m t (record {
-        answer = Done (used s.words);
+        answer = Ok (used s.words);
         memory = finished p s.words;
         sink_space = sunk p s.words t.sink_space;
       })

@@ -3,7 +3,7 @@
 use Rattle.std.specs.Prelude.{ℕ, ◌≡◌, refl, List}
 use Rattle.std.proofs.Common.{ap}
 use Rattle.answer.specs.Answer.{place_of, number_of}
-use Rattle.answer.specs.declared.Answer.{Answer}
+use Rattle.answer.specs.Answer.{Answer}
 use Rattle.image.specs.Start as Start
 use Rattle.image.specs.Clauses.{started}
 use Rattle.remus.specs.Turn as Turn

@@ -1,6 +1,6 @@
 -- No turn writes past the first 14 words of the sink space, nor reads any of it.
 -- Assumes nothing.
-use Rattle.std.specs.Prelude.{ℕ, ◌+◌, ◌*◌, ◌/◌, ◌≤◌, min, ◌≡◌, refl, List, ◌++◌, length}
+use Rattle.std.specs.Prelude.{ℕ, ◌+◌, ◌*◌, ◌/◌, ◌≤◌, min, ◌≡◌, refl, List, ◌++◌, length, Ok, Err}
 use Rattle.std.proofs.Common.{sym, ◌∙◌, ap, append_assoc}
 use Rattle.std.specs.Prelude.{take, drop}
 use Rattle.std.proofs.Common.{arith}
@@ -12,20 +12,17 @@ use Rattle.program.specs.Bytes.{main_of}
 use Rattle.program.specs.Location.{sink_count}
 use Rattle.answer.specs.Answer.{number_of}
 use Rattle.load.specs.Check.{check_of}
-use Rattle.answer.specs.declared.Answer.{Answer}
-use Rattle.answer.specs.declared.Answer.TheVariants.{Done, Refused}
+use Rattle.answer.specs.Answer.{Answer}
 use Rattle.load.proofs.Exact.{exact}
 use Rattle.load.proofs.Exact.Bounds.{main_last}
 use Rattle.image.specs.Memory.{patch}
 use Rattle.image.specs.Start.{words_legal}
 use Rattle.image.specs.Passes.{sound_of}
-use Rattle.image.specs.declared.Judged.{Judged}
-use Rattle.image.specs.declared.Judged.TheVariants.{Sound, Unsound}
+use Rattle.image.specs.Passes.{Judged}
 use Rattle.remus.specs.Clear.{pairs, sunk}
 use Rattle.remus.specs.Run.{Ran, ran, stopped, main_run}
 use Rattle.remus.specs.Turn.{Turn, turn_of, by_check, by_sound, by_asked, by_run, asked_of, turn_refused}
-use Rattle.answer.specs.declared.Ruling.{Ruling}
-use Rattle.answer.specs.declared.Ruling.TheVariants.{Fine, Against}
+use Rattle.answer.specs.Answer.{Ruling}
 use Rattle.remus.proofs.Sinks.{pairs_length}
 use Rattle.machine.proofs.Turning.{sinks_fit}
 use Rattle.rig.specs.Words.{words_of, holding}
@@ -70,16 +67,16 @@ module _ (p m rd sk rest : List ℕ) (enough : Enough p sk rest) where
   brought_alike : (a : Ruling) → asked_of p m rd sk ≡ a
       → by_asked p m rd (sk ++ rest) a ≡ longer rest (by_asked p m rd sk a)
   unfolding by_asked turn_refused
-  brought_alike Fine e = ran_alike (main_run p rd m) (sinks_fit p m rd sk e)
-  brought_alike (Against w) e = refl
+  brought_alike (Ok tt) e = ran_alike (main_run p rd m) (sinks_fit p m rd sk e)
+  brought_alike (Err w) e = refl
 
   sound_alike : (j : Judged) → by_sound p m rd (sk ++ rest) j ≡ longer rest (by_sound p m rd sk j)
   unfolding by_sound turn_refused
-  sound_alike Sound = rw asked_alike (brought_alike (asked_of p m rd sk) refl)
-  sound_alike (Unsound q) = refl
+  sound_alike (Ok tt) = rw asked_alike (brought_alike (asked_of p m rd sk) refl)
+  sound_alike (Err q) = refl
 
   accepted_alike : (size : ℕ)
-      → by_check p m rd (sk ++ rest) (Done size) ≡ longer rest (by_check p m rd sk (Done size))
+      → by_check p m rd (sk ++ rest) (Ok size) ≡ longer rest (by_check p m rd sk (Ok size))
   unfolding by_check turn_refused
   accepted_alike size =
       cases (words_legal (length m))
@@ -87,7 +84,7 @@ module _ (p m rd sk rest : List ℕ) (enough : Enough p sk rest) where
       (λ e. sym (stops _ e refl) ∙ ap (longer rest) (stops _ e refl))
 
 -- an accepted program's main has at most 7 sinks
-has_few : (p : List ℕ) (size : ℕ) → check_of p ≡ Done size → sink_count p (main_of p) ≤ 7
+has_few : (p : List ℕ) (size : ℕ) → check_of p ≡ Ok size → sink_count p (main_of p) ≤ 7
 unfolding sink_count
 has_few p size e =
     let t = ((exact p).0 (ap number_of e)).tables in
@@ -101,11 +98,11 @@ module _ (p m rd sk : List ℕ) (k : ℕ) (e : k ≡ min (length sk) 14) where
   by_check_lem : (c : Answer) → check_of p ≡ c
       → by_check p m rd (take k sk ++ drop k sk) c ≡ longer (drop k sk) (by_check p m rd (take k sk) c)
   unfolding by_check turn_refused
-  by_check_lem (Done size) a =
+  by_check_lem (Ok size) a =
       let f = has_few p size a in
       let n = ap length (take-append-drop k sk) in
       accepted_alike p m rd (take k sk) (drop k sk) (λ h. omega (arith, f, n, cut)) size
-  by_check_lem (Refused w) a = refl
+  by_check_lem (Err w) a = refl
 
   turn_first : turn_of p m rd sk ≡ longer (drop k sk) (turn_of p m rd (take k sk))
   unfolding turn_of

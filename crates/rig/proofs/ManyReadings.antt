@@ -1,6 +1,6 @@
 -- More readings than any program takes: refused as 63 words are, but for their number.
 -- Assumes nothing.
-use Rattle.std.specs.Prelude.{ℕ, ◌*◌, ◌/◌, ◌≤◌, ◌<◌, ◌≡◌, refl, ◌≢◌, List, length, take}
+use Rattle.std.specs.Prelude.{ℕ, ◌*◌, ◌/◌, ◌≤◌, ◌<◌, ◌≡◌, refl, ◌≢◌, List, length, take, Ok, Err}
 use Rattle.std.proofs.Common.{sym, ◌∙◌, ap, arith}
 use lib.Seq.{length-take-le}
 use Rattle.value.specs.Test.{◌=?◌}
@@ -8,18 +8,15 @@ use Rattle.value.proofs.Tests.{cases, eq×, eq!, eq?, no, yes, stops, goes}
 use Rattle.program.specs.Bytes.{globals}
 use Rattle.answer.specs.Answer.{number_of, refusal_number, refusal_place}
 use Rattle.load.specs.Check.{check_of}
-use Rattle.answer.specs.declared.Answer.{Answer}
-use Rattle.answer.specs.declared.Answer.TheVariants.{Done, Refused}
+use Rattle.answer.specs.Answer.{Answer}
 use Rattle.answer.specs.declared.Refusal.{Refusal}
 use Rattle.answer.specs.declared.Refusal.TheVariants.{MemoryLength, ReadingsLength, UnsoundImage}
 use Rattle.load.proofs.Exact.{exact}
 use Rattle.image.specs.Start.{words_legal}
 use Rattle.image.specs.Passes.{sound_of}
-use Rattle.image.specs.declared.Judged.{Judged}
-use Rattle.image.specs.declared.Judged.TheVariants.{Sound, Unsound}
+use Rattle.image.specs.Passes.{Judged}
 use Rattle.remus.specs.Turn.{Turn, turn_of, by_check, by_sound, by_asked, asked_of, turn_refused}
 use Rattle.remus.specs.Preview.{from_run}
-use Rattle.answer.specs.declared.Ruling.TheVariants.{Against}
 use Rattle.rig.specs.Words.{words_of, packed}
 use Rattle.rig.specs.Face.{one_number, Faced, faced, turn_faced}
 use Rattle.rig.specs.Clauses.{room_of, Runs, call_of, saves, held, call_held, placed_at}
@@ -49,21 +46,21 @@ module _ (p m rd rd₁ sk : List ℕ) where
 
   -- neither is as long as the program asks
   module _ (u : length rd ≢ 2 * globals p) (u₁ : length rd₁ ≢ 2 * globals p) where
-    unlike : asked_of p m rd sk ≡ Against (ReadingsLength (length rd))
+    unlike : asked_of p m rd sk ≡ Err (ReadingsLength (length rd))
     unfolding asked_of
     unlike = sym (stops _ (eq× u) refl)
 
-    unlike₁ : asked_of p m rd₁ sk ≡ Against (ReadingsLength (length rd₁))
+    unlike₁ : asked_of p m rd₁ sk ≡ Err (ReadingsLength (length rd₁))
     unfolding asked_of
     unlike₁ = sym (stops _ (eq× u₁) refl)
 
     judged : (j : Judged) → turn_faced (by_sound p m rd sk j) ≡ placed (length rd) (turn_faced (by_sound p m rd₁ sk j))
     unfolding by_sound by_asked
-    judged Sound = rw (unlike, unlike₁) (ten (length rd) (length rd₁))
-    judged (Unsound q) = not_ten (length rd) (UnsoundImage q) (λ e. omega arith)
+    judged (Ok tt) = rw (unlike, unlike₁) (ten (length rd) (length rd₁))
+    judged (Err q) = not_ten (length rd) (UnsoundImage q) (λ e. omega arith)
 
-    accepted : (size : ℕ) → turn_faced (by_check p m rd sk (Done size))
-        ≡ placed (length rd) (turn_faced (by_check p m rd₁ sk (Done size)))
+    accepted : (size : ℕ) → turn_faced (by_check p m rd sk (Ok size))
+        ≡ placed (length rd) (turn_faced (by_check p m rd₁ sk (Ok size)))
     unfolding by_check
     accepted size =
         cases (words_legal (length m))
@@ -73,17 +70,17 @@ module _ (p m rd rd₁ sk : List ℕ) where
         ∙ ap (λ (t : Turn). placed (length rd) (turn_faced t)) (stops _ e refl))
 
 -- an accepted program takes at most 62 words of readings
-takes_few : (p : List ℕ) (size : ℕ) → check_of p ≡ Done size → globals p ≤ 31
+takes_few : (p : List ℕ) (size : ℕ) → check_of p ≡ Ok size → globals p ≤ 31
 takes_few p size e = ((exact p).0 (ap number_of e)).tables.header.few_globals
 
 module _ (p m rd rd₁ sk : List ℕ) (l : 62 < length rd) (l₁ : 62 < length rd₁) where
   by_check_lem : (c : Answer) → check_of p ≡ c
       → turn_faced (by_check p m rd sk c) ≡ placed (length rd) (turn_faced (by_check p m rd₁ sk c))
   unfolding by_check
-  by_check_lem (Done size) e =
+  by_check_lem (Ok size) e =
       let g = takes_few p size e in
       accepted p m rd rd₁ sk (λ h. omega (arith, g)) (λ h. omega (arith, g)) size
-  by_check_lem (Refused w) e = not_ten p m rd rd₁ sk (length rd) w (check_else p w e).1
+  by_check_lem (Err w) e = not_ten p m rd rd₁ sk (length rd) w (check_else p w e).1
 
   turn_reads : turn_faced (turn_of p m rd sk) ≡ placed (length rd) (turn_faced (turn_of p m rd₁ sk))
   unfolding turn_of

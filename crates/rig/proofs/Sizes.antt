@@ -1,13 +1,12 @@
 -- A call in a room of words; and a memory of more words than any room has: refused by the check, else 8.
 -- Assumes nothing.
-use Rattle.std.specs.Prelude.{ℕ, ◌/◌, ◌<◌, ◌≡◌, refl, true, false, List, [], ◌++◌, length}
+use Rattle.std.specs.Prelude.{ℕ, ◌/◌, ◌<◌, ◌≡◌, refl, true, false, List, [], ◌++◌, length, Ok, Err}
 use Rattle.std.proofs.Common.{sym, ◌∙◌, ap, arith}
 use Rattle.value.specs.Test.{pick}
 use Rattle.value.proofs.Tests.{eq×, eq!, no, yes, stops, left×, right×, le×}
 use Rattle.load.specs.Check.{check_of}
 use Rattle.answer.specs.Answer.{refusal_number, refusal_place}
-use Rattle.answer.specs.declared.Answer.{Answer}
-use Rattle.answer.specs.declared.Answer.TheVariants.{Done, Refused}
+use Rattle.answer.specs.Answer.{Answer}
 use Rattle.answer.specs.declared.Refusal.{Refusal}
 use Rattle.answer.specs.declared.Refusal.TheVariants.{MemoryLength}
 use Rattle.image.specs.Memory.{most_words}
@@ -43,8 +42,8 @@ module _ (what : Call) (p src m w₀ w rd sk sk' : List ℕ) (a : ℕ) (e : w₀
 
 -- why its n words are refused
 abbrev why : ℕ → Answer → Refusal
-why n (Done size) = MemoryLength n
-why n (Refused w) = w
+why n (Ok size) = MemoryLength n
+why n (Err w) = w
 
 abbrev answer : Refusal → ℕ
 answer w = packed (refusal_number w) (refusal_place w)
@@ -52,13 +51,13 @@ answer w = packed (refusal_number w) (refusal_place w)
 module _ (p w rd sk : List ℕ) (l : words_legal (length w) ≡ false) where
   start_refused_lem : (c : Answer) → start_by p w c ≡ refused_start w (why (length w) c)
   unfolding start_by
-  start_refused_lem (Done size) = sym (stops _ l refl)
-  start_refused_lem (Refused v) = refl
+  start_refused_lem (Ok size) = sym (stops _ l refl)
+  start_refused_lem (Err v) = refl
 
   turn_refused_lem : (c : Answer) → by_check p w rd sk c ≡ turn_refused p w rd sk (why (length w) c)
   unfolding by_check
-  turn_refused_lem (Done size) = sym (stops _ l refl)
-  turn_refused_lem (Refused v) = refl
+  turn_refused_lem (Ok size) = sym (stops _ l refl)
+  turn_refused_lem (Err v) = refl
 
   call_refused : (what : Call) → call_of what p w rd sk ≡ faced (answer (why (length w) (check_of p))) w sk
   unfolding call_of start_of turn_of turn_faced one_number turn_refused refused_start
@@ -76,11 +75,11 @@ unfolding words_legal
 many n h = right× _ (le× h)
 
 -- a refusal of k words as that of n
-of_words : (n k : ℕ) (c : Answer) → ((w : Refusal) → c ≡ Refused w → Else (refusal_number w))
+of_words : (n k : ℕ) (c : Answer) → ((w : Refusal) → c ≡ Err w → Else (refusal_number w))
     → placed_at 8 n (answer (why k c)) ≡ answer (why n c)
 unfolding placed_at
-of_words n k (Done size) f = sym (yes _ (eq! (unpacked 8 k).0) refl)
-of_words n k (Refused w) f =
+of_words n k (Ok size) f = sym (yes _ (eq! (unpacked 8 k).0) refl)
+of_words n k (Err w) f =
     let u = (unpacked (refusal_number w) (refusal_place w)).0 in sym (no _ (eq× (λ e. (f w refl).0 (sym u ∙ e))) refl)
 
 -- what a call comes to, with the bytes m that hold its memory

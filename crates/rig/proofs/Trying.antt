@@ -1,12 +1,11 @@
 -- A preview on bytes: a turn in a room, or what its lengths are refused for.
 -- Assumes nothing.
-use Rattle.std.specs.Prelude.{ℕ, ◌/◌, ◌≡◌, refl, Bool, true, false, List, length}
+use Rattle.std.specs.Prelude.{ℕ, ◌/◌, ◌≡◌, refl, Bool, true, false, List, length, Ok, Err}
 use Rattle.std.proofs.Common.{sym, ◌∙◌, subst, arith}
 use Rattle.value.specs.Test.{pick, ◌=?◌, ◌and◌}
 use Rattle.value.proofs.Tests.{cases, clash, eq!, eq?, both!, both?, yes, no}
 use Rattle.answer.specs.Answer.{number_of, place_of}
-use Rattle.answer.specs.declared.Answer.{Answer}
-use Rattle.answer.specs.declared.Answer.TheVariants.{Done, Refused}
+use Rattle.answer.specs.Answer.{Answer}
 use Rattle.answer.specs.declared.Refusal.{Refusal}
 use Rattle.answer.specs.declared.Refusal.TheVariants.{MemoryLength, WorkLength}
 use Rattle.load.specs.Check.{check_of}
@@ -62,7 +61,7 @@ module _ (p m work rd sk : List ℕ) (h : Bytes work) where
     refused : (w : Refusal)
         → preview_of p (words_of m) (words_of work) (words_of rd) (words_of sk)
         ≡ preview_refused p (words_of m) (words_of work) (words_of rd) (words_of sk) w
-        → Shows (Refused w)
+        → Shows (Err w)
     unfolding faced preview_faced preview_bytes one_number preview_refused
     refused w e = rw (e, hold_same work h, hold_same sk k) refl
 
@@ -70,8 +69,8 @@ module _ (p m work rd sk : List ℕ) (h : Bytes work) where
     by_check_lem : (n j : ℕ) → n ≡ length (words_of m) → j ≡ length (words_of work) → ((j =? n) and words_legal n) ≡ false
         → (c : Answer) → check_of p ≡ c → Shows (unfit_of n j c)
     unfolding unfit_of
-    by_check_lem n j a b u (Refused w) e = refused w (at_program _ _ _ _ _ w e).1
-    by_check_lem n j a b u (Done size) e =
+    by_check_lem n j a b u (Err w) e = refused w (at_program _ _ _ _ _ w e).1
+    by_check_lem n j a b u (Ok size) e =
         cases (words_legal n)
         (λ l.
         let d = at_work _ _ _ _ _ size e (rw (← a) l) (λ q. clash (both! (eq! (b ∙ q ∙ sym a)) l) u) in

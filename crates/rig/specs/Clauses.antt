@@ -1,8 +1,7 @@
 -- What the contracts of the code speak of beside the definitions: what it answers and stores on the way.
-use Rattle.std.specs.Prelude.{ℕ, ◌+◌, ◌/◌, ◌%◌, ◌≤◌, ◌≡◌, Bool, true, List, length, set}
+use Rattle.std.specs.Prelude.{ℕ, ◌+◌, ◌/◌, ◌%◌, ◌≤◌, ◌≡◌, Bool, true, List, length, set, Ok, Err}
 use Rattle.value.specs.Test.{pick, ◌=?◌}
-use Rattle.answer.specs.declared.Answer.{Answer}
-use Rattle.answer.specs.declared.Answer.TheVariants.{Done, Refused}
+use Rattle.answer.specs.Answer.{Answer}
 use Rattle.answer.specs.declared.Refusal.TheVariants.{MemoryLength, WorkLength}
 use Rattle.image.specs.Memory.{most_words}
 use Rattle.image.specs.Start.{start_of, words_legal}
@@ -71,5 +70,5 @@ sinks_held sk f = faced f.answer f.memory (holding sk f.sink_space)
 
 -- its answer for n words of memory and k of work memory, by that of the check
 unfoldable pub unfit_of : ℕ → ℕ → Answer → Answer
-unfit_of n k (Done size) = pick (words_legal n) (Refused (WorkLength k)) (Refused (MemoryLength n))
-unfit_of n k (Refused w) = Refused w
+unfit_of n k (Ok size) = pick (words_legal n) (Err (WorkLength k)) (Err (MemoryLength n))
+unfit_of n k (Err w) = Err w

@@ -1,7 +1,7 @@
 -- 4.18 What a C caller gets: the calls on the words that its bytes hold.
 use Rattle.std.specs.Prelude.{ℕ, List}
 use Rattle.answer.specs.Answer.{place_of, number_of}
-use Rattle.answer.specs.declared.Answer.{Answer}
+use Rattle.answer.specs.Answer.{Answer}
 use Rattle.image.specs.Start as Start
 use Rattle.image.specs.Start.{start_of}
 use Rattle.remus.specs.Turn as Turn

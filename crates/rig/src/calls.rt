@@ -15,7 +15,7 @@ use crate::sinks::{SINK_WORDS, least, sink_in};
 use figure::figure;
 use haai::compile;
 use image::words_legal;
-use machine::{Answer, Refusal, check};
+use machine::{Answer, Refusal, check, number, place};
 
 // Check.
 #[unsafe(no_mangle)]
@@ -23,7 +23,7 @@ pub extern "C" fn remus_check(program: &[u8]) -> u64
     ensures { result ≡ one_number (check_of program.now) }
 {
     let c = check(program);
-    pack(c.number(), c.place())
+    pack(number(c), place(c))
 }
 
 // Figure.
@@ -32,7 +32,7 @@ pub extern "C" fn remus_figure(program: &[u8]) -> u64
     ensures { result ≡ one_number (figure_of program.now) }
 {
     let f = figure(program);
-    pack(f.number(), f.place())
+    pack(number(f), place(f))
 }
 
 // Compile. Text and output are bytes, so that nothing is copied.
@@ -42,7 +42,7 @@ pub extern "C" fn remus_compile(text: &[u8], output: &mut [u8]) -> u64
     ensures output { output.new ≡ (compile_of text.now output.old).output }
 {
     let c = compile(text, output);
-    pack(c.number(), c.place())
+    pack(number(c), place(c))
 }
 
 // Start. It takes no readings and has no sinks.
@@ -85,15 +85,11 @@ pub extern "C" fn remus_turn(
 fn unfit(program: &[u8], n: usize, k: usize) -> Answer
     ensures { result ≡ unfit_of n k (check_of program.now) }
 {
-    match check(program) {
-        Answer::Done(_) => {
-            if words_legal(n) {
-                return Answer::Refused(Refusal::WorkLength(k));
-            }
-            Answer::Refused(Refusal::MemoryLength(n))
-        }
-        Answer::Refused(w) => Answer::Refused(w),
+    check(program)?;
+    if words_legal(n) {
+        return Err(Refusal::WorkLength(k));
     }
+    Err(Refusal::MemoryLength(n))
 }
 
 // A preview. Its turn runs in a room with a copy of memory.
@@ -113,7 +109,7 @@ pub extern "C" fn remus_preview(
     let k = work.len() / 4;
     if !((k == n) & words_legal(n)) {
         let a = unfit(program, n, k);
-        return pack(a.number(), a.place());
+        return pack(number(a), place(a));
     }
     let j = least(sinks.len() / 4, SINK_WORDS);
     let mut room = [0u32; SINK_WORDS];

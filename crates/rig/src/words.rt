@@ -6,7 +6,7 @@ ghost use Rattle.remus.specs.Preview.{preview_of};
 ghost use Rattle.rig.specs.Face.{one_number, faced, turn_faced, preview_faced};
 
 use crate::pack::pack;
-use machine::{preview, start, turn};
+use machine::{number, place, preview, start, turn};
 
 // Start.
 #[unsafe(no_mangle)]
@@ -15,7 +15,7 @@ pub extern "C" fn remus_start_words(program: &[u8], memory: &mut [u32]) -> u64
     ensures memory { memory.new ≡ (start_of program.now memory.old).memory }
 {
     let s = start(program, memory);
-    pack(s.number(), s.place())
+    pack(number(s), place(s))
 }
 
 // A turn. The program is lent on as a part that is all of it: the compiler then hands its address and
@@ -33,7 +33,7 @@ pub extern "C" fn remus_turn_words(
 {
     let n = program.len();
     let t = turn(&program[..n], memory, readings, sinks);
-    pack(t.number(), t.place())
+    pack(number(t), place(t))
 }
 
 // A preview.
@@ -50,5 +50,5 @@ pub extern "C" fn remus_preview_words(
         faced result work.new sinks.new ≡ preview_faced (preview_of p m wk rd sk) }
 {
     let v = preview(program, memory, work, readings, sinks);
-    pack(v.number(), v.place())
+    pack(number(v), place(v))
 }

@@ -1,5 +1,5 @@
 -- Exact place: the ladder of soundness stops where the image is at fault.
-use Rattle.std.specs.Prelude.{ℕ, ◌+◌, ◌≤◌, ◌<◌, ◌≡◌, refl, ◌⊎◌, ◌↔◌, ◌≢◌, Bool, true}
+use Rattle.std.specs.Prelude.{ℕ, ◌+◌, ◌≤◌, ◌<◌, ◌≡◌, refl, ◌⊎◌, ◌↔◌, ◌≢◌, Bool, true, Ok, Err}
 use Rattle.std.proofs.Common.{sym, ◌∙◌, ap, subst, inl, inr}
 use Rattle.std.specs.Prelude.{false, List, length}
 use Rattle.std.proofs.Common.{true≢false, arith}
@@ -11,8 +11,7 @@ use Rattle.program.specs.Location.{size_of}
 use Rattle.image.specs.Memory.{most_words, main_at, used, turns, reactor, next, size_at}
 use Rattle.image.specs.Sound.{Tiles, done, more, In, here, there, Deployed}
 use Rattle.image.specs.Passes.{fresh_sound, grown_sound, by_turns, sound_of}
-use Rattle.image.specs.declared.Judged.{Judged}
-use Rattle.image.specs.declared.Judged.TheVariants.{Sound, Unsound}
+use Rattle.image.specs.Passes.{Judged}
 use Rattle.image.specs.Fault.{Framed, Own, Lowest, FreshFault, main, second, GrownFault, own, named, depth}
 use Rattle.image.specs.Fault.{FaultAt, frame, fresh, grown, ExactPlace}
 use Rattle.image.proofs.Memory.Tiles.{in_ge, in_to}
@@ -22,23 +21,23 @@ use Rattle.image.proofs.Exact.Rungs.{own_stops, named_says, named_stops, depth_s
 
 -- a ladder stops at a rung, with the rung's place, or goes on
 rung : (t : Bool) (n q : ℕ) (go_on : Unit {0} → Judged) →
-    (guard t (Unsound n) go_on ≡ Unsound q) ↔ (((t ≡ false) × (n ≡ q)) ⊎ ((t ≡ true) × (go_on tt ≡ Unsound q)))
+    (guard t (Err n) go_on ≡ Err q) ↔ (((t ≡ false) × (n ≡ q)) ⊎ ((t ≡ true) × (go_on tt ≡ Err q)))
 unfolding guard
 rung true n q go_on = (λ e. inr (refl, e), λ h. elim h [ inl k ↦ absurd (true≢false k.0) | inr k ↦ k.1 ])
 rung false n q go_on =
-    (λ e. inl (refl, cc), λ h. elim h [ inl k ↦ ap Unsound k.1 | inr k ↦ absurd (false≢true k.0) ])
+    (λ e. inl (refl, cc), λ h. elim h [ inl k ↦ ap Err k.1 | inr k ↦ absurd (false≢true k.0) ])
 
 -- the last rung
-last_rung : (t : Bool) (n q : ℕ) → (guard t (Unsound n) (λ _. Sound) ≡ Unsound q) ↔ ((t ≡ false) × (n ≡ q))
+last_rung : (t : Bool) (n q : ℕ) → (guard t (Err n) (λ _. (Ok tt)) ≡ Err q) ↔ ((t ≡ false) × (n ≡ q))
 last_rung t n q =
-    let w = rung t n q (λ _. Sound) in
+    let w = rung t n q (λ _. (Ok tt)) in
     (λ e. elim (w.0 e) [ inl k ↦ k | inr k ↦ absurd (unsound_not q (sym k.1)) ], λ h. w.1 (inl h))
 
 module _ (p m : List ℕ) where
   -- ---- turns above 0
 
   module _ (laid : Laid p m) (z : next m main_at ≡ 0) where
-    grown_fault : (q : ℕ) → grown_sound p m (starts p m) ≡ Unsound q → GrownFault p m q
+    grown_fault : (q : ℕ) → grown_sound p m (starts p m) ≡ Err q → GrownFault p m q
     unfolding grown_sound
     grown_fault q e =
         elim ((rung _ _ q _).0 e) [
@@ -54,7 +53,7 @@ module _ (p m : List ℕ) where
               ]
         ]
 
-    grown_stops : {q : ℕ} → GrownFault p m q → grown_sound p m (starts p m) ≡ Unsound q
+    grown_stops : {q : ℕ} → GrownFault p m q → grown_sound p m (starts p m) ≡ Err q
     unfolding grown_sound
     grown_stops {q} (own l) = (rung _ _ q _).1 (inl ((own_stops p m laid z q).1 l))
     grown_stops {q} (named o l) =
@@ -79,7 +78,7 @@ module _ (p m : List ℕ) where
       subst (Deployed p m) size (second_in (used m) f.tiles (in_to p f.main) (λ z. n (sym z ∙ size)))
 
   module _ (f : Framed p m) (z : next m main_at ≡ 0) where
-    fresh_fault : (q : ℕ) → fresh_sound p m ≡ Unsound q → FreshFault p m q
+    fresh_fault : (q : ℕ) → fresh_sound p m ≡ Err q → FreshFault p m q
     unfolding fresh_sound
     fresh_fault q e =
         let says = main_says p m f.first z in
@@ -90,7 +89,7 @@ module _ (p m : List ℕ) where
               subst (FreshFault p m) l.1 (second (says.0 h.0) (second_at f (eq×? l.0)))
         ]
 
-    fresh_stops : {q : ℕ} → FreshFault p m q → fresh_sound p m ≡ Unsound q
+    fresh_stops : {q : ℕ} → FreshFault p m q → fresh_sound p m ≡ Err q
     unfolding fresh_sound
     fresh_stops (main n) = (rung _ _ main_at _).1 (inl ((says× (main_says p m f.first z)).1 n, refl))
     fresh_stops {q} (second g d) =
@@ -126,12 +125,12 @@ module _ (p m : List ℕ) where
 
   module _ (few : reactors p ≤ most_reactors) (small : length m ≤ most_words) where
     turns_fault : (q : ℕ) → Framed p m → next m main_at ≡ 0 → (t : Bool) → (turns m =? 0) ≡ t →
-        by_turns p m t ≡ Unsound q → FaultAt p m q
+        by_turns p m t ≡ Err q → FaultAt p m q
     unfolding by_turns
     turns_fault q f z true w e = fresh f (eq? w) (fresh_fault f z q e)
     turns_fault q f z false w e = grown f (eq×? w) (grown_fault (framed_laid p m few small f) z q e)
 
-    fault_at : (q : ℕ) → sound_of p m ≡ Unsound q → FaultAt p m q
+    fault_at : (q : ℕ) → sound_of p m ≡ Err q → FaultAt p m q
     unfolding sound_of
     fault_at q e =
         elim ((rung _ _ q _).0 e) [
@@ -146,7 +145,7 @@ module _ (p m : List ℕ) where
 
     -- past the frame, where main's next is the fault and where it is not
     stops_at : (q : ℕ) → Framed p m → (next m main_at ≢ 0 → main_at ≡ q) →
-        (next m main_at ≡ 0 → by_turns p m (turns m =? 0) ≡ Unsound q) → sound_of p m ≡ Unsound q
+        (next m main_at ≡ 0 → by_turns p m (turns m =? 0) ≡ Err q) → sound_of p m ≡ Err q
     unfolding sound_of
     stops_at q f at_main past =
         (rung _ _ q _).1 (inr (
@@ -154,7 +153,7 @@ module _ (p m : List ℕ) where
           (rung _ _ q _).1 (cases (next m main_at =? 0) (λ e. inr (e, past (eq? e))) (λ e. inl (e, at_main (eq×? e)))),
         ))
 
-    fault_stops : {q : ℕ} → FaultAt p m q → sound_of p m ≡ Unsound q
+    fault_stops : {q : ℕ} → FaultAt p m q → sound_of p m ≡ Err q
     unfolding sound_of by_turns
     fault_stops (frame n) = (rung _ _ 0 _).1 (inl ((says× (framed_says p m)).1 n, refl))
     fault_stops {q} (fresh f t g) =

@@ -1,5 +1,5 @@
 -- A program is refused for its first fault, with its place: `first_fault`, and with it `check_numbers`.
-use Rattle.std.specs.Prelude.{ℕ, zero, suc, ◌+◌, ◌-◌, ◌≤◌, ◌<◌, ◌≡◌, refl}
+use Rattle.std.specs.Prelude.{ℕ, zero, suc, ◌+◌, ◌-◌, ◌≤◌, ◌<◌, ◌≡◌, refl, Ok, Err}
 use Rattle.std.proofs.Common.{sym, ◌∙◌, ap, subst₂, inl, inr, ⊎_elim}
 use Rattle.std.specs.Prelude.{◌↔◌, ◌≢◌, Bool, true, false, List, length}
 use Rattle.std.proofs.Math.Logic.Iff.{trans as iff_trans}
@@ -27,8 +27,7 @@ use Rattle.load.specs.Fault.{sink_missing, Reached, Fault, length_wrong, header_
 use Rattle.load.specs.Fault.{not_whole, command, missing, FirstFault, CheckNumber, CheckNumbers}
 use Rattle.answer.specs.declared.Refusal.{Refusal}
 use Rattle.answer.specs.declared.Refusal.TheVariants.{ProgramLength, TableByte, Missing}
-use Rattle.answer.specs.declared.Answer.{Answer}
-use Rattle.answer.specs.declared.Answer.TheVariants.{Done, Refused}
+use Rattle.answer.specs.Answer.{Answer}
 use Rattle.answer.proofs.Refusals.{Told, told}
 use Rattle.load.proofs.Exact.Bytes.{header, tables, header_first}
 use Rattle.load.proofs.Exact.ByteFaults.{none_exact, lowest_found, lowest_is, header_exact, header_bounds}
@@ -130,7 +129,7 @@ at_command_lem q (unlike f y l h) = (refl, refl)
 at_command_lem q (disordered f y l a o) = order_number q o
 
 -- the refusal w is the one found
-as_fault : (p : List ℕ) (v w : Refusal) {n q : ℕ} → Refused v ≡ Refused w → refusal_number v ≡ n → refusal_place v ≡ q →
+as_fault : (p : List ℕ) (v w : Refusal) {n q : ℕ} → ◌≡◌ {A = Answer} (Err v) (Err w) → refusal_number v ≡ n → refusal_place v ≡ q →
     Fault p n q → Fault p (refusal_number w) (refusal_place w)
 as_fault p v w e a b f =
     let same : v ≡ w = cc in
@@ -141,7 +140,7 @@ module _ (p : List ℕ) (t : TablesRight p) where
   whole r = scan_of (commands_in p r) p r (begin_of p r)
 
   abbrev rest : ℕ → ℕ → Answer
-  rest n r = reactors_of (Done (size_of p (main_of p))) n p r
+  rest n r = reactors_of (Ok (size_of p (main_of p))) n p r
 
   -- what reactor r comes to, `more` being what the reactors after it come to
   abbrev at : (Unit {0} → Answer) → ℕ → Answer
@@ -154,13 +153,13 @@ module _ (p : List ℕ) (t : TablesRight p) where
   ended_goes more entry u (suc n) z e = absurd (omega arith)
 
   ended_misses : (more : Unit {0} → Answer) (entry : ℕ) (u : Scanned) (n : ℕ) → n ≡ 0 → complete u.scan ≡ false →
-      ended more entry u n ≡ Refused (Missing entry)
+      ended more entry u n ≡ Err (Missing entry)
   unfolding ended
   ended_misses more entry u zero z e = sym (stops _ e refl)
   ended_misses more entry u (suc n) z e = absurd (omega arith)
 
   ended_stops : (more : Unit {0} → Answer) (entry : ℕ) (u : Scanned) (n : ℕ) → n ≢ 0 →
-      ended more entry u n ≡ Refused (at_command n u.place)
+      ended more entry u n ≡ Err (at_command n u.place)
   unfolding ended
   ended_stops more entry u zero h = absurd (h refl)
   ended_stops more entry u (suc n) h = refl
@@ -169,7 +168,7 @@ module _ (p : List ℕ) (t : TablesRight p) where
   unfolding reactors_of
   step n r = refl
 
-  none_left : (r : ℕ) → rest 0 r ≡ Done (size_of p (main_of p))
+  none_left : (r : ℕ) → rest 0 r ≡ Ok (size_of p (main_of p))
   unfolding reactors_of
   none_left r = refl
 
@@ -199,12 +198,12 @@ module _ (p : List ℕ) (t : TablesRight p) where
   abbrev accepts : ℕ → Bool
   accepts r = ((whole r).code =? 0) and complete (whole r).scan
 
-  accepted_not : (z : ℕ) (w : Refusal) → Done z ≡ Refused w → ⊥
+  accepted_not : (z : ℕ) (w : Refusal) → Ok z ≡ Err w → ⊥
   accepted_not z w e = let x : ◌≡◌ {A = ℕ} 0 1 = cc in omega arith
 
   module _ (w : Refusal) where
     command_fault : (r : ℕ) → Reached p r → (whole r).code ≢ 0 →
-        Refused (at_command (whole r).code (whole r).place) ≡ Refused w → Fault p (refusal_number w) (refusal_place w)
+        ◌≡◌ {A = Answer} (Err (at_command (whole r).code (whole r).place)) (Err w) → Fault p (refusal_number w) (refusal_place w)
     command_fault r a d e =
         let f = scan_found p r (commands_in p r) (begin_of p r) d in
         let k = f.0 in
@@ -213,11 +212,11 @@ module _ (p : List ℕ) (t : TablesRight p) where
         let number = at_command_lem (command_at p r k) first in
         let l = f.1 in
         let passed = (passed_exact p r t a.1 k (omega arith)).0 f.2 in
-        as_fault p _ w (ap (λ (v : Scanned). Refused (at_command v.code v.place)) (sym s) ∙ e)
+        as_fault p _ w (ap (λ (v : Scanned). Err (at_command v.code v.place)) (sym s) ∙ e)
         number.0 number.1 (command a f.1 passed first)
 
     reactor_found : (r : ℕ) → r < reactors p → ((q : ℕ) → q < r → ReactorAccepted p q) → accepts r ≡ false →
-        rest (reactors p) 0 ≡ Refused w → Fault p (refusal_number w) (refusal_place w)
+        rest (reactors p) 0 ≡ Err w → Fault p (refusal_number w) (refusal_place w)
     reactor_found r low before fails e =
         let reached : Reached p r = (t, low, λ q l. (reactor_exact p q t (omega arith)).0 (before q l)) in
         let comes = sym (reach r low before) ∙ e in
@@ -231,7 +230,7 @@ module _ (p : List ℕ) (t : TablesRight p) where
         (λ d. command_fault r reached d (sym (ended_stops _ (entry_at p r) (whole r) (whole r).code d) ∙ comes))
         (same? (whole r).code 0)
 
-    reactors_found : rest (reactors p) 0 ≡ Refused w → Fault p (refusal_number w) (refusal_place w)
+    reactors_found : rest (reactors p) 0 ≡ Err w → Fault p (refusal_number w) (refusal_place w)
     reactors_found e =
         let s = swept accepts 0 (reactors p) in
         let r = sweep accepts 0 (reactors p) in
@@ -252,16 +251,16 @@ module _ (p : List ℕ) (t : TablesRight p) where
   accepted_before r low h q l = (reactor_exact p q t (omega arith)).1 (h q l)
 
   command_refuses : {r k n : ℕ} → r < reactors p → ((q : ℕ) → q < r → ReactorRule p q) → k < commands_in p r →
-      Passed p r k → First p r k (cmd_of p r k) n → rest (reactors p) 0 ≡ Refused (at_command n (command_at p r k))
+      Passed p r k → First p r k (cmd_of p r k) n → rest (reactors p) 0 ≡ Err (at_command n (command_at p r k))
   command_refuses {r} {k} {n} low h few passed f =
       let s = stopped p r t low k few ((passed_exact p r t low k (omega arith)).1 passed) n f in
       reach r low (accepted_before r low h)
       ∙ ended_stops _ (entry_at p r) (whole r) (whole r).code
       (λ z. first_counts f (ap (λ (v : Scanned). v.code) (sym s) ∙ z))
-      ∙ ap (λ (v : Scanned). Refused (at_command v.code v.place)) s
+      ∙ ap (λ (v : Scanned). Err (at_command v.code v.place)) s
 
   missing_refuses : {r : ℕ} → r < reactors p → ((q : ℕ) → q < r → ReactorRule p q) →
-      Passed p r (commands_in p r) → Lacks p r → rest (reactors p) 0 ≡ Refused (Missing (entry_at p r))
+      Passed p r (commands_in p r) → Lacks p r → rest (reactors p) 0 ≡ Err (Missing (entry_at p r))
   missing_refuses {r} low h passed lacks =
       let z = (passed_exact p r t low (commands_in p r) (omega arith)).1 passed in
       reach r low (accepted_before r low h)
@@ -330,21 +329,21 @@ module _ (p : List ℕ) where
         }
 
   abbrev last : Answer
-  last = reactors_of (Done (size_of p (main_of p))) (reactors p) p 0
+  last = reactors_of (Ok (size_of p (main_of p))) (reactors p) p 0
 
   abbrev from_whole : Answer
-  from_whole = guard (length p =? whole_length p) (Refused (ProgramLength (length p))) (λ _. last)
+  from_whole = guard (length p =? whole_length p) (Err (ProgramLength (length p))) (λ _. last)
 
   abbrev from_table : Answer
-  from_table = guard (table_place =? tables_end p) (Refused (TableByte table_place)) (λ _. from_whole)
+  from_table = guard (table_place =? tables_end p) (Err (TableByte table_place)) (λ _. from_whole)
 
   abbrev from_cut : Answer
-  from_cut = guard (tables_end p ≤? length p) (Refused (ProgramLength (length p))) (λ _. from_table)
+  from_cut = guard (tables_end p ≤? length p) (Err (ProgramLength (length p))) (λ _. from_table)
 
   abbrev from_header : Answer
-  from_header = guard (header_place =? header_end) (Refused (TableByte header_place)) (λ _. from_cut)
+  from_header = guard (header_place =? header_end) (Err (TableByte header_place)) (λ _. from_cut)
 
-  ladder : check_of p ≡ guard length_test (Refused (ProgramLength (length p))) (λ _. from_header)
+  ladder : check_of p ≡ guard length_test (Err (ProgramLength (length p))) (λ _. from_header)
   unfolding check_of
   ladder = refl
 
@@ -353,7 +352,7 @@ module _ (p : List ℕ) where
     Found = Fault p (refusal_number w) (refusal_place w)
 
     abbrev Is : Answer → Type 0
-    Is c = c ≡ Refused w
+    Is c = c ≡ Err w
 
     found_table : Between (tables_end p) most_bytes (length p) → HeaderRule p → Is from_table → Found
     found_table b h e =
@@ -406,7 +405,7 @@ module _ (p : List ℕ) where
       (sym (goes _ _ (eq! t.whole) (sym e)))
 
   -- a refusal is given with the number and place of the fault
-  pub fault_given : {n q : ℕ} → Fault p n q → Told (λ v. check_of p ≡ Refused v) n q
+  pub fault_given : {n q : ℕ} → Fault p n q → Told (λ v. check_of p ≡ Err v) n q
   fault_given (length_wrong h) =
       (ProgramLength (length p), ladder ∙ sym (stops _ ((says× length_says).1 h) refl), refl, refl)
   fault_given (header_byte {i} b l) =
@@ -431,7 +430,7 @@ module _ (p : List ℕ) where
       (Missing (entry_at p r), tables_past a.0 (missing_refuses p a.0 a.1 a.2 passed lacks), refl, refl)
 
 pub first_fault : FirstFault
-first_fault p w = (found p w, λ f. told (λ v. check_of p ≡ Refused v) w (fault_given p f))
+first_fault p w = (found p w, λ f. told (λ v. check_of p ≡ Err v) w (fault_given p f))
 
 -- ---- the numbers
 
@@ -466,5 +465,5 @@ pub check_numbers : CheckNumbers
 check_numbers p = by (check_of p) refl
   where
     by : (c : Answer) → check_of p ≡ c → CheckNumber (number_of (check_of p))
-    by (Done size) e = rw e (inl (omega arith))
-    by (Refused w) e = rw e (fault_number ((first_fault p w).0 e))
+    by (Ok size) e = rw e (inl (omega arith))
+    by (Err w) e = rw e (fault_number ((first_fault p w).0 e))

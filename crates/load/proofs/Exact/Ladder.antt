@@ -1,5 +1,5 @@
 -- The ladder of the check: a program is accepted where it passes each step.
-use Rattle.std.specs.Prelude.{ℕ, zero, suc, ◌+◌, ◌-◌, ◌≤◌, ◌<◌, ◌≡◌, refl, ◌↔◌, true, List, length}
+use Rattle.std.specs.Prelude.{ℕ, zero, suc, ◌+◌, ◌-◌, ◌≤◌, ◌<◌, ◌≡◌, refl, ◌↔◌, true, List, length, Ok, Err}
 use Rattle.std.proofs.Common.{ap, arith}
 use Rattle.value.proofs.Tests.{le!, le?, eq!, eq?, both!, both?, guards}
 use Rattle.value.proofs.Sweeps.{from_more, Passes, sweeps?}
@@ -15,8 +15,7 @@ use Rattle.answer.proofs.Refusals.{refusal_counts}
 use Rattle.load.proofs.Exact.Bytes.{header_first}
 use Rattle.answer.specs.declared.Refusal.{Refusal}
 use Rattle.answer.specs.declared.Refusal.TheVariants.{Missing}
-use Rattle.answer.specs.declared.Answer.{Answer}
-use Rattle.answer.specs.declared.Answer.TheVariants.{Done, Refused}
+use Rattle.answer.specs.Answer.{Answer}
 
 -- the steps, in the order of the check
 pub record Passed (p : List ℕ) : Type 0 where
@@ -29,12 +28,12 @@ pub record Passed (p : List ℕ) : Type 0 where
   pub every_reactor : (r : ℕ) → r < reactors p → ReactorAccepted p r
 
 -- Of a property that no refusal has: the check's answer has it where each step is passed and the last answer has it.
-module _ (P : Answer → Type 0) (never : (w : Refusal) → P (Refused w) → ⊥) where
+module _ (P : Answer → Type 0) (never : (w : Refusal) → P (Err w) → ⊥) where
   ends : (more : Unit {0} → Answer) (entry : ℕ) (t : Scanned) (n : ℕ) →
       P (ended more entry t n) ↔ ((n ≡ 0) × (complete t.scan ≡ true) × P (more tt))
   unfolding ended
   ends more entry t zero =
-      let g = guards P (complete t.scan) (Refused (Missing entry)) more (never _) in
+      let g = guards P (complete t.scan) (Err (Missing entry)) more (never _) in
       (λ h. let a = g.0 h in (refl, a.0, a.1), λ h. g.1 (h.1, h.2))
   ends more entry t (suc n) = (λ h. absurd (never _ h), λ h. absurd (omega (arith, h.0)))
 
@@ -55,13 +54,13 @@ module _ (P : Answer → Type 0) (never : (w : Refusal) → P (Refused w) → �
             here.1 (a.0, a.1, rest.1 (λ i l m. h.0 i (omega arith) (omega arith), h.1)),
       )
 
-  passes : (p : List ℕ) → P (check_of p) ↔ (Passed p × P (Done (size_of p (main_of p))))
+  passes : (p : List ℕ) → P (check_of p) ↔ (Passed p × P (Ok (size_of p (main_of p))))
   unfolding check_of
   passes p =
       let header = sweeps? (header_legal p) 0 header_end header_end refl in
       let after = header_first p in
       let table = sweeps? (table_legal p) header_end (tables_end p - header_end) (tables_end p) (omega arith) in
-      let rest = reactors_pass (Done (size_of p (main_of p))) (reactors p) p 0 in (
+      let rest = reactors_pass (Ok (size_of p (main_of p))) (reactors p) p 0 in (
         λ h.
             let a = (guards P _ _ _ (never _)).0 h in
             let b = (guards P _ _ _ (never _)).0 a.1 in
@@ -108,6 +107,6 @@ accepted p =
 
 pub accepted_size : AcceptedSize
 accepted_size p h =
-    (passes (λ (c : Answer). c ≡ Done (size_of p (main_of p)))
+    (passes (λ (c : Answer). c ≡ Ok (size_of p (main_of p)))
     (λ w e. let z : refusal_number w ≡ 0 = ap number_of e in omega (arith, refusal_counts w)) p).1
     ((accepted p).0 h, refl)

@@ -5,7 +5,7 @@
 -- is too deep or has no room, and only there (`stops`, `stops_deep`, `stops_full`); as main leaves, its sinks are noted
 -- (`written`), what was kept waits (`keepable_end`) and the image is whole (`whole`); the used words grow by what is
 -- allocated (`made`).
-use Rattle.std.specs.Prelude.{ℕ, ◌+◌, ◌-◌, ◌≤◌, ◌<◌, ◌≡◌, refl, ◌⊎◌, ◌≢◌, List, []}
+use Rattle.std.specs.Prelude.{ℕ, ◌+◌, ◌-◌, ◌≤◌, ◌<◌, ◌≡◌, refl, ◌⊎◌, ◌≢◌, List, [], Ok}
 use Rattle.std.proofs.Common.{sym, ◌∙◌, ap, subst, inl, inr}
 use Rattle.std.specs.Prelude.{◌∷◌, length}
 use Rattle.std.proofs.Common.{arith}
@@ -24,7 +24,6 @@ use Rattle.image.proofs.Memory.Tiles.{in_reactor}
 use Rattle.image.proofs.Memory.Changes.{Same, same_value}
 use Rattle.remus.specs.Run.{Ran, ran, stopped, main_run}
 use Rattle.remus.specs.Turn.{asked_of}
-use Rattle.answer.specs.declared.Ruling.TheVariants.{Fine}
 use Rattle.remus.specs.Walk.{Note, location, Frame, State, Next, go, stop, over, step, Reach, stay, on, begun}
 use Rattle.remus.specs.Walk.{Input}
 use Rattle.remus.specs.Point.{◌∈◌, Within, Can, ReadsWell, Allocation, StepAllocates, WalkAllocates}
@@ -54,7 +53,7 @@ module _ (p : List ℕ) (rules : Rules p) (w : List ℕ) (few : length w ≤ 163
   pub begun_holds : Inv p w (begun p w)
   begun_holds = Begin.begun_holds p known w sound
 
-  module _ (allowed : asked_of p w t.readings t.sink_space ≡ Fine) where
+  module _ (allowed : asked_of p w t.readings t.sink_space ≡ Ok tt) where
     legal : Legal p t.readings
     legal = globals_legal p w t.readings t.sink_space allowed
 
@@ -189,7 +188,7 @@ module _ (p : List ℕ) (rules : Rules p) (w : List ℕ) (few : length w ≤ 163
 
   -- ---- the walk's end, and the run's
 
-  pub walk_ends : asked_of p w t.readings t.sink_space ≡ Fine →
+  pub walk_ends : asked_of p w t.readings t.sink_space ≡ Ok tt →
       ((s : State) × Leaves p w t s × (main_run p t.readings w ≡ ran s.words)) ⊎ ((s : State) × (v : Refusal)
       × (m : List ℕ) × During p w t s × (step p t.readings s ≡ stop v) × (main_run p t.readings w ≡ stopped v m))
   unfolding main_run begun

@@ -1,5 +1,5 @@
 -- Readings that 10 and 11 do not refuse are legal: every global is of its declared kind.
-use Rattle.std.specs.Prelude.{ℕ, zero, suc, ◌+◌, ◌≡◌, refl, List}
+use Rattle.std.specs.Prelude.{ℕ, zero, suc, ◌+◌, ◌≡◌, refl, List, Ok}
 use Rattle.std.proofs.Common.{sym, inr, arith}
 use Rattle.value.specs.Value.{mark_of, number_kind}
 use Rattle.value.proofs.Tests.{eq!, yes}
@@ -7,11 +7,10 @@ use Rattle.program.specs.Bytes.{global_kind}
 use Rattle.program.specs.Kind.{OfKind}
 use Rattle.remus.specs.Exec.{global_value}
 use Rattle.remus.specs.Turn.{asked_of, reading_at}
-use Rattle.answer.specs.declared.Ruling.TheVariants.{Fine}
 use Rattle.remus.proofs.Walk.Walking.{Legal}
 use Rattle.remus.proofs.Fits.{fits}
 
-pub globals_legal : (p w rd sk : List ℕ) → asked_of p w rd sk ≡ Fine → Legal p rd
+pub globals_legal : (p w rd sk : List ℕ) → asked_of p w rd sk ≡ Ok tt → Legal p rd
 unfolding global_value
 globals_legal p w rd sk e m zero h = time
   where

@@ -9,19 +9,19 @@ use Rattle.figure.proofs.calls.figure.Goals as goal
 pub figured-requires : goal.figured-requires
 unfolding checked
 figured-requires c = let at_judge = c.judge in
-    let fine = c.in-Fine.is in
+    let fine = c.in-Ok.is in
     let accepted = rw fine at at_judge.ensures.ruling in
     record { facts = at_judge.ensures.facts fine; some = ((exact _).0 (ap number_of (sym accepted))).tables.header.some_reactor }
 
-pub returns-in-Fine : goal.returns-in-Fine
+pub returns-in-Ok : goal.returns-in-Ok
 unfolding figure_of figured_by checked
-returns-in-Fine c = let fine = c.in-Fine.is in
+returns-in-Ok c = let fine = c.in-Ok.is in
     let accepted = rw fine at c.judge.ensures.ruling in
     rw (← accepted) c.figured.ensures
 
-pub returns-in-Against : goal.returns-in-Against
+pub returns-in-Err : goal.returns-in-Err
 unfolding figure_of figured_by checked
-returns-in-Against c = let refused = rw c.in-Against.is at c.judge.ensures.ruling in
+returns-in-Err c = let refused = rw c.in-Err.is at c.judge.ensures.ruling in
     rw (← refused)
 
 pub judge-requires : goal.judge-requires

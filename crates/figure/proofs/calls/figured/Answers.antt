@@ -1,9 +1,8 @@
-use Rattle.std.specs.Prelude.{ℕ, ◌+◌, ◌≤◌, ◌<◌, ◌≡◌, refl, not, List, get_or}
+use Rattle.std.specs.Prelude.{ℕ, ◌+◌, ◌≤◌, ◌<◌, ◌≡◌, refl, not, List, get_or, Ok, Err}
 use Rattle.std.proofs.Common.{◌∙◌, ap, arith}
 use Rattle.value.proofs.Tests.{eq!, eq×, le!, le×, goes, stops}
 use Rattle.value.proofs.Sweeps.{swept}
 use Rattle.program.specs.Bytes.{reactors, main_of}
-use Rattle.answer.specs.declared.Answer.TheVariants.{Done, Refused}
 use Rattle.answer.specs.declared.Refusal.TheVariants.{Circular, FigureTooLarge}
 use Rattle.image.specs.Memory.{most_words, main_at}
 use Rattle.figure.specs.Steps.{reached, circular}
@@ -17,7 +16,7 @@ pub returns-then-q-n : goal.returns-then-q-n
 unfolding figured
 returns-then-q-n c = let q = c.lowest_circular-q.ensures in
     let n = c.reactors-n.ensures in
-    stops _ (eq× (λ e. omega arith)) (ap (λ r. Refused (Circular r)) q)
+    stops _ (eq× (λ e. omega arith)) (ap (λ r. Err (Circular r)) q)
 
 -- where no reactor is circular: t are the bounds, cut, and m is main
 module _ (p t : List ℕ) {q n m : ℕ} (found : q ≡ lowest_circular p (reached p)) (count : n ≡ reactors p) (none : n ≤ q)
@@ -31,13 +30,13 @@ module _ (p t : List ℕ) {q n m : ℕ} (found : q ≡ lowest_circular p (reache
   bound : get_or t m 0 ≡ capped (bound_of p (main_of p))
   bound = bounds m low ∙ ap (λ r. capped (bound_of p r)) main
 
-  given : main_at + get_or t m 0 ≤ most_words → Done (main_at + get_or t m 0) ≡ figured p
+  given : main_at + get_or t m 0 ≤ most_words → Ok (main_at + get_or t m 0) ≡ figured p
   unfolding figured words_needed
   given h =
       let e : get_or t m 0 ≡ bound_of p (main_of p) = capped_is bound (omega arith) in
-      goes _ _ (eq! straight) (goes _ _ (le! (omega arith)) (ap (λ k. Done (main_at + k)) e))
+      goes _ _ (eq! straight) (goes _ _ (le! (omega arith)) (ap (λ k. Ok (main_at + k)) e))
 
-  too_large : most_words < main_at + get_or t m 0 → Refused FigureTooLarge ≡ figured p
+  too_large : most_words < main_at + get_or t m 0 → Err FigureTooLarge ≡ figured p
   unfolding figured words_needed
   too_large h = goes _ _ (eq! straight) (stops _ (le× (omega (arith, h, capped_least bound))) refl)
 

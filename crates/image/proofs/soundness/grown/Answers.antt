@@ -1,19 +1,18 @@
 use Rattle.image.specs.Passes.{grown_sound}
-use Rattle.image.specs.declared.Judged.TheVariants.{Unsound}
 use Rattle.value.proofs.Tests.{goes, stops, eq!, eq×}
-use Rattle.std.specs.Prelude.{refl}
+use Rattle.std.specs.Prelude.{refl, Err}
 use Rattle.std.proofs.Common.{◌∙◌, ap, arith}
 use Rattle.image.proofs.soundness.grown.Goals as goal
 
 pub returns-then-own-ne0 : goal.returns-then-own-ne0
 unfolding grown_sound
 returns-then-own-ne0 c = let own = c.run_pass-own.ensures in
-    stops _ (eq× (λ e. c.if-own-ne0.true (own ∙ e))) (ap Unsound own)
+    stops _ (eq× (λ e. c.if-own-ne0.true (own ∙ e))) (ap Err own)
 
 pub returns-then-named-ne0 : goal.returns-then-named-ne0
 unfolding grown_sound
 returns-then-named-ne0 c = let named = c.run_pass-named.ensures in
-    goes _ _ (eq! (omega arith)) (stops _ (eq× (λ e. c.if-named-ne0.true (named ∙ e))) (ap Unsound named))
+    goes _ _ (eq! (omega arith)) (stops _ (eq× (λ e. c.if-named-ne0.true (named ∙ e))) (ap Err named))
 
 pub returns-then-run_pass-ne0 : goal.returns-then-run_pass-ne0
 unfolding grown_sound

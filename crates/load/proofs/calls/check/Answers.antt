@@ -1,28 +1,27 @@
 use Rattle.load.proofs.Exact.{exact}
 use Rattle.load.specs.Check.{checked}
 use Rattle.answer.specs.Answer.{number_of}
-use Rattle.answer.specs.declared.Answer.TheVariants.{Done}
 use Rattle.program.specs.Bytes.{main_of}
 use Rattle.program.specs.Location.{size_of}
-use Rattle.std.specs.Prelude.{refl}
+use Rattle.std.specs.Prelude.{refl, Ok}
 use Rattle.std.proofs.Common.{sym, ◌∙◌, ap, arith}
+use Rattle.std.proofs.lemmas.Result.{err_from_is_err_and}
 use Rattle.load.proofs.calls.check.Goals as goal
 
-pub returns-in-Fine : goal.returns-in-Fine
+pub returns : goal.returns
 unfolding checked main_of
-returns-in-Fine c = let at_judge = c.judge in
-    let fine = c.in-Fine.is in
-    let p = c.args.program.now in
-    let e = rw fine at at_judge.ensures.ruling in
+returns c = let p = c.args.program.now in
+    let e = c.in_ok-judge.ensures.ruling in
     let header = ((exact p).0 (ap number_of (sym e))).tables.header in
     let main = c.main_of.ensures in
-    let told = c.fact.ensures.known p (at_judge.ensures.facts fine)
+    let told = c.fact.ensures.known p (c.in_ok-judge.ensures.facts refl)
     (omega (arith, main, header.some_reactor)) in
-    ap Done (c.size.ensures.is p _ told ∙ ap (size_of p) main) ∙ e
+    ap Ok (c.size.ensures.is p _ told ∙ ap (size_of p) main) ∙ e
 
-pub returns-in-Against : goal.returns-in-Against
+pub returns-in_err-judge : goal.returns-in_err-judge
 unfolding checked
-returns-in-Against c = rw c.in-Against.is at c.judge.ensures.ruling
+returns-in_err-judge c = let p = err_from_is_err_and c.from_residual.result c.from_residual.ensures.1 in
+    rw (p.1, p.2) c.in_err-judge.ensures.ruling
 
 pub judge-requires : goal.judge-requires
 judge-requires c = refl

@@ -1,10 +1,9 @@
 use Rattle.std.proofs.Common.{not}
-use Rattle.std.specs.Prelude.{ℕ, refl}
+use Rattle.std.specs.Prelude.{ℕ, refl, Err}
 use Rattle.std.proofs.Common.{sym, ◌∙◌, ap, arith}
 use Rattle.load.proofs.TableBytes.{few_reactors, legal_tables, some_reactor}
 use Rattle.load.proofs.Loops.{not_fine}
 use Rattle.load.specs.Check.{check_of, checked}
-use Rattle.answer.specs.declared.Answer.TheVariants.{Refused}
 use Rattle.answer.specs.declared.Refusal.TheVariants.{TableByte}
 use Rattle.value.proofs.Tests.{both?, eq!, eq?, eq×, goes, le!, le?, le×, passed, refused, stops}
 use Rattle.load.proofs.calls.judge.Goals as goal
@@ -20,7 +19,7 @@ returns-then-not-header_passes c = let at_header_passes = c.header_passes in
     let at_length_legal = c.length_legal in record {
       ruling = goes _ _ (passed at_length_legal.ensures (ap not c.if-not-length_legal.false))
           (stops _ (refused at_header_passes.ensures (ap not c.if-not-header_passes.true))
-          (ap (λ (h : ℕ). Refused (TableByte h)) c.header_fault.ensures));
+          (ap (λ (h : ℕ). Err (TableByte h)) c.header_fault.ensures));
       facts = not_fine;
     }
 
@@ -47,7 +46,7 @@ returns-then-not-tables_pass c = let at_tables_pass = c.tables_pass in
           (goes _ _ (passed at_header_passes.ensures (ap not c.if-not-header_passes.false))
           (goes _ _ (le! (omega arith))
           (stops _ (refused at_tables_pass.ensures (ap not c.if-not-tables_pass.true))
-          (ap (λ (t : ℕ). Refused (TableByte t)) c.table_fault.ensures))));
+          (ap (λ (t : ℕ). Err (TableByte t)) c.table_fault.ensures))));
       facts = not_fine;
     }
 

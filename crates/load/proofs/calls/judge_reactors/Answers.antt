@@ -1,10 +1,9 @@
 use Rattle.std.proofs.Common.{not}
-use Rattle.std.specs.Prelude.{ℕ, ◌+◌, ◌≡◌, refl}
+use Rattle.std.specs.Prelude.{ℕ, ◌+◌, ◌≡◌, refl, Err}
 use Rattle.std.proofs.Common.{sym, ◌∙◌, ap, arith}
 use Rattle.load.proofs.Loops.{not_fine, reactor_missing, reactor_refused, reactor_taken, reactors_done}
 use Rattle.load.specs.Check.{accepted, checked, reactors_of}
 use Rattle.load.specs.Scan.{standing_at}
-use Rattle.answer.specs.declared.Answer.TheVariants.{Refused}
 use Rattle.answer.specs.declared.Refusal.TheVariants.{Missing}
 use Rattle.program.proofs.Known.{upto_all, upto_next, upto_none}
 use Rattle.program.proofs.Places.{commands_first, commands_next, commands_within, tables_within}
@@ -95,7 +94,7 @@ returns-then-t c = let at_if1 = c.if-t in
     let at_reactors = c.reactors-count in
     let args = c.args in
     let p = args.program.now in record {
-      ruling = ap Refused c.refusal.ensures
+      ruling = ap Err c.refusal.ensures
           ∙ reactor_refused _ p at_loop.r _ (omega (arith, at_loop_test.true, at_reactors.ensures))
           at_facts_of.ensures.number at_scan.ensures.ran at_if1.true _ (omega (arith, at_loop.invariant.2))
           ∙ sym at_loop.invariant.0;
@@ -134,7 +133,7 @@ returns-then-not-complete c = let at_complete = c.complete in
     let at_reactors = c.reactors-count in
     let args = c.args in
     let p = args.program.now in record {
-      ruling = ap (λ (e : ℕ). Refused (Missing e)) c.entry_at.ensures.is
+      ruling = ap (λ (e : ℕ). Err (Missing e)) c.entry_at.ensures.is
           ∙ reactor_missing _ p at_loop.r _ (omega (arith, at_loop_test.true, at_reactors.ensures))
           at_facts_of.ensures.number at_scan.ensures.ran at_if1.false
           (refused (at_complete.ensures _ _) (ap not c.if-not-complete.true))

@@ -1,9 +1,8 @@
-use Rattle.std.specs.Prelude.{ℕ, ◌*◌, refl}
+use Rattle.std.specs.Prelude.{ℕ, ◌*◌, refl, Err}
 use Rattle.std.proofs.Common.{◌∙◌, ap, arith}
 use Rattle.answer.specs.declared.Refusal.TheVariants.{Reading, SinkSpace}
 use Rattle.program.specs.Location.{sink_count}
 use Rattle.remus.specs.Turn.{asked_of}
-use Rattle.answer.specs.declared.Ruling.TheVariants.{Against}
 use Rattle.value.proofs.Tests.{eq!, eq×, goes, le!, le×, lt!, lt×, stops}
 use Rattle.machine.proofs.asked.asked.Goals as goal
 
@@ -17,7 +16,7 @@ returns-then-k-g c = let at_bad_reading = c.bad_reading-k in
     let at_globals = c.globals-g in
     goes _ _ (eq! (omega (arith, at_globals.ensures)))
     (stops _ (eq× (λ e. c.if-k-g.true (omega (arith, at_globals.ensures, at_bad_reading.ensures))))
-    (ap (λ (k : ℕ). Against (Reading k)) at_bad_reading.ensures))
+    (ap (λ (k : ℕ). Err (Reading k)) at_bad_reading.ensures))
 
 pub returns-then-space-need : goal.returns-then-space-need
 unfolding asked_of
@@ -30,7 +29,7 @@ returns-then-space-need c = let at_sinks = c.sink_count in
     goes _ _ (eq! (omega (arith, at_globals.ensures)))
     (goes _ _ (eq! (omega (arith, at_globals.ensures, at_bad_reading.ensures)))
     (stops _ (le× (omega (arith, at_sinks.ensures, q)))
-    (ap (λ (k : ℕ). Against (SinkSpace (2 * k))) (at_sinks.ensures ∙ q))))
+    (ap (λ (k : ℕ). Err (SinkSpace (2 * k))) (at_sinks.ensures ∙ q))))
 
 pub returns-then-turns-ge-MOST_TURNS : goal.returns-then-turns-ge-MOST_TURNS
 unfolding asked_of

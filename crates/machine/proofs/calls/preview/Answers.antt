@@ -10,18 +10,18 @@ use Rattle.machine.proofs.calls.preview.Goals as goal
 pub preview_accepted-requires : goal.preview_accepted-requires
 unfolding checked
 preview_accepted-requires c = let at_judge = c.judge in
-    let fine = c.in-Fine.is in
+    let fine = c.in-Ok.is in
     let e = rw fine at at_judge.ensures.ruling in
     record { sure = sure _ _ e (at_judge.ensures.facts fine); accepted = ap number_of (sym e) }
 
-pub returns-in-Fine : goal.returns-in-Fine
+pub returns-in-Ok : goal.returns-in-Ok
 unfolding preview_of checked
-returns-in-Fine c = let e = sym (rw c.in-Fine.is at c.judge.ensures.ruling) in
+returns-in-Ok c = let e = sym (rw c.in-Ok.is at c.judge.ensures.ruling) in
     rw e c.preview_accepted.ensures
 
-pub returns-in-Against : goal.returns-in-Against
+pub returns-in-Err : goal.returns-in-Err
 unfolding preview_of preview_by preview_refused previewed checked
-returns-in-Against c = let e = sym (rw c.in-Against.is at c.judge.ensures.ruling) in
+returns-in-Err c = let e = sym (rw c.in-Err.is at c.judge.ensures.ruling) in
     rw e
 
 pub judge-requires : goal.judge-requires

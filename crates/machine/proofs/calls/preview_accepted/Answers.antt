@@ -23,7 +23,7 @@ ready-requires c = c.requires.sure.loaded.facts
 
 pub run_main-requires : goal.run_main-requires
 run_main-requires c = let pre = c.requires.sure in
-    let e = sym (rw c.in-Fine.is at c.ready.ensures) in
+    let e = sym (rw c.in-Ok.is at c.ready.ensures) in
     let few = ((words_legal_lem _).0 (passed c.words_legal.ensures (ap not c.if-not-words_legal.false))).1 in
     let f = ready_fine _ _ _ _ _ e in
     let s = pre.safe _ _ few f.0 in
@@ -36,17 +36,17 @@ run_main-requires c = let pre = c.requires.sure in
       program_in_bounds = sinks_fit _ _ _ _ f.1;
     })
 
-pub returns-in-Fine : goal.returns-in-Fine
+pub returns-in-Ok : goal.returns-in-Ok
 unfolding preview_by
-returns-in-Fine c = let pre = c.requires in
+returns-in-Ok c = let pre = c.requires in
     let l = passed c.words_legal.ensures (ap not c.if-not-words_legal.false) in
-    let e = sym (rw c.in-Fine.is at c.ready.ensures) in
+    let e = sym (rw c.in-Ok.is at c.ready.ensures) in
     let ran = rw c.copy_words.ensures at c.run_main.ensures in
     goes _ _ l (goes _ _ (eq! c.if-k-n.false) (shown_run _ _ _ _ _ pre.accepted l e _ _ _ ran))
 
-pub returns-in-Against : goal.returns-in-Against
+pub returns-in-Err : goal.returns-in-Err
 unfolding preview_by
-returns-in-Against c = let pre = c.requires in
+returns-in-Err c = let pre = c.requires in
     let l = passed c.words_legal.ensures (ap not c.if-not-words_legal.false) in
-    let e = sym (rw c.in-Against.is at c.ready.ensures) in
+    let e = sym (rw c.in-Err.is at c.ready.ensures) in
     goes _ _ l (goes _ _ (eq! c.if-k-n.false) (shown_refused _ _ _ _ _ pre.accepted l _ e))

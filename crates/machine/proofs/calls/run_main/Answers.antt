@@ -12,28 +12,28 @@ run-requires c = let pre = c.requires in
 pub complete-requires : goal.complete-requires
 complete-requires c = let at_run = c.run in
     let pre = c.requires in
-    let e = rw c.in-Fine.is at at_run.ensures.memory_after in record { loaded = pre.loaded; ending = pre.safe.ends _ (run_whole _ _ _ _ e); time_fits = clock_after _ _ _ _ (workable pre.safe pre.memory_bound) e; program_in_bounds = pre.program_in_bounds }
+    let e = rw c.in-Ok.is at at_run.ensures.memory_after in record { loaded = pre.loaded; ending = pre.safe.ends _ (run_whole _ _ _ _ e); time_fits = clock_after _ _ _ _ (workable pre.safe pre.memory_bound) e; program_in_bounds = pre.program_in_bounds }
 
 pub give_back-requires : goal.give_back-requires
 give_back-requires c = let at_run = c.run in
     let at_used = c.used-u in
     let pre = c.requires in
-    let e = run_stopped _ _ _ _ _ (rw c.in-Against.is at at_run.ensures.memory_after) in
+    let e = run_stopped _ _ _ _ _ (rw c.in-Err.is at at_run.ensures.memory_after) in
     record { loaded = pre.loaded; tiling = rw at_used.ensures (pre.safe.stops _ _ e) }
 
-pub returns-in-Fine : goal.returns-in-Fine
+pub returns-in-Ok : goal.returns-in-Ok
 unfolding by_run turned
-returns-in-Fine c = let at_complete = c.complete in
+returns-in-Ok c = let at_complete = c.complete in
     let at_run = c.run in
-    let e = rw c.in-Fine.is at at_run.ensures.memory_after in
+    let e = rw c.in-Ok.is at at_run.ensures.memory_after in
     rw (run_whole _ _ _ _ e) at_complete.ensures
 
-pub returns-in-Against : goal.returns-in-Against
+pub returns-in-Err : goal.returns-in-Err
 unfolding by_run turn_refused turned
-returns-in-Against c = let at_give_back = c.give_back in
+returns-in-Err c = let at_give_back = c.give_back in
     let at_run = c.run in
     let at_used = c.used-u in
     let pre = c.requires in
-    let e = run_stopped _ _ _ _ _ (rw c.in-Against.is at at_run.ensures.memory_after) in
+    let e = run_stopped _ _ _ _ _ (rw c.in-Err.is at at_run.ensures.memory_after) in
     rw e (same_turned _ at_give_back.ensures.is
     (at_give_back.ensures.words ∙ undone _ _ _ _ at_used.ensures (pre.safe.undoes _ _ e)))

@@ -9,19 +9,19 @@ use Rattle.machine.proofs.calls.turn.Goals as goal
 pub turn_accepted-requires : goal.turn_accepted-requires
 unfolding checked
 turn_accepted-requires c = let at_judge = c.judge in
-    let fine = c.in-Fine.is in
+    let fine = c.in-Ok.is in
     sure _ _ (rw fine at at_judge.ensures.ruling) (at_judge.ensures.facts fine)
 
-pub returns-in-Fine : goal.returns-in-Fine
+pub returns-in-Ok : goal.returns-in-Ok
 unfolding turn_of checked
-returns-in-Fine c = let at_turn_accepted = c.turn_accepted in
+returns-in-Ok c = let at_turn_accepted = c.turn_accepted in
     let at_judge = c.judge in
-    let e = sym (rw c.in-Fine.is at at_judge.ensures.ruling) in
+    let e = sym (rw c.in-Ok.is at at_judge.ensures.ruling) in
     rw e at_turn_accepted.ensures
 
-pub returns-in-Against : goal.returns-in-Against
+pub returns-in-Err : goal.returns-in-Err
 unfolding turn_of by_check turn_refused turned checked
-returns-in-Against c = let e = sym (rw c.in-Against.is at c.judge.ensures.ruling) in
+returns-in-Err c = let e = sym (rw c.in-Err.is at c.judge.ensures.ruling) in
     rw e
 
 pub judge-requires : goal.judge-requires

@@ -18,19 +18,19 @@ ready-requires c = c.requires.loaded.facts
 
 pub run_main-requires : goal.run_main-requires
 run_main-requires c = let pre = c.requires in
-    let e = sym (rw c.in-Fine.is at c.ready.ensures) in
+    let e = sym (rw c.in-Ok.is at c.ready.ensures) in
     let few = ((words_legal_lem _).0 (passed c.words_legal.ensures (ap not c.if-not-words_legal.false))).1 in
     let f = ready_fine _ _ _ _ _ e in
     let s = pre.safe _ _ few f.0 in
     record { loaded = pre.loaded; safe = s; steady = s.steady _ f.1; memory_bound = clock_left _ _ _ _ f.1; program_in_bounds = sinks_fit _ _ _ _ f.1 }
 
-pub returns-in-Fine : goal.returns-in-Fine
+pub returns-in-Ok : goal.returns-in-Ok
 unfolding by_check by_asked
-returns-in-Fine c = let e = sym (rw c.in-Fine.is at c.ready.ensures) in
+returns-in-Ok c = let e = sym (rw c.in-Ok.is at c.ready.ensures) in
     goes _ _ (passed c.words_legal.ensures (ap not c.if-not-words_legal.false))
     (c.run_main.ensures ∙ sym (by_ready _ _ _ _ _ _ e))
 
-pub returns-in-Against : goal.returns-in-Against
+pub returns-in-Err : goal.returns-in-Err
 unfolding by_check by_asked turn_refused turned
-returns-in-Against c = let e = sym (rw c.in-Against.is at c.ready.ensures) in
+returns-in-Err c = let e = sym (rw c.in-Err.is at c.ready.ensures) in
     goes _ _ (passed c.words_legal.ensures (ap not c.if-not-words_legal.false)) (sym (by_ready _ _ _ _ _ _ e))

@@ -41,11 +41,11 @@ loop-j-preserved c = let at_declare = c.declare in
       omega arith,
       λ rd f s z. declared_on _ _ _ _ _ _ _ _ _ _ _ _ (omega arith) (omega arith)
           (at_declare.ensures _ _ _ _ pre.loaded.facts bytes (omega arith)) (at_loop.invariant.2 rd f s z)
-          c.in-Fine.is,
+          c.in-Ok.is,
     )
 
-pub returns-in-Against : goal.returns-in-Against
-returns-in-Against c = let at_declare = c.declare in
+pub returns-in-Err : goal.returns-in-Err
+returns-in-Err c = let at_declare = c.declare in
     let at_bytes_within = c.bytes_within-c in
     let at_loop_test = c.loop-j-test in
     let at_loop = c.loop-j in
@@ -60,7 +60,7 @@ returns-in-Against c = let at_declare = c.declare in
     let low = at_loop_test.true in
     λ rd f s z. declared_off _ _ _ _ _ _ _ _ _ _ _ _ (omega arith) (omega arith)
     (at_declare.ensures _ _ _ _ pre.loaded.facts bytes (omega arith)) (at_loop.invariant.2 rd f s z)
-    _ c.in-Against.is
+    _ c.in-Err.is
 
 pub returns : goal.returns
 unfolding commands_in
@@ -71,8 +71,8 @@ returns c = let at_loop = c.loop-j in
     let upto = at_loop.invariant.1 in
     λ rd f s z. left_at _ _ _ _ _ (omega arith) (omega arith) (at_loop.invariant.2 rd f s z)
 
-pub shape_of-memory-in-Against : goal.shape_of-memory-in-Against
-shape_of-memory-in-Against c = cc
+pub shape_of-memory-in-Err : goal.shape_of-memory-in-Err
+shape_of-memory-in-Err c = cc
 
 pub shape_of-memory : goal.shape_of-memory
 shape_of-memory c = cc

@@ -6,14 +6,14 @@ use Rattle.rig.proofs.calls.unfit.Goals as goal
 
 pub returns-then-words_legal : goal.returns-then-words_legal
 unfolding unfit_of
-returns-then-words_legal c = let e = sym (rw c.in-Done.is at c.check.ensures) in
+returns-then-words_legal c = let e = sym (rw c.in-Ok.is at c.check.ensures) in
     rw e (yes _ (sym c.words_legal.ensures ∙ c.if-words_legal.true) refl)
 
 pub returns-else-words_legal : goal.returns-else-words_legal
 unfolding unfit_of
-returns-else-words_legal c = let e = sym (rw c.in-Done.is at c.check.ensures) in
+returns-else-words_legal c = let e = sym (rw c.in-Ok.is at c.check.ensures) in
     rw e (no _ (sym c.words_legal.ensures ∙ c.if-words_legal.false) refl)
 
-pub returns-in-Refused : goal.returns-in-Refused
+pub returns-in-Err : goal.returns-in-Err
 unfolding unfit_of
-returns-in-Refused c = let e = sym (rw c.in-Refused.is at c.check.ensures) in rw e refl
+returns-in-Err c = let e = sym (rw c.in-Err.is at c.check.ensures) in rw e refl

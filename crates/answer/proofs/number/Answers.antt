@@ -1,0 +1,4 @@
+use Rattle.answer.proofs.number.Goals as goal
+
+pub returns-in-Err : goal.returns-in-Err
+returns-in-Err c = rw c.in-Err.is c.number.ensures

@@ -1,0 +1,4 @@
+use Rattle.answer.proofs.place.Goals as goal
+
+pub returns-in-Err : goal.returns-in-Err
+returns-in-Err c = rw c.in-Err.is c.place.ensures
