@@ -45,19 +45,11 @@ fn start_sized(size: usize, program: &[u8], memory: &mut [u32]) -> Answer
     Ok(MAIN_AT as usize + size)
 }
 
-// Start, after the check of the program.
-fn start_by(checked: Answer, program: &[u8], memory: &mut [u32]) -> Answer
-    ensures { let p = program.now in let m = memory.old in
-        started result memory.new ≡ start_by p m checked }
-{
-    start_sized(checked?, program, memory)
-}
-
 // Start: done, with u, or refused; then memory is as at entry.
 pub fn start(program: &[u8], memory: &mut [u32]) -> Answer
     ensures { let p = program.now in let m = memory.old in
         started result memory.new ≡ start_of p m }
 {
-    let checked = check(program);
-    start_by(checked, program, memory)
+    let size = check(program)?;
+    start_sized(size, program, memory)
 }

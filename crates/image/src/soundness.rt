@@ -6,12 +6,12 @@ ghost use Rattle.image.specs.Memory as M;
 ghost use Rattle.image.specs.Passes as P;
 ghost use Rattle.image.specs.Clauses.{Tiling, starts_on};
 
+use crate::Pass;
 use crate::commands::fill_positions;
 use crate::passes::run_pass;
 use crate::tiling::tiles;
 use crate::words::{MAIN_AT, MOST_TURNS, SLOTS_AT, next, reactor, turns, used, wired};
 use crate::zero::zero_at;
-use crate::Pass;
 use program::{HEAD_WORDS, main_of, size_of};
 
 // Whether main comes first.

@@ -28,9 +28,9 @@ rung false n q go_on =
     (λ e. inl (refl, cc), λ h. elim h [ inl k ↦ ap Err k.1 | inr k ↦ absurd (false≢true k.0) ])
 
 -- the last rung
-last_rung : (t : Bool) (n q : ℕ) → (guard t (Err n) (λ _. (Ok tt)) ≡ Err q) ↔ ((t ≡ false) × (n ≡ q))
+last_rung : (t : Bool) (n q : ℕ) → ◌≡◌ {A = Judged} (guard t (Err n) (λ _. Ok tt)) (Err q) ↔ ((t ≡ false) × (n ≡ q))
 last_rung t n q =
-    let w = rung t n q (λ _. (Ok tt)) in
+    let w = rung t n q (λ _. Ok tt) in
     (λ e. elim (w.0 e) [ inl k ↦ k | inr k ↦ absurd (unsound_not q (sym k.1)) ], λ h. w.1 (inl h))
 
 module _ (p m : List ℕ) where

@@ -11,7 +11,7 @@ use Rattle.program.specs.Bytes.{reactors, most_reactors, main_of}
 use Rattle.program.specs.Location.{size_of}
 use Rattle.image.specs.Memory.{most_words, main_at, used, reactor, wired, next, zero_at}
 use Rattle.image.specs.Sound.{here, Deployed}
-use Rattle.image.specs.Passes.{lowest, fits, lowest_unfit, framed}
+use Rattle.image.specs.Passes.{Judged, lowest, fits, lowest_unfit, framed}
 use Rattle.image.specs.Fault.{Framed, Own, FreshMain, Named, Shallow, All, Lowest}
 use Rattle.image.specs.declared.Pass.{Pass}
 use Rattle.image.specs.declared.Pass.TheVariants.{Starts, Names, Depths}
@@ -24,7 +24,7 @@ use Rattle.image.proofs.Exact.Names.{named_test}
 use Rattle.image.proofs.Exact.Depths.{depth_test}
 use Rattle.image.proofs.Memory.Tiles.{in_to}
 
-pub unsound_not : (q : ℕ) → Err q ≡ Ok tt → ⊥
+pub unsound_not : (q : ℕ) → ◌≡◌ {A = Judged} (Err q) (Ok tt) → ⊥
 unsound_not q e = let z : ◌≡◌ {A = ℕ} 0 1 = cc in omega arith
 
 module _ (p m : List ℕ) where
