@@ -68,7 +68,7 @@ module _ (p rd : List ℕ) where
 
 -- ---- 10 to 13
 
-never : (v : Refusal) → Err v ≡ Ok tt → ⊥
+never : (v : Refusal) → ◌≡◌ {A = Ruling} (Err v) (Ok tt) → ⊥
 never v e = let z : ◌≡◌ {A = ℕ} 0 1 = cc in omega arith
 
 module _ (p m rd sk : List ℕ) where
@@ -76,7 +76,7 @@ module _ (p m rd sk : List ℕ) where
   AskingFor w = Asking p m rd sk (refusal_number w) (refusal_place w)
 
   -- the refusal w is the one found
-  as_asking : (v w : Refusal) → Err v ≡ Err w → AskingFor v → AskingFor w
+  as_asking : (v w : Refusal) → ◌≡◌ {A = Ruling} (Err v) (Err w) → AskingFor v → AskingFor w
   as_asking v w e f = let same : v ≡ w = cc in subst AskingFor same f
 
   found_asking : (w : Refusal) → asked_of p m rd sk ≡ Err w → AskingFor w
