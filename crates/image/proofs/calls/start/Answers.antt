@@ -1,5 +1,5 @@
 use Rattle.std.proofs.Common.{◌∙◌, ap}
-use Rattle.std.proofs.lemmas.Result.{err_from_is_err_and}
+use Rattle.answer.proofs.Handed.{handed_on}
 use Rattle.image.specs.Start.{start_by, start_of}
 use Rattle.image.proofs.Starts.{start_refused_lem}
 use Rattle.image.proofs.calls.start.Goals as goal
@@ -10,5 +10,4 @@ returns c = c.start_sized.ensures ∙ ap (start_by _ _) c.in_ok-size.ensures
 
 pub returns-in_err-size : goal.returns-in_err-size
 unfolding start_of
-returns-in_err-size c = let p = err_from_is_err_and c.from_residual.result c.from_residual.ensures.1 in
-    rw (p.1, p.2) (start_refused_lem _ _ _ ∙ ap (start_by _ _) c.in_err-size.ensures)
+returns-in_err-size c = rw (handed_on _ c.from_residual.ensures.1) (start_refused_lem _ _ _ ∙ ap (start_by _ _) c.in_err-size.ensures)

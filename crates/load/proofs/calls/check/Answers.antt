@@ -5,7 +5,7 @@ use Rattle.program.specs.Bytes.{main_of}
 use Rattle.program.specs.Location.{size_of}
 use Rattle.std.specs.Prelude.{refl, Ok}
 use Rattle.std.proofs.Common.{sym, ◌∙◌, ap, arith}
-use Rattle.std.proofs.lemmas.Result.{err_from_is_err_and}
+use Rattle.answer.proofs.Handed.{handed_on}
 use Rattle.load.proofs.calls.check.Goals as goal
 
 pub returns : goal.returns
@@ -20,8 +20,7 @@ returns c = let p = c.args.program.now in
 
 pub returns-in_err-judge : goal.returns-in_err-judge
 unfolding checked
-returns-in_err-judge c = let p = err_from_is_err_and c.from_residual.result c.from_residual.ensures.1 in
-    rw (p.1, p.2) c.in_err-judge.ensures.ruling
+returns-in_err-judge c = rw (handed_on _ c.from_residual.ensures.1) c.in_err-judge.ensures.ruling
 
 pub judge-requires : goal.judge-requires
 judge-requires c = refl
