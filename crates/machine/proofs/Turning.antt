@@ -1,10 +1,11 @@
 -- The turn's own steps: how main's run ended, and what the questions say of what is brought.
 -- Assumes nothing.
-use Rattle.std.specs.Prelude.{ℕ, ◌*◌, ◌≤◌, ◌<◌, ◌≡◌, refl, List, length, Ok, Err}
+use Rattle.std.specs.Prelude.{ℕ, ◌*◌, ◌≤◌, ◌<◌, ◌≡◌, refl, List, length, Ok, Err, MatchResult, IsErrAnd}
 use Rattle.std.proofs.Common.{sym, ap, subst, arith}
 use Rattle.program.specs.Bytes.{main_of}
 use Rattle.program.specs.Location.{sink_count}
 use Rattle.answer.specs.declared.Refusal.{Refusal}
+use Rattle.answer.specs.declared.Refusal.TheVariants.{UnsoundImage}
 use Rattle.image.specs.Memory.{most_turns, main_at, used, turns}
 use Rattle.remus.specs.Run.{ran, stopped, run_of, main_run}
 use Rattle.image.specs.Passes.{Judged}
@@ -60,6 +61,23 @@ module _ (p m rd sk : List ℕ) where
   unfolding ready_of
   ready_fine (Ok tt) e = (refl, e)
   ready_fine (Err q) e = let z : ◌≡◌ {A = ℕ} 0 1 = cc in absurd (omega arith)
+
+  -- where soundness passes its refusal on as 9 nothing is left but what is asked
+  pub ready_on : (j : Judged)
+      → MatchResult j (λ (x : Unit {0}). ◌≡◌ {A = Ruling} (Ok tt) (Ok x))
+      (λ (q : ℕ). IsErrAnd {T = Unit {0}} (Ok tt) (λ w. w ≡ UnsoundImage q))
+      → asked_of p m rd sk ≡ ready_of p m rd sk j
+  unfolding ready_of
+  ready_on (Ok tt) h = refl
+  ready_on (Err q) h = absurd h
+
+  pub ready_off : (j : Judged) (v : Refusal)
+      → MatchResult j (λ (x : Unit {0}). ◌≡◌ {A = Ruling} (Err v) (Ok x))
+      (λ (q : ℕ). IsErrAnd {T = Unit {0}} (Err v) (λ w. w ≡ UnsoundImage q))
+      → Err v ≡ ready_of p m rd sk j
+  unfolding ready_of
+  ready_off (Ok tt) v h = let z : ◌≡◌ {A = ℕ} 0 1 = cc in absurd (omega arith)
+  ready_off (Err q) v h = ap Err h
 
   pub by_ready : (j : Judged) (r : Ruling) → ready_of p m rd sk j ≡ r → by_sound p m rd sk j ≡ by_asked p m rd sk r
   unfolding ready_of by_sound by_asked

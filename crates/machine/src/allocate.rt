@@ -42,7 +42,13 @@ fn place_new(memory: &mut [u32], r: u32, old: u32, size: u32)
 }
 
 // 1 AllocMono: a new deployment of reactor x.
-pub(crate) fn alloc_mono(facts: &[u64; 64], memory: &mut [u32], h: u8, here: usize, x: u8) -> Result<(), Refusal>
+pub(crate) fn alloc_mono(
+    facts: &[u64; 64],
+    memory: &mut [u32],
+    h: u8,
+    here: usize,
+    x: u8,
+) -> Result<(), Refusal>
     requires here_bound { here < 8589934592 }
     requires memory_len_bound { length memory.old ≤ M.most_words }
     ensures { let m = memory.old in

@@ -35,7 +35,12 @@ fn bad_reading(program: &[u8], readings: &[u32]) -> u8
 }
 
 // The first question that is not answered well.
-pub(crate) fn asked(program: &[u8], memory: &[u32], readings: &[u32], space: &[u32]) -> Result<(), Refusal>
+pub(crate) fn asked(
+    program: &[u8],
+    memory: &[u32],
+    readings: &[u32],
+    space: &[u32],
+) -> Result<(), Refusal>
     ensures { let p = program.now in let m = memory.now in let rd = readings.now in
         let sk = space.now in
         result ≡ T.asked_of p m rd sk }

@@ -45,15 +45,6 @@ fn wire(
     Ok(())
 }
 
-// D has ended: the deployment is wired.
-fn make_wired(memory: &mut [u32], o: u32) -> Result<(), Refusal>
-    ensures is { result ≡ (Ok tt) }
-    ensures words { memory.new ≡ M.with_wired memory.old o 1 }
-{
-    set_wired(memory, o, 1);
-    Ok(())
-}
-
 // Carries them out where that is still to be done.
 fn enter(
     program: &[u8],

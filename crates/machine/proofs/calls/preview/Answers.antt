@@ -1,3 +1,4 @@
+use Rattle.answer.proofs.Handed.{handed_on}
 use Rattle.answer.specs.Answer.{number_of}
 use Rattle.load.specs.Check.{checked}
 use Rattle.machine.proofs.Safety.{sure}
@@ -9,20 +10,16 @@ use Rattle.machine.proofs.calls.preview.Goals as goal
 
 pub preview_accepted-requires : goal.preview_accepted-requires
 unfolding checked
-preview_accepted-requires c = let at_judge = c.judge in
-    let fine = c.in-Ok.is in
-    let e = rw fine at at_judge.ensures.ruling in
-    record { sure = sure _ _ e (at_judge.ensures.facts fine); accepted = ap number_of (sym e) }
+preview_accepted-requires c = let e = c.in_ok-judge.ensures.ruling in
+    record { sure = sure _ _ e (c.in_ok-judge.ensures.facts refl); accepted = ap number_of (sym e) }
 
-pub returns-in-Ok : goal.returns-in-Ok
+pub returns : goal.returns
 unfolding preview_of checked
-returns-in-Ok c = let e = sym (rw c.in-Ok.is at c.judge.ensures.ruling) in
-    rw e c.preview_accepted.ensures
+returns c = rw (← c.in_ok-judge.ensures.ruling) c.preview_accepted.ensures
 
-pub returns-in-Err : goal.returns-in-Err
+pub returns-in_err-judge : goal.returns-in_err-judge
 unfolding preview_of preview_by preview_refused previewed checked
-returns-in-Err c = let e = sym (rw c.in-Err.is at c.judge.ensures.ruling) in
-    rw e
+returns-in_err-judge c = rw (handed_on _ c.from_residual.ensures.1, ← c.in_err-judge.ensures.ruling)
 
 pub judge-requires : goal.judge-requires
 judge-requires c = refl

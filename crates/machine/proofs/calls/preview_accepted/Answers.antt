@@ -1,5 +1,6 @@
 use Rattle.std.proofs.Common.{not}
 use Rattle.std.proofs.Common.{ap}
+use Rattle.answer.proofs.Handed.{handed_on}
 use Rattle.image.proofs.Starts.{words_legal_lem}
 use Rattle.machine.proofs.Previewing.{shown_run, shown_refused}
 use Rattle.machine.proofs.Turning.{clock_left, ready_fine, sinks_fit}
@@ -23,7 +24,7 @@ ready-requires c = c.requires.sure.loaded.facts
 
 pub run_main-requires : goal.run_main-requires
 run_main-requires c = let pre = c.requires.sure in
-    let e = sym (rw c.in-Ok.is at c.ready.ensures) in
+    let e = sym c.in_ok-ready.ensures in
     let few = ((words_legal_lem _).0 (passed c.words_legal.ensures (ap not c.if-not-words_legal.false))).1 in
     let f = ready_fine _ _ _ _ _ e in
     let s = pre.safe _ _ few f.0 in
@@ -36,17 +37,17 @@ run_main-requires c = let pre = c.requires.sure in
       program_in_bounds = sinks_fit _ _ _ _ f.1;
     })
 
-pub returns-in-Ok : goal.returns-in-Ok
+pub returns : goal.returns
 unfolding preview_by
-returns-in-Ok c = let pre = c.requires in
+returns c = let pre = c.requires in
     let l = passed c.words_legal.ensures (ap not c.if-not-words_legal.false) in
-    let e = sym (rw c.in-Ok.is at c.ready.ensures) in
+    let e = sym c.in_ok-ready.ensures in
     let ran = rw c.copy_words.ensures at c.run_main.ensures in
     goes _ _ l (goes _ _ (eq! c.if-k-n.false) (shown_run _ _ _ _ _ pre.accepted l e _ _ _ ran))
 
-pub returns-in-Err : goal.returns-in-Err
+pub returns-in_err-ready : goal.returns-in_err-ready
 unfolding preview_by
-returns-in-Err c = let pre = c.requires in
+returns-in_err-ready c = let pre = c.requires in
     let l = passed c.words_legal.ensures (ap not c.if-not-words_legal.false) in
-    let e = sym (rw c.in-Err.is at c.ready.ensures) in
-    goes _ _ l (goes _ _ (eq! c.if-k-n.false) (shown_refused _ _ _ _ _ pre.accepted l _ e))
+    let e = sym c.in_err-ready.ensures in
+    rw (handed_on _ c.from_residual.ensures.1) (goes _ _ l (goes _ _ (eq! c.if-k-n.false) (shown_refused _ _ _ _ _ pre.accepted l _ e)))

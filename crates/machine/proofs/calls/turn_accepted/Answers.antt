@@ -1,5 +1,6 @@
 use Rattle.std.proofs.Common.{not}
 use Rattle.std.proofs.Common.{ap}
+use Rattle.answer.proofs.Handed.{handed_on}
 use Rattle.image.proofs.Starts.{words_legal_lem}
 use Rattle.machine.proofs.Turning.{by_ready, clock_left, ready_fine, sinks_fit}
 use Rattle.machine.specs.Clauses.{turned}
@@ -18,19 +19,20 @@ ready-requires c = c.requires.loaded.facts
 
 pub run_main-requires : goal.run_main-requires
 run_main-requires c = let pre = c.requires in
-    let e = sym (rw c.in-Ok.is at c.ready.ensures) in
+    let e = sym c.in_ok-ready.ensures in
     let few = ((words_legal_lem _).0 (passed c.words_legal.ensures (ap not c.if-not-words_legal.false))).1 in
     let f = ready_fine _ _ _ _ _ e in
     let s = pre.safe _ _ few f.0 in
     record { loaded = pre.loaded; safe = s; steady = s.steady _ f.1; memory_bound = clock_left _ _ _ _ f.1; program_in_bounds = sinks_fit _ _ _ _ f.1 }
 
-pub returns-in-Ok : goal.returns-in-Ok
+pub returns : goal.returns
 unfolding by_check by_asked
-returns-in-Ok c = let e = sym (rw c.in-Ok.is at c.ready.ensures) in
+returns c = let e = sym c.in_ok-ready.ensures in
     goes _ _ (passed c.words_legal.ensures (ap not c.if-not-words_legal.false))
     (c.run_main.ensures ∙ sym (by_ready _ _ _ _ _ _ e))
 
-pub returns-in-Err : goal.returns-in-Err
+pub returns-in_err-ready : goal.returns-in_err-ready
 unfolding by_check by_asked turn_refused turned
-returns-in-Err c = let e = sym (rw c.in-Err.is at c.ready.ensures) in
-    goes _ _ (passed c.words_legal.ensures (ap not c.if-not-words_legal.false)) (sym (by_ready _ _ _ _ _ _ e))
+returns-in_err-ready c = rw (handed_on _ c.from_residual.ensures.1)
+    (goes _ _ (passed c.words_legal.ensures (ap not c.if-not-words_legal.false))
+    (sym (by_ready _ _ _ _ _ _ (sym c.in_err-ready.ensures))))

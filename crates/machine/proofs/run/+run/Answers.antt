@@ -1,4 +1,5 @@
 use Rattle.std.specs.Prelude.{refl}
+use Rattle.answer.proofs.Handed.{handed_on}
 use Rattle.std.proofs.Common.{◌∙◌, arith}
 use Rattle.machine.proofs.BeforeCommand.{begun, stopped_there, all_inside, counted, fits, found, goes}
 use Rattle.machine.proofs.BeforeCommand.{going_call, going_fail, going_given, going_move}
@@ -17,10 +18,11 @@ enter-requires t c = let at_reactor = c.reactor in
     let low = legal _ _ _ _ _ _ pre.workable (steady_below _ _ _ _ _ deep pre.steady) in
     record { loaded = pre.loaded; o_bound = low; tells = told pre.loaded at_reactor.ensures low c.fact-counts.ensures.known; workable = pre.workable }
 
-pub returns-in-Err : goal.returns-in-Err
-returns-in-Err t c = let at_enter = c.enter in
-    let pre = c.requires in
-    record { slots_len_2 = pre.slots_len; memory_after = stopped_there _ _ _ _ _ _ _ _ pre.steady c.in-Err.is at_enter.ensures }
+pub returns-in_err-enter : goal.returns-in_err-enter
+returns-in_err-enter t c = let pre = c.requires in record {
+  slots_len_2 = pre.slots_len;
+  memory_after = rw (handed_on _ c.from_residual.ensures.1) (stopped_there _ _ _ _ _ _ _ _ pre.steady refl c.in_err-enter.ensures);
+}
 
 pub overflow_cast-first : goal.overflow_cast-first
 unfolding commands_in
@@ -28,8 +30,7 @@ overflow_cast-first t c = let at_enter = c.enter in
     let at_fact = c.fact-counts in
     let at_reactor = c.reactor in
     let pre = c.requires in
-    let b = begun _ _ _ _ _ _ _ _ pre.loaded pre.workable pre.steady c.in-Ok.is
-    at_enter.ensures in
+    let b = begun _ _ _ _ _ _ _ _ pre.loaded pre.workable pre.steady refl c.in_ok-enter.ensures in
     let tells = told pre.loaded at_reactor.ensures b.legal at_fact.ensures.known in
     let first = c.first-first.ensures.is _ _ tells in
     let most = pre.loaded.short _ b.legal in
@@ -44,8 +45,7 @@ lay-requires t c = let at_declared = c.commands_d in
     let at_fact = c.fact-counts in
     let at_reactor = c.reactor in
     let pre = c.requires in
-    let b = begun _ _ _ _ _ _ _ _ pre.loaded pre.workable pre.steady c.in-Ok.is
-    at_enter.ensures in
+    let b = begun _ _ _ _ _ _ _ _ pre.loaded pre.workable pre.steady refl c.in_ok-enter.ensures in
     let tells = told pre.loaded at_reactor.ensures b.legal at_fact.ensures.known in
     let first = at_first.ensures.is _ _ tells in
     let at = at_at.ensures.is _ _ tells in
@@ -63,8 +63,7 @@ loop-j-init t c = let at_running = c.commands_r-end in
     let at_fact = c.fact-counts in
     let at_reactor = c.reactor in
     let pre = c.requires in
-    let b = begun _ _ _ _ _ _ _ _ pre.loaded pre.workable pre.steady c.in-Ok.is
-    at_enter.ensures in
+    let b = begun _ _ _ _ _ _ _ _ pre.loaded pre.workable pre.steady refl c.in_ok-enter.ensures in
     let tells = told pre.loaded at_reactor.ensures b.legal at_fact.ensures.known in
     let first = at_first.ensures.is _ _ tells in
     let at = at_at.ensures.is _ _ tells in
@@ -169,8 +168,8 @@ run-requires t c = let at_exec = c.exec in
     let n = nested _ _ _ _ _ _ _ _ _ known _ _ _ _ g in_loop _ _ at_loop.slots code _ c.in-Call.is in
     (omega arith, (known, (n.1, (n.0, rw at_note.ensures (simp length-set g.table)))))
 
-pub lay-requires-in-Ok-run : goal.lay-requires-in-Ok-run
-lay-requires-in-Ok-run t c = let at_run = c.run in
+pub lay-requires-in-Call : goal.lay-requires-in-Call
+lay-requires-in-Call t c = let at_run = c.run in
     let at_loop_test = c.loop-j-test in
     let at_loop = c.loop-j in
     let pre = c.requires in
@@ -178,7 +177,7 @@ lay-requires-in-Ok-run t c = let at_run = c.run in
     let inside = all_inside _ _ _ _ _ _ _ _ _ pre.loaded _ _ _ _ g in
     let most = short _ _ _ _ _ _ _ _ _ pre.loaded _ _ _ _ g in
     let in_loop = at_loop_test.true in
-    record { n_in_bounds = omega arith; n_bound = omega arith; slots_len = at_run.ensures.slots_len_2 }
+    record { n_in_bounds = omega arith; n_bound = omega arith; slots_len = c.in_ok-run-in-Call.ensures.slots_len_2 }
 
 pub loop-j-preserved : goal.loop-j-preserved
 loop-j-preserved t c = let at_run = c.run in
@@ -196,16 +195,16 @@ loop-j-preserved t c = let at_run = c.run in
     (fits _ _ _ _ _ _ _ _ _ known _ _ _ _ g in_loop) (own _ _ _ _ _ _ _ _ _ known _ _ _ _ g in_loop _
     at_after.ensures.is)
     (rw at_note.ensures (noted_loc _ _ _ _ _ _ _ _ _ known _ _ _ _ g in_loop)) in
-    let placed = c.lay-in-Ok-run.ensures.fact _ (begins_at _ _ _ _ _ _ _ _ _ known _ _ _ _ g) g.is_first
+    let placed = c.lay-in-Call.ensures.fact _ (begins_at _ _ _ _ _ _ _ _ _ known _ _ _ _ g) g.is_first
     (let e = g.is_end in omega arith) in (
       at_run.auto.memory ∙ at_exec.auto.memory ∙ at_loop.invariant.0,
       at_loop.invariant.1,
       going_call _ _ _ _ _ _ _ _ _ known _ _ _ _ g in_loop _ _ at_loop.slots code _ c.in-Call.is _ _
-          (rw c.in-Ok-run.is at at_run.ensures.memory_after) c.lay-in-Ok-run.ensures.slots_len_2 placed,
+          c.in_ok-run-in-Call.ensures.memory_after c.lay-in-Call.ensures.slots_len_2 placed,
     )
 
-pub returns-in-Err-run : goal.returns-in-Err-run
-returns-in-Err-run t c = let at_run = c.run in
+pub returns-in_err-run-in-Call : goal.returns-in_err-run-in-Call
+returns-in_err-run-in-Call t c = let at_run = c.run in
     let at_exec = c.exec in
     let at_after = c.after-here in
     let at_note = c.note in
@@ -221,12 +220,13 @@ returns-in-Err-run t c = let at_run = c.run in
     (fits _ _ _ _ _ _ _ _ _ known _ _ _ _ g in_loop) (own _ _ _ _ _ _ _ _ _ known _ _ _ _ g in_loop _
     at_after.ensures.is)
     (rw at_note.ensures (noted_loc _ _ _ _ _ _ _ _ _ known _ _ _ _ g in_loop)) in
-    let b = begun _ _ _ _ _ _ _ _ known pre.workable pre.steady c.in-Ok.is at_enter.ensures
+    let b = begun _ _ _ _ _ _ _ _ known pre.workable pre.steady refl c.in_ok-enter.ensures
     in record {
-      slots_len_2 = at_run.ensures.slots_len_2;
-      memory_after = b.ends_stopped _ _ (stops _ _ _ _ _ _ _ _ _ known _ _ _ _ g in_loop _ _ at_loop.slots code _ c.in-Call.is
+      slots_len_2 = c.in_err-run-in-Call.ensures.slots_len_2;
+      memory_after = rw (handed_on _ c.from_residual-in_err-run-in-Call.ensures.1)
+          (b.ends_stopped _ _ (stops _ _ _ _ _ _ _ _ _ known _ _ _ _ g in_loop _ _ at_loop.slots code _ c.in-Call.is
           _ _
-          (rw c.in-Err-run.is at at_run.ensures.memory_after));
+          c.in_err-run-in-Call.ensures.memory_after));
     }
 
 pub returns-in-Fail : goal.returns-in-Fail
@@ -245,8 +245,7 @@ returns-in-Fail t c = let at_exec = c.exec in
     (fits _ _ _ _ _ _ _ _ _ known _ _ _ _ g in_loop) (own _ _ _ _ _ _ _ _ _ known _ _ _ _ g in_loop _
     at_after.ensures.is)
     (rw at_note.ensures (noted_loc _ _ _ _ _ _ _ _ _ known _ _ _ _ g in_loop)) in
-    let b = begun _ _ _ _ _ _ _ _ known pre.workable pre.steady c.in-Ok.is
-    at_enter.ensures in record {
+    let b = begun _ _ _ _ _ _ _ _ known pre.workable pre.steady refl c.in_ok-enter.ensures in record {
       slots_len_2 = rw at_note.ensures (simp length-set g.table);
       memory_after = b.ends_stopped _ _
           (going_fail _ _ _ _ _ _ _ _ _ known _ _ _ _ g in_loop _ _ at_loop.slots code _ c.in-Fail.is);
@@ -255,15 +254,14 @@ returns-in-Fail t c = let at_exec = c.exec in
 pub returns : goal.returns
 returns t c = let at_enter = c.enter in
     let pre = c.requires in
-    let b = begun _ _ _ _ _ _ _ _ pre.loaded pre.workable pre.steady c.in-Ok.is
-    at_enter.ensures in
+    let b = begun _ _ _ _ _ _ _ _ pre.loaded pre.workable pre.steady refl c.in_ok-enter.ensures in
     let g = c.loop-j.invariant.2 in
     let past = c.loop-j-test.false in
     let upto = g.upto in
     record { slots_len_2 = g.table; memory_after = b.ends_whole _ (whole _ _ _ _ _ _ _ _ _ pre.loaded _ _ _ _ g (omega arith)) }
 
-pub shape_of-memory-in-Err-run : goal.shape_of-memory-in-Err-run
-shape_of-memory-in-Err-run t c = let at_run = c.run in
+pub shape_of-memory-in_err-run-in-Call : goal.shape_of-memory-in_err-run-in-Call
+shape_of-memory-in_err-run-in-Call t c = let at_run = c.run in
     let at_exec = c.exec in
     let at_loop = c.loop-j in
     let at_enter = c.enter in
@@ -279,5 +277,5 @@ pub shape_of-memory : goal.shape_of-memory
 shape_of-memory t c = let at_enter = c.enter in
     c.loop-j.invariant.0 ∙ at_enter.auto.memory
 
-pub shape_of-memory-in-Err : goal.shape_of-memory-in-Err
-shape_of-memory-in-Err t c = cc
+pub shape_of-memory-in_err-enter : goal.shape_of-memory-in_err-enter
+shape_of-memory-in_err-enter t c = cc

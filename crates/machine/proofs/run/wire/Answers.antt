@@ -1,4 +1,5 @@
 use Rattle.std.specs.Prelude.{refl}
+use Rattle.answer.proofs.Handed.{handed_on}
 use Rattle.std.proofs.Common.{arith}
 use Rattle.machine.proofs.Declaring.{bytes_there, declared_off, declared_on}
 use Rattle.machine.proofs.Opening.{from_first, left_at}
@@ -24,43 +25,29 @@ declare-requires c = let pre = c.requires in
     record { here_bound = omega arith; memory_len_bound = rw c.loop-j.invariant.0 few }
 
 pub loop-j-preserved : goal.loop-j-preserved
-loop-j-preserved c = let at_declare = c.declare in
-    let at_bytes_within = c.bytes_within-c in
-    let at_loop_test = c.loop-j-test in
-    let at_loop = c.loop-j in
-    let at_slots_d = c.slots_d in
-    let at_at = c.at-at in
-    let at_declared = c.commands_d-n in
-    let pre = c.requires in
+loop-j-preserved c = let pre = c.requires in
     let counts = pre.tells in
-    let n = at_declared.ensures _ _ counts in
-    let first = at_slots_d.ensures.is _ _ counts in
-    let bytes = bytes_there _ _ _ _ _ at_bytes_within.ensures (at_at.ensures.is _ _ counts) in
-    let low = at_loop_test.true in (
+    let n = c.commands_d-n.ensures _ _ counts in
+    let first = c.slots_d.ensures.is _ _ counts in
+    let bytes = bytes_there _ _ _ _ _ c.bytes_within-c.ensures (c.at-at.ensures.is _ _ counts) in
+    let low = c.loop-j-test.true in (
       cc,
       omega arith,
       λ rd f s z. declared_on _ _ _ _ _ _ _ _ _ _ _ _ (omega arith) (omega arith)
-          (at_declare.ensures _ _ _ _ pre.loaded.facts bytes (omega arith)) (at_loop.invariant.2 rd f s z)
-          c.in-Ok.is,
+          (c.in_ok-declare.ensures _ _ _ _ pre.loaded.facts bytes (omega arith)) (c.loop-j.invariant.2 rd f s z) refl,
     )
 
-pub returns-in-Err : goal.returns-in-Err
-returns-in-Err c = let at_declare = c.declare in
-    let at_bytes_within = c.bytes_within-c in
-    let at_loop_test = c.loop-j-test in
-    let at_loop = c.loop-j in
-    let at_slots_d = c.slots_d in
-    let at_at = c.at-at in
-    let at_declared = c.commands_d-n in
-    let pre = c.requires in
+pub returns-in_err-declare : goal.returns-in_err-declare
+returns-in_err-declare c = let pre = c.requires in
     let counts = pre.tells in
-    let n = at_declared.ensures _ _ counts in
-    let first = at_slots_d.ensures.is _ _ counts in
-    let bytes = bytes_there _ _ _ _ _ at_bytes_within.ensures (at_at.ensures.is _ _ counts) in
-    let low = at_loop_test.true in
-    λ rd f s z. declared_off _ _ _ _ _ _ _ _ _ _ _ _ (omega arith) (omega arith)
-    (at_declare.ensures _ _ _ _ pre.loaded.facts bytes (omega arith)) (at_loop.invariant.2 rd f s z)
-    _ c.in-Err.is
+    let n = c.commands_d-n.ensures _ _ counts in
+    let first = c.slots_d.ensures.is _ _ counts in
+    let bytes = bytes_there _ _ _ _ _ c.bytes_within-c.ensures (c.at-at.ensures.is _ _ counts) in
+    let low = c.loop-j-test.true in
+    rw (handed_on _ c.from_residual.ensures.1)
+    (λ rd f s z. declared_off _ _ _ _ _ _ _ _ _ _ _ _ (omega arith) (omega arith)
+    (c.in_err-declare.ensures _ _ _ _ pre.loaded.facts bytes (omega arith)) (c.loop-j.invariant.2 rd f s z)
+    _ refl)
 
 pub returns : goal.returns
 unfolding commands_in
@@ -71,8 +58,8 @@ returns c = let at_loop = c.loop-j in
     let upto = at_loop.invariant.1 in
     λ rd f s z. left_at _ _ _ _ _ (omega arith) (omega arith) (at_loop.invariant.2 rd f s z)
 
-pub shape_of-memory-in-Err : goal.shape_of-memory-in-Err
-shape_of-memory-in-Err c = cc
+pub shape_of-memory-in_err-declare : goal.shape_of-memory-in_err-declare
+shape_of-memory-in_err-declare c = cc
 
 pub shape_of-memory : goal.shape_of-memory
 shape_of-memory c = cc
