@@ -29,9 +29,9 @@ fn two_words(
 {
     let mut memory = [77u32; 56];
     let mut sinks = [77u32; 2];
-    machine::start(&TOGGLE, &mut memory);
-    machine::turn(&TOGGLE, &mut memory, &[1, 7, 1, 5], &mut sinks);
-    machine::turn(&TOGGLE, &mut memory, &[1, 7, 1, 5], &mut sinks);
+    let _ = machine::start(&TOGGLE, &mut memory);
+    let _ = machine::turn(&TOGGLE, &mut memory, &[1, 7, 1, 5], &mut sinks);
+    let _ = machine::turn(&TOGGLE, &mut memory, &[1, 7, 1, 5], &mut sinks);
     memory[at] = word;
     memory[also] = other;
     put_turn(rt, name, &TOGGLE, &mut memory, &[1, 7, 1, 5])

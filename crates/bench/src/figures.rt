@@ -6,6 +6,7 @@ use crate::tower::tower;
 use crate::turns::three_turns;
 use figure::figure;
 use image::MOST_WORDS;
+use machine::place;
 use std::io;
 
 // A line `name: figure number, place`.

@@ -60,7 +60,7 @@ fn first(
     work: &mut [u32],
     readings: &[u32],
 ) -> io::Result<()> {
-    machine::start(program, memory);
+    let _ = machine::start(program, memory);
     put_preview(rt, name, program, memory, work, readings)
 }
 

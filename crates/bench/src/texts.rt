@@ -30,7 +30,7 @@ fn put_turns(
     three: &[u32],
 ) -> io::Result<()> {
     let mut memory = [77u32; 200];
-    machine::start(program, &mut memory);
+    let _ = machine::start(program, &mut memory);
     put_turn_into(rt, name, program, &mut memory, one, sinks)?;
     put_turn_into(rt, name, program, &mut memory, two, sinks)?;
     put_turn_into(rt, name, program, &mut memory, three, sinks)
@@ -93,7 +93,7 @@ fn health(rt: &impl Print) -> io::Result<()> {
 }
 
 fn put_refused(rt: &impl Print, name: &str, text: &str) -> io::Result<()> {
-    put_compiled(rt, name, text, &mut [77u8; 43])?;
+    let _ = put_compiled(rt, name, text, &mut [77u8; 43])?;
     Ok(())
 }
 

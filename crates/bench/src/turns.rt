@@ -100,7 +100,7 @@ pub(crate) fn put_turn(
 }
 
 fn clock(rt: &impl Print, memory: &mut [u32]) -> io::Result<()> {
-    machine::start(&CLOCK, memory);
+    let _ = machine::start(&CLOCK, memory);
     put_turn(rt, "clock", &CLOCK, memory, &[])?;
     put_turn(rt, "clock", &CLOCK, memory, &[])
 }
@@ -113,7 +113,7 @@ pub(crate) fn three_turns(
     memory: &mut [u32],
     readings: &[u32],
 ) -> io::Result<()> {
-    machine::start(program, memory);
+    let _ = machine::start(program, memory);
     put_turn(rt, name, program, memory, readings)?;
     put_turn(rt, name, program, memory, readings)?;
     put_turn(rt, name, program, memory, readings)
@@ -127,7 +127,7 @@ fn toggle(rt: &impl Print, name: &str, memory: &mut [u32]) -> io::Result<()> {
 fn ticking(rt: &impl Print, memory: &mut [u32]) -> io::Result<()> {
     let mut program = TOGGLE;
     program[71] = 13;
-    machine::start(&program, memory);
+    let _ = machine::start(&program, memory);
     put_turn(
         rt,
         "toggle of ticks",
@@ -138,19 +138,19 @@ fn ticking(rt: &impl Print, memory: &mut [u32]) -> io::Result<()> {
 }
 
 fn nest(rt: &impl Print, name: &str, memory: &mut [u32]) -> io::Result<()> {
-    machine::start(&NEST, memory);
+    let _ = machine::start(&NEST, memory);
     put_turn(rt, name, &NEST, memory, &[])
 }
 
 fn average(rt: &impl Print, memory: &mut [u32], readings: &[u32]) -> io::Result<()> {
-    machine::start(&AVERAGE, memory);
+    let _ = machine::start(&AVERAGE, memory);
     put_turn(rt, "average", &AVERAGE, memory, readings)
 }
 
 // A blank reading leaves the maximum as it is, and so does a refused turn.
 fn peak(rt: &impl Print) -> io::Result<()> {
     let mut memory = [77u32; 21];
-    machine::start(&PEAK, &mut memory);
+    let _ = machine::start(&PEAK, &mut memory);
     put_turn(rt, "running maximum", &PEAK, &mut memory, &[1, 3])?;
     put_turn(rt, "running maximum", &PEAK, &mut memory, &[1, 5])?;
     put_turn(rt, "running maximum", &PEAK, &mut memory, &[0, 0])?;

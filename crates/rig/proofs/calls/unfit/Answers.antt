@@ -1,3 +1,4 @@
+use Rattle.answer.proofs.Handed.{handed_on}
 use Rattle.rig.specs.Clauses.{unfit_of}
 use Rattle.value.proofs.Tests.{yes, no}
 use Rattle.std.specs.Prelude.{refl}
@@ -6,14 +7,12 @@ use Rattle.rig.proofs.calls.unfit.Goals as goal
 
 pub returns-then-words_legal : goal.returns-then-words_legal
 unfolding unfit_of
-returns-then-words_legal c = let e = sym (rw c.in-Ok.is at c.check.ensures) in
-    rw e (yes _ (sym c.words_legal.ensures ∙ c.if-words_legal.true) refl)
+returns-then-words_legal c = rw (← c.in_ok-check.ensures) (yes _ (sym c.words_legal.ensures ∙ c.if-words_legal.true) refl)
 
-pub returns-else-words_legal : goal.returns-else-words_legal
+pub returns : goal.returns
 unfolding unfit_of
-returns-else-words_legal c = let e = sym (rw c.in-Ok.is at c.check.ensures) in
-    rw e (no _ (sym c.words_legal.ensures ∙ c.if-words_legal.false) refl)
+returns c = rw (← c.in_ok-check.ensures) (no _ (sym c.words_legal.ensures ∙ c.if-words_legal.false) refl)
 
-pub returns-in-Err : goal.returns-in-Err
+pub returns-in_err-check : goal.returns-in_err-check
 unfolding unfit_of
-returns-in-Err c = let e = sym (rw c.in-Err.is at c.check.ensures) in rw e refl
+returns-in_err-check c = rw (handed_on _ c.from_residual.ensures.1, ← c.in_err-check.ensures)
