@@ -63,7 +63,7 @@ module _ (p m : List ℕ) where
     unfolding fresh_sound
     main_followed e d = rw (← sized) (goes _ _ e (stops _ (eq× d) refl))
 
-    pub main_alone : Clear ≡ true → used m ≡ main_at + size → (Ok tt) ≡ fresh_sound p m
+    pub main_alone : Clear ≡ true → used m ≡ main_at + size → Ok tt ≡ fresh_sound p m
     unfolding fresh_sound
     main_alone e f = rw (← sized) (goes _ _ e (goes _ _ (eq! f) refl))
 

@@ -1,4 +1,4 @@
--- Exact soundness: the ladder of the passes comes to `(Ok tt)` where the image is sound. Where else it stops is in Place.
+-- Exact soundness: the ladder of the passes comes to `Ok` where the image is sound. Where else it stops is in Place.
 pub mod Lists
 pub mod Tables
 pub mod Tiling
@@ -28,7 +28,7 @@ use Rattle.image.proofs.Exact.Tiling.{Laid, starts}
 use Rattle.image.proofs.Exact.Rungs.{unsound_not, framed_says, framed_laid, main_says, own_says, named_says}
 use Rattle.image.proofs.Exact.Rungs.{depth_says}
 
--- a ladder ends in `(Ok tt)` where each test passes
+-- a ladder ends in `Ok` where each test passes
 ladder : (t : Bool) (n : ℕ) (more : Unit {0} → Judged) →
     (guard t (Err n) more ≡ Ok tt) ↔ ((t ≡ true) × (more tt ≡ Ok tt))
 ladder t n more = guards (λ (j : Judged). j ≡ Ok tt) t (Err n) more (unsound_not n)

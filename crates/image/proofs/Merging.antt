@@ -347,7 +347,7 @@ module _ (p m : List ℕ) (u : ℕ) (its : u ≡ used m) (fits : u ≤ length m)
       rw (← its) (both! (le! fits) (both! (le! h.few)
       (both! (rw (← its) at h.first) (both! (rw (← its) at g.tiled) rest))))
 
-  grown_true : (Ok tt) ≡ grown_sound p m (starts_on p m (used m) main_at)
+  grown_true : Ok tt ≡ grown_sound p m (starts_on p m (used m) main_at)
   unfolding grown_sound
   grown_true = goes _ _ (eq! g.owns) (goes _ _ (eq! g.names) (goes _ _ (eq! g.depths) refl))
 

@@ -154,7 +154,7 @@ module _ (p : List ℕ) (m : List ℕ) where
       let end = main_at + size_of p (main_of p) in
       guard ((wired m main_at =? 0) and zero_at m (main_at + head_words) (size_of p (main_of p) - head_words))
       (Err main_at) (λ _.
-      guard (used m =? end) (Err end) (λ _. (Ok tt)))
+      guard (used m =? end) (Err end) (λ _. Ok tt))
 
   -- with turns above 0: each deployment's own words, then how often each is named, then how deep each is
   unfoldable pub grown_sound : List ℕ → Judged
@@ -163,7 +163,7 @@ module _ (p : List ℕ) (m : List ℕ) where
       guard (own =? 0) (Err own) (λ _.
       let named = lowest_unfit Names starts in
       guard (named =? 0) (Err named) (λ _.
-      guard (lowest_unfit Depths starts =? 0) (Err 0) (λ _. (Ok tt))))
+      guard (lowest_unfit Depths starts =? 0) (Err 0) (λ _. Ok tt)))
 
   unfoldable pub by_turns : Bool → Judged
   by_turns true = fresh_sound

@@ -82,7 +82,7 @@ module _ (p m rd : List ℕ) where
   asked_again sk (Ok tt) e =
       let h = ((fits p m (record { readings = rd; sink_space = sk })).1 e).room in
       let s = (by_run p m rd sk (main_run p rd m)).sink_space in
-      let f : asked_of p m rd s ≡ (Ok tt) = asked_alike s sk (run_length sk (main_run p rd m) h) ∙ e in
+      let f : asked_of p m rd s ≡ Ok tt = asked_alike s sk (run_length sk (main_run p rd m) h) ∙ e in
       rw (e, f) (run_again sk (main_run p rd m))
   asked_again sk (Err w) e = rw (e, e) refl
 

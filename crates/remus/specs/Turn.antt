@@ -40,7 +40,7 @@ asked_of p m rd sk =
     let k = bad_reading p rd in
     guard (k =? globals p) (Err (Reading k)) (λ _.
     guard (2 * sink_count p (main_of p) ≤? length sk) (Err (SinkSpace (2 * sink_count p (main_of p)))) (λ _.
-    guard (turns m <? most_turns) (Err Clock) (λ _. (Ok tt)))))
+    guard (turns m <? most_turns) (Err Clock) (λ _. Ok tt))))
 
 -- m the memory and sk the sink space at entry
 module _ (p m rd sk : List ℕ) where
