@@ -14,6 +14,10 @@ use mir.Facts.{of_z-to_z, to_z_pos, sfits_widen}
 use Rattle.value.proofs.Tests.{cases, both?, flags, not_true}
 use Rattle.value.specs.Test.{pick}
 use Rattle.value.specs.Value.{blank, number}
+use Rattle.std.specs.Prelude.{Option}
+use Rattle.std.specs.Option.{SomeIff}
+use Rattle.std.specs.declared.option.Option.TheVariants.{Some, None}
+use Rattle.value.specs.Clauses.{number_or_blank}
 use Rattle.value.specs.Primitive.{in32, within, is_zero, same_int, quotient, goes_round}
 
 -- ---- read back
@@ -197,29 +201,11 @@ pub is_within : (z : ℤ) → SFits w32 z → within z ≡ number z
 unfolding within pick
 is_within z f = rw (fits_in z f)
 
--- `narrow`, on an integer of 64 bits: `read` is that integer as the machine reads it back
-module _ {z : ℤ} (f : SFits w64 z) where
-  abbrev read : ℤ
-  read = to_z w64 (of_z w64 z)
-
-  pub too_low : lt_z read (negsuc 2147483647) ≡ true → within z ≡ blank
-  unfolding within pick
-  too_low e = rw (rw (to_z-of_z f) at e)
-
-  module _ (e : lt_z read (negsuc 2147483647) ≡ false) where
-    pub too_high : lt_z (pos 2147483647) read ≡ true → within z ≡ blank
-    unfolding within pick
-    too_high h = rw (rw (to_z-of_z f) at e, rw (to_z-of_z f) at h)
-
-    module _ (h : lt_z (pos 2147483647) read ≡ false) where
-      inside : SFits w32 z
-      inside = in_fits z (rw (to_z-of_z f) at e) (rw (to_z-of_z f) at h)
-
-      pub narrows : SFits w32 read
-      narrows = subst (SFits w32) (sym (to_z-of_z f)) inside
-
-      pub narrowed : number (back read) ≡ within z
-      narrowed = ap (λ (y : ℤ). number (back y)) (to_z-of_z f) ∙ ap number (is_back inside) ∙ sym (is_within z inside)
+-- a checked result is the integer within 32 bits
+pub narrowed : (z : ℤ) (r : Option ℤ) → SomeIff r (SFits w32 z) z → number_or_blank r ≡ within z
+unfolding within pick
+narrowed z (Some x) h = ap number h.1 ∙ sym (is_within z h.0)
+narrowed z None h = cases (in32 z) (λ e. absurd (h (in32_fits z e))) (λ e. rw e refl)
 
 -- ---- negation
 

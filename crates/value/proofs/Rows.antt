@@ -1,10 +1,12 @@
 -- Rows of the table of primitives, by number. Assumes nothing.
-use Rattle.std.specs.Prelude.{ℕ, zero, suc, ◌+◌, ◌≤◌, ◌<◌, ◌≡◌, refl, ◌≢◌}
+use Rattle.std.specs.Prelude.{ℕ, zero, suc, ◌+◌, ◌≤◌, ◌<◌, ◌≡◌, refl, ◌≢◌, length}
 use Rattle.std.proofs.Common.{subst, ⊎_elim, arith}
 use Rattle.std.proofs.Common.{eq-or-lt_of_le}
 use lib.ListN.{get_or-eq_default}
 use Rattle.value.specs.Primitive.{table, none, row_of, primitive}
 use Rattle.value.specs.declared.Value.{Value}
+use Rattle.value.specs.Clauses.{number_of}
+use Rattle.value.specs.declared.table.Primitive.{Primitive}
 use Rattle.value.proofs.Tests.{below}
 
 -- Q holds of the n numbers from k on
@@ -27,8 +29,8 @@ missed k zero x low m = omega arith
 missed k (suc n) x low m = omega (arith, missed k n x low m.0, m.1)
 
 -- a number past the table is no primitive's
-pub past : (x : ℕ) → 14 ≤ x → row_of x ≡ none
-unfolding row_of table
+pub past : (x : ℕ) → length table ≤ x → row_of x ≡ none
+unfolding row_of
 past x h = get_or-eq_default table none h
 
 -- a primitive but the choice does not look at its third operand
@@ -42,3 +44,8 @@ third_unread x a b c d n =
     ⊎_elim
     (λ (g : x < 14). each (λ x. primitive x a b c ≡ primitive x a b d) 12 2 (refl, (refl, tt)) x (omega (arith, n)) g)
     (λ (g : 14 ≤ x). rw (past x g)) (below x 14)) (below x 11)
+
+-- a primitive's number is in the table
+pub in_table : (p : Primitive) → number_of p < length table
+unfolding table
+in_table p = grind arith

@@ -5,4 +5,5 @@ pub mod Primitive
 pub mod Formula
 pub mod Ticks
 pub mod Laws
+pub mod Clauses
 pub mod Open

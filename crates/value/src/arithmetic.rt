@@ -1,43 +1,41 @@
-// The primitives on two numbers, as integers. Sums and products go by 64 bits, which hold them, and are then
-// brought back to 32.
+// The primitives on two numbers, as integers.
 ghost use Rattle.std.specs.Prelude.{◌≡◌};
 ghost use Rattle.std.specs.Prelude.{◌+ℤ◌, ◌-ℤ◌, ◌*ℤ◌, neg_ℤ};
 ghost use Rattle.value.specs.Value.{number};
 ghost use Rattle.value.specs.Primitive.{within, quotient, goes_round, operation};
+ghost use Rattle.value.specs.Clauses.{number_or_blank};
 
-use crate::integer::{signed, word};
 use crate::{Operation, Value};
-use std::num::wrapping_sub_u32;
 
-// A result of 64 bits: blank where 32 bits do not hold it.
-pub(crate) fn narrow(z: i64) -> Value
-    ensures { result ≡ within z }
+// A result, or blank where 32 bits do not hold it.
+pub(crate) fn narrow(z: Option<i32>) -> Value
+    ensures { result ≡ number_or_blank z }
 {
-    if z < -2147483648 {
-        return Value::blank();
+    match z {
+        Some(z) => Value::number(z),
+        None => Value::blank(),
     }
-    if 2147483647 < z {
-        return Value::blank();
-    }
-    Value::number(z as i32)
 }
 
+#[tactic(auto, using(crate::proofs::Integers::narrowed))]
 pub(crate) fn add(x: i32, y: i32) -> Value
     ensures { result ≡ within (x +ℤ y) }
 {
-    narrow(x as i64 + y as i64)
+    narrow(x.checked_add(y))
 }
 
+#[tactic(auto, using(crate::proofs::Integers::narrowed))]
 pub(crate) fn subtract(x: i32, y: i32) -> Value
     ensures { result ≡ within (x -ℤ y) }
 {
-    narrow(x as i64 - y as i64)
+    narrow(x.checked_sub(y))
 }
 
+#[tactic(auto, using(crate::proofs::Integers::narrowed))]
 pub(crate) fn times(x: i32, y: i32) -> Value
     ensures { result ≡ within (x *ℤ y) }
 {
-    narrow(x as i64 * y as i64)
+    narrow(x.checked_mul(y))
 }
 
 // The lowest integer has no negation in 32 bits.
@@ -65,10 +63,11 @@ pub(crate) fn divide(x: i32, y: i32) -> Value
 }
 
 // The difference of two counters of 32 bits, which go round: that of their words.
+#[tactic(auto, unfolding(crate::specs::Primitive::goes_round))]
 pub(crate) fn tick_difference(x: i32, y: i32) -> Value
     ensures { result ≡ number (goes_round x y) }
 {
-    Value::number(signed(wrapping_sub_u32(word(x), word(y))))
+    Value::number(x.cast_unsigned().wrapping_sub(y.cast_unsigned()).cast_signed())
 }
 
 pub(crate) fn operate(f: Operation, x: i32, y: i32) -> Value

@@ -8,6 +8,7 @@
 mod arithmetic;
 mod formula;
 mod integer;
+mod kinds;
 mod primitives;
 mod table;
 
@@ -15,6 +16,7 @@ ghost use Rattle.std.specs.Prelude.{◌≡◌};
 ghost use Rattle.value.specs.Value as W;
 
 pub use integer::{magnitude, signed, word};
+pub use kinds::Kind;
 pub use primitives::primitive;
 pub use table::{is_primitive, is_withdrawn, kinds_fit, operands};
 

@@ -2,10 +2,12 @@
 ghost use Rattle.std.specs.Prelude.{◌≡◌};
 ghost use Rattle.std.proofs.Math.Bool as Bool;
 ghost use Rattle.value.specs.Primitive as Op;
+ghost use Rattle.value.specs.Clauses.{number_of};
 
 use crate::arithmetic::operate;
 use crate::formula::{mix, one_minus};
 use crate::integer::signed;
+use crate::table::{Primitive, UnknownPrimitive};
 use crate::{Operation, Value};
 
 // The primitives on two numbers: blank unless both are.
@@ -81,26 +83,39 @@ pub(crate) fn instead(a: Value, b: Value) -> Value
     }
 }
 
-// Primitive `op` of its operands; one that it does not take is not read. A number that is no
-// primitive's, and 4, which is withdrawn, give blank.
+impl Primitive {
+    // What it gives for its operands; one that it does not take is not read.
+    #[tactic(auto, unfolding(crate::specs::Open::opened))]
+    pub(crate) fn apply(self, a: Value, b: Value, c: Value) -> Value
+        ensures { result ≡ Op.primitive (number_of self) a b c }
+    {
+        match self {
+            Primitive::Add => on_numbers(Operation::Add, a, b),
+            Primitive::Subtract => on_numbers(Operation::Subtract, a, b),
+            Primitive::Times => on_numbers(Operation::Times, a, b),
+            Primitive::Divide => on_numbers(Operation::Divide, a, b),
+            Primitive::Remainder => Value::blank(),
+            Primitive::Less => on_numbers(Operation::Less, a, b),
+            Primitive::Equal => on_numbers(Operation::Equal, a, b),
+            Primitive::Not => not(a),
+            Primitive::And => settled_by(false, a, b),
+            Primitive::Or => settled_by(true, a, b),
+            Primitive::Known => known(a),
+            Primitive::Choose => choose(a, b, c),
+            Primitive::Instead => instead(a, b),
+            Primitive::TickDifference => on_numbers(Operation::TickDifference, a, b),
+        }
+    }
+}
+
+// Primitive `op` of its operands. A number that is no primitive's, and 4, which is withdrawn, give
+// blank.
+#[tactic(auto, using(crate::proofs::Rows::past), unfolding(crate::specs::Primitive::primitive))]
 pub fn primitive(op: u8, a: Value, b: Value, c: Value) -> Value
     ensures { result ≡ Op.primitive op a b c }
 {
-    match op {
-        0 => on_numbers(Operation::Add, a, b),
-        1 => on_numbers(Operation::Subtract, a, b),
-        2 => on_numbers(Operation::Times, a, b),
-        3 => on_numbers(Operation::Divide, a, b),
-        4 => Value::blank(),
-        5 => on_numbers(Operation::Less, a, b),
-        6 => on_numbers(Operation::Equal, a, b),
-        7 => not(a),
-        8 => settled_by(false, a, b),
-        9 => settled_by(true, a, b),
-        10 => known(a),
-        11 => choose(a, b, c),
-        12 => instead(a, b),
-        13 => on_numbers(Operation::TickDifference, a, b),
-        _ => Value::blank(),
+    match Primitive::try_from(op) {
+        Ok(primitive) => primitive.apply(a, b, c),
+        Err(UnknownPrimitive) => Value::blank(),
     }
 }
