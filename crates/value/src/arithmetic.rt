@@ -1,4 +1,6 @@
 // The primitives on two numbers, as integers.
+#![tactic(auto, using(crate::proofs::Integers::results), unfolding(crate::specs::Open::opened))]
+
 ghost use Rattle.std.specs.Prelude.{◌≡◌};
 ghost use Rattle.std.specs.Prelude.{◌+ℤ◌, ◌-ℤ◌, ◌*ℤ◌, neg_ℤ};
 ghost use Rattle.value.specs.Value.{number};
@@ -17,21 +19,18 @@ pub(crate) fn narrow(z: Option<i32>) -> Value
     }
 }
 
-#[tactic(auto, using(crate::proofs::Integers::narrowed))]
 pub(crate) fn add(x: i32, y: i32) -> Value
     ensures { result ≡ within (x +ℤ y) }
 {
     narrow(x.checked_add(y))
 }
 
-#[tactic(auto, using(crate::proofs::Integers::narrowed))]
 pub(crate) fn subtract(x: i32, y: i32) -> Value
     ensures { result ≡ within (x -ℤ y) }
 {
     narrow(x.checked_sub(y))
 }
 
-#[tactic(auto, using(crate::proofs::Integers::narrowed))]
 pub(crate) fn times(x: i32, y: i32) -> Value
     ensures { result ≡ within (x *ℤ y) }
 {
@@ -42,7 +41,7 @@ pub(crate) fn times(x: i32, y: i32) -> Value
 pub(crate) fn negate(x: i32) -> Value
     ensures { result ≡ within (neg_ℤ x) }
 {
-    if x == -2147483648 {
+    if x == i32::MIN {
         Value::blank()
     } else {
         Value::number(-x)
@@ -53,21 +52,19 @@ pub(crate) fn negate(x: i32) -> Value
 pub(crate) fn divide(x: i32, y: i32) -> Value
     ensures { result ≡ quotient x y }
 {
-    if y == 0 {
-        return Value::blank();
+    match y {
+        0 => Value::blank(),
+        -1 => negate(x),
+        _ => Value::number(x / y),
     }
-    if y == -1 {
-        return negate(x);
-    }
-    Value::number(x / y)
 }
 
 // The difference of two counters of 32 bits, which go round: that of their words.
-#[tactic(auto, unfolding(crate::specs::Primitive::goes_round))]
 pub(crate) fn tick_difference(x: i32, y: i32) -> Value
     ensures { result ≡ number (goes_round x y) }
 {
-    Value::number(x.cast_unsigned().wrapping_sub(y.cast_unsigned()).cast_signed())
+    let words = x.cast_unsigned().wrapping_sub(y.cast_unsigned());
+    Value::number(words.cast_signed())
 }
 
 pub(crate) fn operate(f: Operation, x: i32, y: i32) -> Value

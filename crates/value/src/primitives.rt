@@ -1,4 +1,6 @@
 // The primitives on values, by number.
+#![tactic(auto, using(crate::proofs::Rows::past), unfolding(crate::specs::Open::opened))]
+
 ghost use Rattle.std.specs.Prelude.{◌≡◌};
 ghost use Rattle.std.proofs.Math.Bool as Bool;
 ghost use Rattle.value.specs.Primitive as Op;
@@ -85,7 +87,6 @@ pub(crate) fn instead(a: Value, b: Value) -> Value
 
 impl Primitive {
     // What it gives for its operands; one that it does not take is not read.
-    #[tactic(auto, unfolding(crate::specs::Open::opened))]
     pub(crate) fn apply(self, a: Value, b: Value, c: Value) -> Value
         ensures { result ≡ Op.primitive (number_of self) a b c }
     {
@@ -110,7 +111,6 @@ impl Primitive {
 
 // Primitive `op` of its operands. A number that is no primitive's, and 4, which is withdrawn, give
 // blank.
-#[tactic(auto, using(crate::proofs::Rows::past), unfolding(crate::specs::Primitive::primitive))]
 pub fn primitive(op: u8, a: Value, b: Value, c: Value) -> Value
     ensures { result ≡ Op.primitive op a b c }
 {

@@ -1,4 +1,6 @@
 // The table of primitives: their numbers, and the columns that the load check reads.
+#![tactic(auto, using(crate::proofs::Rows::past), unfolding(crate::specs::Open::opened))]
+
 ghost use Rattle.std.specs.Prelude.{◌≡◌};
 ghost use Rattle.value.specs.Primitive as Op;
 ghost use Rattle.value.specs.Clauses.{number_of};
@@ -35,7 +37,6 @@ impl TryFrom<u8> for Primitive {
 
     ghost try_from_gives = { Numbers };
 
-    #[tactic(auto, unfolding(crate::specs::Primitive::table))]
     fn try_from(op: u8) -> Result<Self, UnknownPrimitive> {
         match op {
             0 => Ok(Primitive::Add),
@@ -58,7 +59,6 @@ impl TryFrom<u8> for Primitive {
 }
 
 impl Primitive {
-    #[tactic(auto, unfolding(crate::specs::Open::opened))]
     pub(crate) fn takes(self) -> Takes
         ensures { result ≡ (Op.row_of (number_of self)).takes }
     {
@@ -83,14 +83,12 @@ pub fn is_primitive(op: u8) -> bool
 }
 
 // Whether the check refuses it by name.
-#[tactic(auto, unfolding(crate::specs::Open::opened))]
 pub fn is_withdrawn(op: u8) -> bool
     ensures { result ≡ Op.is_withdrawn op }
 {
     op == Primitive::Remainder as u8
 }
 
-#[tactic(auto, using(crate::proofs::Rows::past))]
 pub(crate) fn takes_of(op: u8) -> Takes
     ensures { result ≡ (Op.row_of op).takes }
 {
@@ -101,7 +99,6 @@ pub(crate) fn takes_of(op: u8) -> Takes
 }
 
 // How many operands primitive `op` takes.
-#[tactic(auto, unfolding(crate::specs::Open::opened))]
 pub fn operands(op: u8) -> u8
     ensures { result ≡ Op.operands op }
 {
@@ -116,7 +113,6 @@ pub fn operands(op: u8) -> u8
 }
 
 // Whether operands of the kinds j, k, l will do; the kind of one that is not taken is not read.
-#[tactic(auto, unfolding(crate::specs::Open::opened))]
 pub fn kinds_fit(op: u8, j: u8, k: u8, l: u8) -> bool
     ensures { result ≡ Op.kinds_fit (Op.row_of op).takes j k l }
 {

@@ -5,7 +5,7 @@ use Rattle.std.proofs.Common.{sym, ◌∙◌}
 use Rattle.value.proofs.Rows.{in_table}
 use Rattle.value.proofs.Tests.{lt!, lt×}
 use Rattle.value.specs.Clauses.{Numbers}
-use Rattle.value.specs.Primitive.{is_primitive, table}
+use Rattle.value.specs.Primitive.{is_primitive}
 use Rattle.value.specs.declared.table.Primitive.{Primitive}
 use Rattle.value.specs.declared.table.UnknownPrimitive.{UnknownPrimitive}
 use Rattle.value.proofs.table.is_primitive.Goals as goal
