@@ -1,16 +1,16 @@
 -- A command by its code: what holds of each row of the command table holds of what the bytes say.
 -- Assumes nothing.
-use Rattle.std.specs.Prelude.{ℕ, zero, suc, ◌≤◌, ◌<◌, ◌≡◌, ◌⊎◌}
-use Rattle.std.proofs.Common.{inl, inr, ⊎_elim, arith}
+use Rattle.std.specs.Prelude.{ℕ, zero, suc, ◌≤◌, ◌<◌, ◌≡◌, ◌⊎◌, refl}
+use Rattle.std.proofs.Common.{sym, inl, inr, ⊎_elim, arith}
 use Rattle.value.specs.Test.{pick, ◌=?◌}
 use Rattle.value.proofs.Tests.{pick_any, eq?, eq×?, below}
 use Rattle.program.specs.Command.{Cmd, decode, alloc_mono, make_poly, constant, global, supply, react, consume}
 use Rattle.program.specs.Command.{sink, alloc_poly, primitive, cell, fetch, keep, none, v_of, gives}
+use Rattle.program.specs.Clauses.{byte_of, row_of, NoCode}
+use Rattle.program.specs.declared.commands.Code.{Code}
+use Rattle.program.specs.declared.commands.Code.TheVariants.{AllocMono, MakePoly, Constant, Global, Supply, React}
+use Rattle.program.specs.declared.commands.Code.TheVariants.{Consume, Sink, AllocPoly, Primitive, Cell, Fetch, Keep}
 use Rattle.program.specs.declared.Command.{Command}
-
--- no code from 1 to 13
-abbrev pub NoCode : ℕ → Type 0
-NoCode n = (n < 1) ⊎ (13 < n)
 
 from_zero : (n : ℕ) → (n < 1) ⊎ (0 < n)
 from_zero zero = inl (omega arith)
@@ -153,3 +153,24 @@ module _ {A : Type 0} (F : Cmd → A) (c : Command) {z : A} where
       (λ e. absurd (r.0.1 e))
       (λ e. absurd (r.1 e))
       (λ w. h)
+
+-- ---- by the code's name
+
+pub decoded : (c : Command) (k : Code) → byte_of k ≡ c.code → decode c ≡ row_of k c
+unfolding decode pick ◌=?◌
+decoded c AllocMono e = rw (← e)
+decoded c MakePoly e = rw (← e)
+decoded c Constant e = rw (← e)
+decoded c Global e = rw (← e)
+decoded c Supply e = rw (← e)
+decoded c React e = rw (← e)
+decoded c Consume e = rw (← e)
+decoded c Sink e = rw (← e)
+decoded c AllocPoly e = rw (← e)
+decoded c Primitive e = rw (← e)
+decoded c Cell e = rw (← e)
+decoded c Fetch e = rw (← e)
+decoded c Keep e = rw (← e)
+
+pub undecoded : (c : Command) → NoCode c.code → decode c ≡ none
+undecoded c n = sym (as_none (λ (d : Cmd). d) c n refl)

@@ -1,9 +1,56 @@
--- What the contracts of the code speak of beside the definitions: the header as one value; and what is asked of a
+-- What the contracts of the code speak of beside the definitions: the codes of commands; the header as one value; and what is asked of a
 -- reactor most often as one number, with a table of such numbers, filled in once for a whole call.
-use Rattle.std.specs.Prelude.{ℕ, ◌/◌, ◌%◌, ◌≤◌, ◌<◌, ◌≡◌, ◌≢◌, List, get_or}
+use Rattle.std.specs.Prelude.{ℕ, ◌/◌, ◌%◌, ◌≤◌, ◌<◌, ◌≡◌, ◌≢◌, ◌⊎◌, List, get_or, Result, MatchResult}
 use Rattle.program.specs.Bytes.{most_reactors, byte, shapes, reactors, globals, commands_d, commands_r, commands_at}
+use Rattle.program.specs.Command.{Cmd, v_of, alloc_mono, make_poly, constant, global, supply, react, consume, sink}
+use Rattle.program.specs.Command.{alloc_poly, primitive, cell, fetch, keep, gives}
+use Rattle.program.specs.declared.Command.{Command}
 use Rattle.program.specs.declared.Header.{Header}
+use Rattle.program.specs.declared.commands.Code.{Code}
+use Rattle.program.specs.declared.commands.Code.TheVariants.{AllocMono, MakePoly, Constant, Global, Supply, React}
+use Rattle.program.specs.declared.commands.Code.TheVariants.{Consume, Sink, AllocPoly, Primitive, Cell, Fetch, Keep}
+use Rattle.program.specs.declared.commands.UnknownCode.{UnknownCode}
 use Rattle.program.specs.Location.{source_count, sink_count, results}
+
+-- the byte of a code
+abbrev pub byte_of : Code → ℕ
+byte_of AllocMono = 1
+byte_of MakePoly = 2
+byte_of Constant = 3
+byte_of Global = 4
+byte_of Supply = 5
+byte_of React = 6
+byte_of Consume = 7
+byte_of Sink = 8
+byte_of AllocPoly = 9
+byte_of Primitive = 10
+byte_of Cell = 11
+byte_of Fetch = 12
+byte_of Keep = 13
+
+-- what a command of this code is, by the command table
+abbrev pub row_of : Code → Command → Cmd
+row_of AllocMono c = alloc_mono c.x
+row_of MakePoly c = make_poly c.x
+row_of Constant c = gives (constant c.x (v_of c))
+row_of Global c = gives (global c.x)
+row_of Supply c = supply c.x c.a c.b
+row_of React c = react c.b
+row_of Consume c = gives (consume c.x c.b)
+row_of Sink c = sink c.x c.a
+row_of AllocPoly c = alloc_poly c.a c.b
+row_of Primitive c = gives (primitive c.x c.a c.b c.v0)
+row_of Cell c = cell c.x (v_of c)
+row_of Fetch c = gives (fetch c.b)
+row_of Keep c = keep c.a c.b
+
+-- n is no code's byte
+abbrev pub NoCode : ℕ → Type 0
+NoCode n = (n < 1) ⊎ (13 < n)
+
+-- the result is the code with this byte, or it is no code's
+abbrev pub Codes : ℕ → Result Code UnknownCode → Type 0
+Codes n r = MatchResult r (λ code. byte_of code ≡ n) (λ e. NoCode n)
 
 unfoldable pub header_of : List ℕ → Header
 header_of p = record { format = byte p 0; shapes = shapes p; reactors = reactors p; globals = globals p }

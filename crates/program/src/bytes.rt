@@ -1,6 +1,8 @@
 // The header, 8 bytes (format, shapes, reactors, globals, four zeros), and the kinds of the globals,
 // which follow it.
-ghost use Rattle.std.specs.Prelude.{◌≡◌};
+#![tactic(auto, unfolding(crate::specs::Open::opened))]
+
+ghost use Rattle.std.specs.Prelude.{◌≡◌, set};
 ghost use Rattle.program.specs.Bytes as B;
 ghost use Rattle.program.specs.Clauses.{header_of};
 
@@ -10,7 +12,17 @@ use crate::Header;
 pub fn byte(program: &[u8], i: usize) -> u8
     ensures { result ≡ B.byte program.now i }
 {
-    if i < program.len() { program[i] } else { 0 }
+    program.get(i).copied().unwrap_or(0)
+}
+
+// Stores v at `i`, and nothing past the end. By the index, since std says of `get_mut` alone which element it
+// lends, and not what the slice ends as.
+pub fn put<T: Copy>(items: &mut [T], i: usize, v: T)
+    ensures { items.new ≡ set items.old i v }
+{
+    if i < items.len() {
+        items[i] = v;
+    }
 }
 
 impl Header {

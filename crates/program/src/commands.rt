@@ -1,75 +1,132 @@
 // Commands, 8 bytes each:
 //
 //     code | x | a | b | v0 v1 v2 v3, low byte first
-//
-//      1 AllocMono   D  x reactor
-//      2 MakePoly    D  x shape
-//      3 Constant    R  x kind, v value
-//      4 Global      R  x global
-//      5 Supply      R  x source, a value, b deployment
-//      6 React       R  b deployment
-//      7 Consume     R  x sink, b deployment
-//      8 Sink        R  x own sink, a value
-//      9 AllocPoly   R  a operator, b branch point
-//     10 Primitive   R  x primitive, a b v0 operands
-//     11 Cell        D  x kind, v first content
-//     12 Fetch       R  b cell
-//     13 Keep        R  a value, b cell
 ghost use Rattle.std.specs.Prelude.{◌+◌, ◌≤◌, ◌≡◌, length};
 ghost use Rattle.program.specs.Command as C;
+ghost use Rattle.program.specs.Clauses.{row_of};
+ghost use Rattle.program.specs.declared.Command.{Command};
 
 use crate::Command;
 use crate::bytes::byte;
 
+// What a command does, by its first byte: beside each the sequence that it belongs to, and what it reads of the others.
+#[derive(Clone, Copy, Debug, PartialEq, Eq)]
+pub enum Code {
+    // D  x reactor
+    AllocMono = 1,
+    // D  x shape
+    MakePoly = 2,
+    // R  x kind, v value
+    Constant = 3,
+    // R  x global
+    Global = 4,
+    // R  x source, a value, b deployment
+    Supply = 5,
+    // R  b deployment
+    React = 6,
+    // R  x sink, b deployment
+    Consume = 7,
+    // R  x own sink, a value
+    Sink = 8,
+    // R  a operator, b branch point
+    AllocPoly = 9,
+    // R  x primitive, a b v0 operands
+    Primitive = 10,
+    // D  x kind, v first content
+    Cell = 11,
+    // R  b cell
+    Fetch = 12,
+    // R  a value, b cell
+    Keep = 13,
+}
+
+// A byte that is no command's.
+#[derive(Clone, Copy, Debug, PartialEq, Eq)]
+pub struct UnknownCode;
+
+impl TryFrom<u8> for Code {
+    ghost use Rattle.program.specs.Clauses.{Codes};
+
+    type Error = UnknownCode;
+
+    ghost try_from_gives = { Codes };
+
+    fn try_from(byte: u8) -> Result<Self, UnknownCode> {
+        match byte {
+            1 => Ok(Code::AllocMono),
+            2 => Ok(Code::MakePoly),
+            3 => Ok(Code::Constant),
+            4 => Ok(Code::Global),
+            5 => Ok(Code::Supply),
+            6 => Ok(Code::React),
+            7 => Ok(Code::Consume),
+            8 => Ok(Code::Sink),
+            9 => Ok(Code::AllocPoly),
+            10 => Ok(Code::Primitive),
+            11 => Ok(Code::Cell),
+            12 => Ok(Code::Fetch),
+            13 => Ok(Code::Keep),
+            _ => Err(UnknownCode),
+        }
+    }
+}
+
+impl Code {
+    // Whether such a command has a result.
+    #[tactic(auto, unfolding(crate::specs::Command::takes_words))]
+    pub fn has_result(self) -> bool
+        ensures { (c : Command) → result ≡ C.takes_words (row_of self c) }
+    {
+        match self {
+            Code::Supply | Code::React | Code::Sink => false,
+            _ => true,
+        }
+    }
+}
+
 impl Command {
-    pub const ALLOC_MONO: u8 = 1;
+    pub const ALLOC_MONO: u8 = Code::AllocMono as u8;
 
-    pub const MAKE_POLY: u8 = 2;
+    pub const MAKE_POLY: u8 = Code::MakePoly as u8;
 
-    pub const CONSTANT: u8 = 3;
+    pub const CONSTANT: u8 = Code::Constant as u8;
 
-    pub const GLOBAL: u8 = 4;
+    pub const GLOBAL: u8 = Code::Global as u8;
 
-    pub const SUPPLY: u8 = 5;
+    pub const SUPPLY: u8 = Code::Supply as u8;
 
-    pub const REACT: u8 = 6;
+    pub const REACT: u8 = Code::React as u8;
 
-    pub const CONSUME: u8 = 7;
+    pub const CONSUME: u8 = Code::Consume as u8;
 
-    pub const SINK: u8 = 8;
+    pub const SINK: u8 = Code::Sink as u8;
 
-    pub const ALLOC_POLY: u8 = 9;
+    pub const ALLOC_POLY: u8 = Code::AllocPoly as u8;
 
-    pub const PRIMITIVE: u8 = 10;
+    pub const PRIMITIVE: u8 = Code::Primitive as u8;
 
-    pub const CELL: u8 = 11;
+    pub const CELL: u8 = Code::Cell as u8;
 
-    pub const FETCH: u8 = 12;
+    pub const FETCH: u8 = Code::Fetch as u8;
 
-    pub const KEEP: u8 = 13;
+    pub const KEEP: u8 = Code::Keep as u8;
 
     // The number that the four bytes v make.
     pub fn v(self) -> u32
         ensures { result ≡ C.v_of self }
     {
-        self.v0 as u32
-            + 256 * (self.v1 as u32)
-            + 65536 * (self.v2 as u32)
-            + 16777216 * (self.v3 as u32)
+        u32::from_le_bytes([self.v0, self.v1, self.v2, self.v3])
     }
 }
 
 // The place `at`, or the program's end if it lies past it: the bytes from there on are the same.
+#[tactic(auto, using(crate::proofs::Past::same_nearest))]
 fn at_or_end(program: &[u8], at: u64) -> usize
     ensures same { let p = program.now in
         C.bytes_at p result ≡ C.bytes_at p at }
     ensures inside { result ≤ length program.now }
 {
-    if at < program.len() as u64 {
-        at as usize
-    } else {
-        program.len()
-    }
+    at.min(program.len() as u64) as usize
 }
 
 // The same bytes by way of one word, low byte first: what is read byte by byte before it the compiler
@@ -134,10 +191,8 @@ pub fn bytes_at(program: &[u8], at: u64) -> Command
     ensures { result ≡ C.bytes_at program.now at }
 {
     let n = program.len() as u64;
-    if 8 <= n {
-        if at <= n - 8 {
-            return bytes_within(program, at as usize);
-        }
+    if 8 <= n && at <= n - 8 {
+        return bytes_within(program, at as usize);
     }
     bytes_near_end(program, at)
 }

@@ -3,6 +3,8 @@
 //
 // A reactor's number is any word: where no reactor has it, an entry is what the bytes there say, 0
 // past the end.
+#![tactic(auto, unfolding(crate::specs::Open::opened))]
+
 ghost use Rattle.std.specs.Prelude.{◌+◌, ◌*◌, ◌≤◌, ◌<◌, ◌≡◌};
 ghost use Rattle.program.specs.Bytes as B;
 
@@ -14,8 +16,7 @@ pub fn entry_at(program: &[u8], r: u32) -> usize
     ensures is { result ≡ B.entry_at program.now r }
     ensures small { result < 5000 + 4 * r }
 {
-    let n = shapes(program);
-    shape_at(program, n) as usize + 4 * (r as usize)
+    shape_at(program, shapes(program)) as usize + 4 * r as usize
 }
 
 // Byte k of the entry.
@@ -57,19 +58,14 @@ pub fn commands_in(program: &[u8], r: u32) -> u16
 pub fn main_of(program: &[u8]) -> u8
     ensures { result ≡ B.main_of program.now }
 {
-    let n = reactors(program);
-    if n < 1 {
-        return 0;
-    }
-    n - 1
+    reactors(program).saturating_sub(1)
 }
 
 // The byte after the tables.
 pub fn tables_end(program: &[u8]) -> u16
     ensures { result ≡ B.tables_end program.now }
 {
-    let n = reactors(program);
-    entry_at(program, n as u32) as u16
+    entry_at(program, reactors(program) as u32) as u16
 }
 
 // The byte at which the commands of reactor r begin: the sum over the entries before.
@@ -78,10 +74,8 @@ pub fn commands_at(program: &[u8], r: u32) -> u64
     ensures small { result < 20000000000000 }
 {
     let mut at = tables_end(program) as u64;
-    let mut i: u32 = 0;
-    while i < r {
-        at = at + 8 * (commands_in(program, i) as u64);
-        i = i + 1;
+    for i in 0..r {
+        at += 8 * commands_in(program, i) as u64;
     }
     at
 }
@@ -90,6 +84,5 @@ pub fn commands_at(program: &[u8], r: u32) -> u64
 pub fn whole_length(program: &[u8]) -> u64
     ensures { result ≡ B.whole_length program.now }
 {
-    let n = reactors(program);
-    commands_at(program, n as u32)
+    commands_at(program, reactors(program) as u32)
 }

@@ -129,10 +129,7 @@ pub fn fact(facts: &[u64; 64], r: u32) -> Counts
     ensures known { let t = facts.now in
         ((p : List ℕ) → Facts p t → r < B.reactors p → Tells p r result.word) }
 {
-    let i = r as usize;
-    if i < 64 {
-        Counts { word: facts[i] }
-    } else {
-        Counts { word: 0 }
+    Counts {
+        word: facts.get(r as usize).copied().unwrap_or(0),
     }
 }

@@ -13,8 +13,8 @@ mod kind;
 mod location;
 mod shape;
 
-pub use bytes::{byte, global_kind, globals, reactors, shapes};
-pub use commands::{bytes_at, bytes_within};
+pub use bytes::{byte, global_kind, globals, put, reactors, shapes};
+pub use commands::{Code, UnknownCode, bytes_at, bytes_within};
 pub use entry::{
     commands_at, commands_d, commands_in, commands_r, entry_at, main_of, shape_of, tables_end,
     whole_length,

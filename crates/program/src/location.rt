@@ -1,4 +1,6 @@
 // 2.14, 2.46 to 2.48 Locations of a reactor, and the words that a deployment takes.
+#![tactic(auto, unfolding(crate::specs::Location::source_count, crate::specs::Location::sink_count, crate::specs::Location::sink_loc))]
+
 ghost use Rattle.std.specs.Prelude.{ℕ, ◌≤◌, ◌<◌, ◌≡◌};
 ghost use Rattle.value.specs.Test.{pick};
 ghost use Rattle.program.specs.Bytes as B;
@@ -6,13 +8,14 @@ ghost use Rattle.program.specs.Command as C;
 ghost use Rattle.program.specs.Location as L;
 ghost use Rattle.program.specs.declared.Command.{Command};
 
-use crate::Command;
+use crate::Header;
 use crate::bytes::byte;
+use crate::commands::{Code, UnknownCode};
 use crate::entry::{commands_at, commands_d, commands_in, commands_r, shape_of};
 use crate::shape::{sinks_in, sources_in};
 
 // The most locations that a reactor has.
-pub const MOST_LOCATIONS: usize = 174;
+pub const MOST_LOCATIONS: usize = Header::MOST_LOCATIONS;
 
 // The words of a deployment before its slots: reactor, wired, next.
 pub const HEAD_WORDS: u32 = 3;
@@ -21,16 +24,14 @@ pub const HEAD_WORDS: u32 = 3;
 pub fn source_count(program: &[u8], r: u32) -> u8
     ensures { result ≡ L.source_count program.now r }
 {
-    let s = shape_of(program, r);
-    sources_in(program, s)
+    sources_in(program, shape_of(program, r))
 }
 
 // How many sinks.
 pub fn sink_count(program: &[u8], r: u32) -> u8
     ensures { result ≡ L.sink_count program.now r }
 {
-    let s = shape_of(program, r);
-    sinks_in(program, s)
+    sinks_in(program, shape_of(program, r))
 }
 
 // The location of own sink x.
@@ -45,11 +46,9 @@ pub fn result_of(code: u8) -> u8
     ensures is { (c : Command) → c.code ≡ code → result ≡ pick (C.takes_words (C.decode c)) 1 0 }
     ensures one { result < 2 }
 {
-    match code {
-        Command::SUPPLY => 0,
-        Command::REACT => 0,
-        Command::SINK => 0,
-        _ => 1,
+    match Code::try_from(code) {
+        Ok(code) => code.has_result() as u8,
+        Err(UnknownCode) => 1,
     }
 }
 
@@ -62,10 +61,8 @@ fn results_from(program: &[u8], at: u64, n: u8) -> u8
 {
     let i = at as usize;
     let mut m: u8 = 0;
-    let mut j: u8 = 0;
-    while j < n {
-        m = m + result_of(byte(program, i + 8 * (j as usize)));
-        j = j + 1;
+    for j in 0..n {
+        m += result_of(byte(program, i + 8 * j as usize));
     }
     m
 }

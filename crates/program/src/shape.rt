@@ -1,4 +1,6 @@
 // The shapes, 16 bytes each: source count, sink count, seven source kinds, seven sink kinds.
+#![tactic(auto, unfolding(crate::specs::Open::opened))]
+
 ghost use Rattle.std.specs.Prelude.{◌+◌, ◌<◌, ◌≡◌};
 ghost use Rattle.program.specs.Bytes as B;
 

@@ -21,8 +21,9 @@ pub use primitives::primitive;
 pub use table::{is_primitive, is_withdrawn, kinds_fit, operands};
 
 // A mark and a content. A blank has content 0, a number its two's complement, a truth 0 or 1, a
-// reactor its number.
-#[derive(Clone, Copy)]
+// reactor its number. The mark is a number and no enum, since the two are words of memory, which a
+// caller in C hands over and the definitions speak of: any may come.
+#[derive(Clone, Copy, Debug, PartialEq, Eq)]
 pub struct Value {
     pub mark: u32,
     pub content: u32,

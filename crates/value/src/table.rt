@@ -8,7 +8,7 @@ ghost use Rattle.value.specs.Clauses.{number_of};
 use crate::{Kind, Takes};
 
 // 1.10 The primitives, with their numbers in a program. The remainder is withdrawn.
-#[derive(Clone, Copy, Debug, PartialEq, Eq)]
+#[derive(Clone, Copy)]
 pub(crate) enum Primitive {
     Add = 0,
     Subtract = 1,
@@ -27,7 +27,7 @@ pub(crate) enum Primitive {
 }
 
 // A number that is no primitive's.
-#[derive(Clone, Copy, Debug, PartialEq, Eq)]
+#[derive(Clone, Copy)]
 pub(crate) struct UnknownPrimitive;
 
 impl TryFrom<u8> for Primitive {

@@ -1,9 +1,6 @@
-use Rattle.std.specs.Prelude.{◌+◌, ◌-◌, ◌*◌, ◌≤◌, ◌≡◌}
+use Rattle.std.specs.Prelude.{◌+◌, ◌*◌, ◌≤◌, ◌≡◌}
 use Rattle.program.specs.Bytes.{commands_at}
 use Rattle.program.proofs.entry.commands_at.Given as goal
 
 abbrev pub invariant-loop-i : goal.invariant-loop-i
-invariant-loop-i l = (l.at ≡ commands_at l.program l.i) × (l.i ≤ l.r) × (l.at ≤ 65536 + 4080 * l.i)
-
-abbrev pub decreases-loop-i : goal.decreases-loop-i
-decreases-loop-i l = l.r - l.i
+invariant-loop-i l = (l.at ≡ commands_at l.program l.i) × (l.at ≤ 65536 + 4080 * l.i)

@@ -1,32 +1,20 @@
-use Rattle.std.specs.Prelude.{ℕ, ◌≡◌, refl}
-use Rattle.std.proofs.Common.{arith}
+use Rattle.std.specs.Prelude.{◌≡◌, refl, Bool, true, false}
+use Rattle.std.proofs.Common.{sym, ◌∙◌, ap}
+use mir.Val.{bool_byte}
 use Rattle.value.specs.Test.{pick}
-use Rattle.program.specs.Command.{Cmd, takes_words}
-use Rattle.program.proofs.Decode.{by_code, as_supply, as_react, as_sink}
+use Rattle.program.specs.Command.{takes_words}
+use Rattle.program.proofs.Decode.{decoded, undecoded}
 use Rattle.program.proofs.location.result_of.Goals as goal
 
-unfoldable one : Cmd → ℕ
-one d = pick (takes_words d) 1 0
+one : (t : Bool) → bool_byte t ≡ pick t 1 0
+unfolding pick
+one true = refl
+one false = refl
 
-pub returns-in-5 : goal.returns-in-5
-unfolding one takes_words pick
-returns-in-5 c = record { is = (λ d e. as_supply one d (omega arith) refl); one = omega arith }
+pub returns-in-Ok-clause-is : goal.returns-in-Ok-clause-is
+returns-in-Ok-clause-is c d e =
+    one _ ∙ ap (λ (t : Bool). pick t 1 0) (c.has_result.ensures d ∙ ap takes_words (sym (decoded d c.in-Ok.code (c.in-Ok.ensures ∙ sym e))))
 
-pub returns-in-6 : goal.returns-in-6
-unfolding one takes_words pick
-returns-in-6 c = record { is = (λ d e. as_react one d (omega arith) refl); one = omega arith }
-
-pub returns-in-8 : goal.returns-in-8
-unfolding one takes_words pick
-returns-in-8 c = record { is = (λ d e. as_sink one d (omega arith) refl); one = omega arith }
-
-pub returns-in_default : goal.returns-in_default
-unfolding one takes_words pick
-returns-in_default c = record {
-  is = (λ d e.
-      by_code (λ (k : Cmd). 1 ≡ one k) d
-      (λ h. refl) (λ h. refl) (λ h. refl) (λ h. refl)
-      (λ h. absurd (omega arith)) (λ h. absurd (omega arith)) (λ h. refl) (λ h. absurd (omega arith))
-      (λ h. refl) (λ h. refl) (λ h. refl) (λ h. refl) (λ h. refl) (λ h. refl));
-  one = omega arith;
-}
+pub returns-in-Err-clause-is : goal.returns-in-Err-clause-is
+unfolding pick takes_words
+returns-in-Err-clause-is c d e = rw (undecoded d (rw (← e) at c.in-Err.ensures)) refl

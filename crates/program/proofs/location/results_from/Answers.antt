@@ -9,7 +9,7 @@ use Rattle.program.proofs.location.results_from.Goals as goal
 
 pub loop-j-init : goal.loop-j-init
 unfolding results
-loop-j-init c = ((λ r e. refl), omega arith, omega arith)
+loop-j-init c = ((λ r e. refl), omega arith)
 
 -- one command more
 one_more : (p : List ℕ) (r at j m b n : ℕ) → at ≡ command_at p r (commands_d p r) → b ≡ byte p (at + 8 * j) →
@@ -26,7 +26,6 @@ loop-j-preserved c = let loop = c.loop-j in
     let one = c.result_of-m.ensures in (
       (λ r e. one_more _ r _ _ _ _ _ e c.byte.ensures one.is (loop.invariant.0 r e)),
       omega (arith, loop.invariant, one.one),
-      omega arith,
     )
 
 pub returns : goal.returns
