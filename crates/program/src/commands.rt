@@ -129,44 +129,24 @@ fn at_or_end(program: &[u8], at: u64) -> usize
     at.min(program.len() as u64) as usize
 }
 
-// The same bytes by way of one word, low byte first: what is read byte by byte before it the compiler
-// then reads at once.
-fn through_word(c: Command) -> Command
-    ensures { result ≡ c }
-{
-    let w = c.code as u64
-        + 256 * (c.x as u64)
-        + 65536 * (c.a as u64)
-        + 16777216 * (c.b as u64)
-        + 4294967296 * (c.v() as u64);
-    let v = w / 4294967296;
-    Command {
-        code: (w % 256) as u8,
-        x: (w / 256 % 256) as u8,
-        a: (w / 65536 % 256) as u8,
-        b: (w / 16777216 % 256) as u8,
-        v0: (v % 256) as u8,
-        v1: (v / 256 % 256) as u8,
-        v2: (v / 65536 % 256) as u8,
-        v3: (v / 16777216 % 256) as u8,
-    }
-}
-
-// The eight bytes from byte i on, where the program has them all.
+// The eight bytes from byte i on, where the program has them all. As an array the compiler reads them at once.
+#[tactic(auto, unfolding(crate::specs::Open::opened))]
 pub fn bytes_within(program: &[u8], i: usize) -> Command
     requires { i + 8 ≤ length program.now }
     ensures { result ≡ C.bytes_at program.now i }
 {
-    through_word(Command {
-        code: program[i],
-        x: program[i + 1],
-        a: program[i + 2],
-        b: program[i + 3],
-        v0: program[i + 4],
-        v1: program[i + 5],
-        v2: program[i + 6],
-        v3: program[i + 7],
-    })
+    let bytes: [u8; 8] = program[i..i + 8].try_into().unwrap();
+    let [code, x, a, b, v0, v1, v2, v3] = bytes;
+    Command {
+        code,
+        x,
+        a,
+        b,
+        v0,
+        v1,
+        v2,
+        v3,
+    }
 }
 
 // The same at the program's end and past it.
