@@ -1,8 +1,7 @@
 -- Bits of a standing: the weight that the code uses does for a byte what the power of two does.
 -- Assumes nothing.
-use Rattle.std.specs.Prelude.{ℕ, zero, suc, ◌+◌, ◌/◌, ◌%◌, ◌^◌, ◌≤◌, ◌<◌, ◌≡◌, refl, false, []}
+use Rattle.std.specs.Prelude.{ℕ, zero, suc, min, ◌+◌, ◌*◌, ◌/◌, ◌%◌, ◌^◌, ◌≤◌, ◌<◌, ◌≡◌, refl, false}
 use Rattle.std.proofs.Common.{sym, ◌∙◌, ap, ⊎_elim}
-use Rattle.std.specs.Prelude.{◌∷◌, get_or}
 use Rattle.std.proofs.Common.{arith}
 use native.Mathlib.Nat.{pow-le-pow_right, div-eq_of_lt}
 use Rattle.value.specs.Test.{◌=?◌}
@@ -71,9 +70,14 @@ module _ (t : ℕ) (b : t < 256) where
   pub bit_room : (x : ℕ) → x < 8 → (t / 2 ^ x % 2 =? 1) ≡ false → t + 2 ^ x < 256
   bit_room x h e = room x h (even _ (eq×? e))
 
-pub weights : (x : ℕ) → x < 8 → get_or (1 ∷ 2 ∷ 4 ∷ 8 ∷ 16 ∷ 32 ∷ 64 ∷ 128 ∷ []) x 0 ≡ byte_bit x
-weights x h = low_cases (λ (x : ℕ). get_or (1 ∷ 2 ∷ 4 ∷ 8 ∷ 16 ∷ 32 ∷ 64 ∷ 128 ∷ []) x 0 ≡ 2 ^ x) refl refl refl refl refl
-    refl refl refl x h ∙ bit_low x h
+pub shifted : (x m : ℕ) → m ≡ min x 8 → 1 * 2 ^ m % 65536 ≡ byte_bit x
+shifted x m e =
+    ⊎_elim
+    (λ (h : x < 8).
+    let same : m ≡ x = omega arith in
+    rw same (low_cases (λ (x : ℕ). 1 * 2 ^ x % 65536 ≡ 2 ^ x) refl refl refl refl refl refl refl refl x h ∙ bit_low x h))
+    (λ (h : 8 ≤ x). let same : m ≡ 8 = omega arith in rw same (bit_high x h))
+    (below x 8)
 
 low_most : (x : ℕ) → x < 8 → 2 ^ x ≤ 128
 low_most =

@@ -1,25 +1,25 @@
 -- One turn of the loops over a reactor's commands, and of the loop over the reactors, said of their definitions.
 -- Assumes nothing.
-use Rattle.std.specs.Prelude.{ℕ, zero, suc, ◌+◌, ◌-◌, ◌*◌, ◌≤◌, ◌<◌, ◌≡◌, refl, Bool, true, Ok, Err}
-use Rattle.std.proofs.Common.{sym, ◌∙◌, ap, subst}
-use Rattle.std.specs.Prelude.{false, List}
-use Rattle.std.proofs.Common.{true≢false, arith}
-use Rattle.value.specs.Test.{pick}
-use Rattle.value.proofs.Tests.{goes, stops}
-use Rattle.program.specs.Bytes.{commands_d, commands_in, commands_at, command_at, entry_at}
-use Rattle.program.specs.Command.{Cmd, takes_words, decode, bytes_at, bytes_of, cmd_of}
+use Rattle.std.specs.Prelude.{ℕ, zero, suc, ◌+◌, ◌-◌, ◌≤◌, ◌<◌, ◌≡◌, ◌≢◌, refl, true, false, List}
+use Rattle.std.specs.Prelude.{Option, None, Some, Result, Ok, Err}
+use Rattle.std.proofs.Common.{sym, ◌∙◌, ap, subst, arith}
+use Rattle.value.specs.Test.{◌<?◌, pick}
+use Rattle.value.proofs.Tests.{cases, goes, lt?, lt×?, no, stops, yes}
+use Rattle.program.specs.Bytes.{commands_d, commands_in, commands_r, command_at, entry_at}
+use Rattle.program.specs.Command.{Cmd, takes_words, decode, bytes_of, cmd_of}
 use Rattle.program.specs.Location.{results}
 use Rattle.program.specs.declared.Command.{Command}
 use Rattle.load.specs.Scan.{Scanned, refusal_of, after_of, scanned, onward, scan_of, begin_of, complete}
 use Rattle.load.specs.Refusal.{at_command}
 use Rattle.load.specs.Check.{ended, reactors_of}
-use Rattle.load.specs.Clauses.{LegalTables, Shaped, Within, Stepped, Stopped, Passed, Ran, refusal_next}
+use Rattle.load.specs.Clauses.{LegalTables, Shaped, Within, state, Stepped, all_of, Ran}
+use Rattle.load.specs.declared.Locations.{Locations}
+use Rattle.load.specs.declared.Progress.{Progress}
 use Rattle.load.specs.declared.Scan.{Scan}
 use Rattle.answer.specs.Answer.{Answer, Ruling}
 use Rattle.answer.specs.declared.Refusal.{Refusal}
 use Rattle.answer.specs.declared.Refusal.TheVariants.{Missing}
-use Rattle.load.proofs.Shapes.{after_shaped, after_within}
-use Rattle.load.proofs.Stands.{after_next}
+use Rattle.load.proofs.Shapes.{after_shaped, after_within, begin_shaped, begin_within}
 
 -- a ruling of why is no acceptance
 pub not_fine : {A : Type 0} {w : Refusal} → ◌≡◌ {A = Ruling} (Err w) (Ok tt) → A
@@ -38,125 +38,125 @@ module _ (more : Scan → Scanned) (p : List ℕ) (r : ℕ) (s : Scan) (d : Cmd)
   onward_refused zero d = absurd (d refl)
   onward_refused (suc n) d = refl
 
--- from s₀ on, all but `left` of the n commands have been taken
-pub record Running (p : List ℕ) (r n : ℕ) (s₀ s : Scan) (left : ℕ) : Type 0 where
-  pub scans : (m : ℕ) → scan_of (n + m) p r s₀ ≡ scan_of (left + m) p r s
-  pub count : s.next + left ≡ s₀.next + n
-  pub few : left ≤ n
-  pub shaped : Shaped p s
-  pub within : Within p r s
+-- where the first i commands lead, none of which is refused
+pub record Running (p : List ℕ) (r : ℕ) (t : Locations) (q : Progress) (i : ℕ) : Type 0 where
+  pub here : q.next ≡ i
+  pub scans : (m : ℕ) → scan_of (i + m) p r (begin_of p r) ≡ scan_of m p r (state t i)
+  pub shaped : Shaped p (state t i)
+  pub within : Within p r (state t i)
+  pub counted : q.results ≡ results p r (i - commands_d p r)
 
 module _ (p : List ℕ) (r : ℕ) where
-  pub run_start : (n : ℕ) (s : Scan) → Shaped p s → Within p r s → Running p r n s s n
-  run_start n s sh w = record { scans = λ m. refl; count = refl; few = omega arith; shaped = sh; within = w }
-
-  -- of none of the n R commands
-  pub none_yet : (n : ℕ) → 0 ≡ results p r (n - n)
+  pub run_start : (legal : LegalTables p) (t : Locations) (q : Progress) → state t 0 ≡ begin_of p r → q.next ≡ 0 →
+      q.results ≡ 0 → Running p r t q 0
   unfolding results
-  none_yet n = let e : n - n ≡ 0 = omega arith in rw e
-
-  pub run_done : (n : ℕ) (s₀ s : Scan) (left : ℕ) → Running p r n s₀ s left → left ≤ 0 → Passed p r n s₀ s
-  run_done n s₀ s left run h =
+  run_start legal t q e h k =
+      let none : 0 - commands_d p r ≡ 0 = omega arith in
       record {
-        on = λ m. run.scans m ∙ ap (λ (k : ℕ). scan_of k p r s) (omega arith);
-        count = omega (arith, run.count);
-        shaped = run.shaped;
-        within = run.within;
+        here = h;
+        scans = λ m. ap (λ (n : ℕ). scan_of n p r (begin_of p r)) (omega arith) ∙ ap (scan_of m p r) (sym e);
+        shaped = subst (λ (s : Scan). Shaped p s) (sym e) (begin_shaped p legal.some_shape r);
+        within = subst (λ (s : Scan). Within p r s) (sym e) (begin_within p r);
+        counted = k ∙ ap (results p r) (sym none);
       }
 
-  scan_step : (s : Scan) (n : ℕ) → 0 < n →
-      scan_of n p r s ≡ onward (scan_of (n - 1) p r) p r s (decode (bytes_of p r s.next)) (refusal_next p r s)
-  unfolding scan_of
-  scan_step s zero h = absurd (omega arith)
-  scan_step s (suc n) h = let e : suc n - 1 ≡ n = omega arith in rw e
+  -- the next command is taken or refused
+  module _ (t : Locations) (q : Progress) (i : ℕ) (run : Running p r t q i) (l : i < commands_in p r)
+      (c : Command) (read : c ≡ bytes_of p r i) (u : Locations) where
+    abbrev next_refusal : ℕ
+    next_refusal = refusal_of p r (state t i) (bytes_of p r i) (decode (bytes_of p r i))
 
-  -- the next command is read at its byte, and taken or refused
-  module _ (n : ℕ) (s₀ s : Scan) (left : ℕ) (run : Running p r n s₀ s left) (h : 0 < left)
-      (first : ℕ) (begins : first ≡ commands_at p r) (c : Command) (ec : c ≡ bytes_at p (first + 8 * s.next))
-      (u : Scan) (t : Bool) (step : Stepped p r s u c t) where
-    next_bytes : c ≡ bytes_of p r s.next
-    unfolding bytes_of command_at
-    next_bytes = ec ∙ ap (bytes_at p) (omega arith)
+    the_next : refusal_of p r (state t i) c (decode c) ≡ next_refusal
+    the_next = ap (λ (c : Command). refusal_of p r (state t i) c (decode c)) read
 
-    next_refusal : refusal_of p r s c (decode c) ≡ refusal_next p r s
-    next_refusal = ap (λ (c : Command). refusal_of p r s c (decode c)) next_bytes
+    from_here : (o : Option Progress) → Stepped p r (state t q.next) c u o → Stepped p r (state t i) c u o
+    from_here o = subst (λ (n : ℕ). Stepped p r (state t n) c u o) run.here
 
-    stopped_here : (refusal_of p r s c (decode c) ≡ 0 → ⊥) → Stopped p r n s₀ s
-    stopped_here d =
-        let no : refusal_next p r s ≡ 0 → ⊥ = (λ z. d (next_refusal ∙ z)) in
-        (no, λ m. run.scans m ∙ scan_step s (left + m) (omega arith) ∙ onward_refused _ p r s _ _ no)
+    next_scan : (m : ℕ) → scan_of (i + suc m) p r (begin_of p r) ≡
+        onward (scan_of m p r) p r (state t i) (decode (bytes_of p r i)) next_refusal
+    unfolding scan_of
+    next_scan m = run.scans (suc m)
 
-    pub run_refused : t ≡ true → Stopped p r n s₀ u
-    run_refused e = let q = step.stays e in subst (λ (v : Scan). Stopped p r n s₀ v) (sym q.1) (stopped_here q.0)
+    pub refused_here : Stepped p r (state t q.next) c u None → refusal_of p r (state u i) c (decode c) ≢ 0
+    refused_here step z =
+        let k = from_here None step in
+        k.0 (ap (λ (s : Scan). refusal_of p r s c (decode c)) (sym k.1) ∙ z)
+
+    pub run_refused : {w : Refusal} (v : Locations) → Stepped p r (state t q.next) c u None →
+        w ≡ at_command (refusal_of p r (state u i) c (decode c)) (command_at p r i) → Ran p r v (Err w)
+    run_refused v step e =
+        let k = from_here None step in
+        let m = commands_in p r - i - 1 in
+        let no : next_refusal ≢ 0 = λ z. k.0 (the_next ∙ z) in
+        let rest : commands_in p r ≡ i + suc m = omega arith in
+        let all : all_of p r ≡ scanned next_refusal (command_at p r i) (state t i) =
+        ap (λ (n : ℕ). scan_of n p r (begin_of p r)) rest ∙ next_scan m ∙ onward_refused _ p r (state t i) _ _ no in (
+          λ z. no (ap (λ (x : Scanned). x.code) (sym all) ∙ z),
+          e ∙ ap (λ (s : Scan). at_command (refusal_of p r s c (decode c)) (command_at p r i)) k.1
+              ∙ ap (λ (n : ℕ). at_command n (command_at p r i)) the_next
+              ∙ ap (λ (x : Scanned). at_command x.code x.place) (sym all),
+        )
 
     -- R commands with a result, one command more
-    pub one_more : s₀.next ≡ commands_d p r → (m k : ℕ) → m ≡ results p r (n - left)
-        → k ≡ m + pick (takes_words (decode c)) 1 0 → k ≡ results p r (n - (left - 1))
+    one_more : (m k : ℕ) → m ≡ results p r (i - commands_d p r) →
+        k ≡ m + pick (q.next <? commands_d p r) 0 (pick (takes_words (decode c)) 1 0) →
+        k ≡ results p r (i + 1 - commands_d p r)
     unfolding results cmd_of
-    one_more from m k so then =
-        let i : s.next ≡ commands_d p r + (n - left) = omega (arith, run.count, run.few) in
+    one_more m k so then =
         let one : Command → ℕ = λ c. pick (takes_words (decode c)) 1 0 in
-        let is : one c ≡ one (bytes_of p r (commands_d p r + (n - left))) = ap one (next_bytes ∙ ap (bytes_of p r) i) in
-        let q : n - (left - 1) ≡ suc (n - left) = omega (arith, run.few) in
-        rw q (omega (arith, then, so, is))
+        cases (q.next <? commands_d p r)
+        (λ e.
+        let low : q.next < commands_d p r = lt? e in
+        let same : i + 1 - commands_d p r ≡ i - commands_d p r = omega (arith, run.here) in
+        then ∙ ap (λ (n : ℕ). m + n) (sym (yes (one c) e refl)) ∙ (omega arith) ∙ so ∙ ap (results p r) (sym same))
+        (λ e.
+        let high : commands_d p r ≤ q.next = lt×? e in
+        let q : i + 1 - commands_d p r ≡ suc (i - commands_d p r) = omega (arith, run.here) in
+        let at : i ≡ commands_d p r + (i - commands_d p r) = omega (arith, run.here) in
+        let is : one c ≡ one (bytes_of p r (commands_d p r + (i - commands_d p r))) =
+        ap one (read ∙ ap (bytes_of p r) at) in
+        let put = then ∙ ap (λ (n : ℕ). m + n) (sym (no 0 e refl)) in
+        rw q (omega (arith, put, so, is)))
 
-    module _ (legal : LegalTables p) (l : s.next < commands_in p r) where
-      taken_here : refusal_of p r s c (decode c) ≡ 0 → Running p r n s₀ (after_of p r s (decode c)) (left - 1)
-      taken_here z =
-          record {
-            scans = λ m.
-                run.scans m ∙ scan_step s (left + m) (omega arith)
-                ∙ onward_taken _ p r s _ _ (sym next_refusal ∙ z)
-                ∙ ap (λ (c : Command). scan_of (left + m - 1) p r (after_of p r s (decode c))) (sym next_bytes)
-                ∙ ap (λ (k : ℕ). scan_of k p r (after_of p r s (decode c))) (omega arith);
-            count = omega (arith, run.count, after_next p r s (decode c));
-            few = omega (arith, run.few);
-            shaped = after_shaped p r s c legal run.shaped (decode c) z;
-            within = after_within p r s c run.within l (decode c) z;
-          }
-
-      pub run_taken : t ≡ false → Running p r n s₀ u (left - 1)
-      run_taken e = let q = step.goes e in subst (λ (v : Scan). Running p r n s₀ v (left - 1)) (sym q.1)
-          (taken_here q.0)
-
-  -- ---- D commands, then R commands
-
-  pub ran_from : {n : ℕ} {s v u : Scan} {t : Bool} → s ≡ v → Ran p r n s u t → Ran p r n v u t
-  ran_from {n = n} {u = u} {t = t} e = subst (λ (v : Scan). Ran p r n v u t) e
-
-  module _ {n d : ℕ} (k : ℕ) {s u : Scan} (en : n ≡ d + k) where
-    pub ran_stopped : {t : Bool} → t ≡ true → Ran p r d s u t → Ran p r n s u t
-    ran_stopped e ran =
-        let q = ran.stopped e in
+    pub run_taken : (legal : LegalTables p) (then : Progress) → Stepped p r (state t q.next) c u (Some then) →
+        then.results ≡ q.results + pick (q.next <? commands_d p r) 0 (pick (takes_words (decode c)) 1 0) →
+        Running p r u then (i + 1)
+    run_taken legal then step e =
+        let k = from_here (Some then) step in
+        let s = state t i in
+        let to : state u (i + 1) ≡ after_of p r s (decode c) = ap (state u) (sym k.1) ∙ k.2 in
         record {
-          stopped = λ z. (q.0, λ m. ap (λ (i : ℕ). scan_of i p r s) (omega arith) ∙ q.1 (k + m));
-          passed = λ z. absurd (true≢false (sym e ∙ z));
+          here = k.1;
+          scans = λ m.
+              ap (λ (n : ℕ). scan_of n p r (begin_of p r)) (omega arith) ∙ next_scan m
+              ∙ onward_taken _ p r s _ _ (sym the_next ∙ k.0)
+              ∙ ap (λ (c : Command). scan_of m p r (after_of p r s (decode c))) (sym read)
+              ∙ ap (scan_of m p r) (sym to);
+          shaped = subst (λ (s : Scan). Shaped p s) (sym to) (after_shaped p r s c legal run.shaped (decode c) k.0);
+          within = subst (λ (s : Scan). Within p r s) (sym to) (after_within p r s c run.within l (decode c) k.0);
+          counted = one_more _ _ run.counted e;
         }
 
-    pub ran_both : {v : Scan} {t : Bool} → Passed p r d s u → Ran p r k u v t → Ran p r n s v t
-    ran_both first then =
-        let on : (m : ℕ) → scan_of (n + m) p r s ≡ scan_of (k + m) p r u =
-        (λ m. ap (λ (i : ℕ). scan_of i p r s) (omega arith) ∙ first.on (k + m)) in
-        record {
-          stopped = λ e. let q = then.stopped e in (q.0, λ m. on m ∙ q.1 m);
-          passed = λ e.
-              let q = then.passed e in
-              record {
-                on = λ m. on m ∙ q.on m;
-                count = omega (arith, q.count, first.count);
-                shaped = q.shaped;
-                within = q.within;
-              };
-        }
+  pub run_done : (t : Locations) (q : Progress) (i : ℕ) → Running p r t q i → i ≡ commands_in p r → Ran p r t (Ok q)
+  unfolding scan_of commands_in
+  run_done t q i run e =
+      let all : commands_in p r ≡ i + 0 = omega arith in
+      let rest : i - commands_d p r ≡ commands_r p r = omega arith in (
+        ap (λ (n : ℕ). scan_of n p r (begin_of p r)) all ∙ run.scans 0
+            ∙ ap (λ (n : ℕ). scanned 0 0 (state t n)) (sym run.here),
+        subst (λ (n : ℕ). Within p r (state t n)) (sym run.here) run.within,
+        run.counted ∙ ap (results p r) rest,
+      )
 
 -- ---- a reactor
 
 module _ (more : Unit {0} → Answer) (entry : ℕ) where
-  ended_refused : (t : Scanned) (n q : ℕ) (u : Scan) → t ≡ scanned n q u → (n ≡ 0 → ⊥) → Err (at_command n q) ≡
-      ended more entry t t.code
+  ended_refused : (t : Scanned) → t.code ≢ 0 → Err (at_command t.code t.place) ≡ ended more entry t t.code
   unfolding ended
-  ended_refused t zero q u e d = absurd (d refl)
-  ended_refused t (suc n) q u e d = sym (ap (λ (t : Scanned). ended more entry t t.code) e)
+  ended_refused t d = elim t.code as (λ n. n ≢ 0 → Err (at_command n t.place) ≡ ended more entry t n) [
+    | zero ↦ λ d. absurd (d refl)
+    | suc n ↦ λ d. refl
+  ] d
 
   ended_missing : (t : Scanned) (u : Scan) → t ≡ scanned 0 0 u → complete u ≡ false → Err (Missing entry) ≡ ended
       more entry t t.code
@@ -171,43 +171,34 @@ module _ (accepted : Answer) (p : List ℕ) (r : ℕ) where
   abbrev After : ℕ → Unit {0} → Answer
   After m _ = reactors_of accepted m p (r + 1)
 
-  abbrev Scan-of : Scanned
-  Scan-of = scan_of (commands_in p r) p r (begin_of p r)
-
-  reactors_step : (m : ℕ) → 0 < m → reactors_of accepted m p r ≡ ended (After (m - 1)) (entry_at p r) Scan-of
-      Scan-of.code
+  reactors_step : (m : ℕ) → 0 < m → reactors_of accepted m p r ≡ ended (After (m - 1)) (entry_at p r) (all_of p r)
+      (all_of p r).code
   unfolding reactors_of
   reactors_step zero h = absurd (omega arith)
   reactors_step (suc m) h = let e : suc m - 1 ≡ m = omega arith in rw e
 
-  -- what the scan of the reactor with the number q comes to
-  module _ (m : ℕ) (h : 0 < m) {q : ℕ} {u : Scan} {t : Bool} (eq : q ≡ r)
-      (ran : Ran p q (commands_in p q) (begin_of p q) u t) where
-    ran_here : Ran p r (commands_in p r) (begin_of p r) u t
-    ran_here = subst (λ (q : ℕ). Ran p q (commands_in p q) (begin_of p q) u t) eq ran
+  -- what the scan of reactor q of o, which is this one, comes to
+  module _ (m : ℕ) (h : 0 < m) (t : Locations) {o : List ℕ} {q : ℕ} (is : (o ≡ p) × (q ≡ r)) where
+    ran_here : (x : Result Progress Refusal) → Ran o q t x → Ran p r t x
+    ran_here x ran = subst (λ (q : ℕ). Ran p q t x) is.1 (subst (λ (o : List ℕ). Ran o q t x) is.0 ran)
 
-    pub reactor_refused : t ≡ true → (at : ℕ) → at ≡ command_at p r u.next →
-        Err (at_command (refusal_of p r u (bytes_at p at) (decode (bytes_at p at))) at) ≡ reactors_of accepted m p r
-    unfolding bytes_of
-    reactor_refused e at f =
-        let stop = ran_here.stopped e in
-        let all : commands_in p r ≡ commands_in p r + 0 = omega arith in
-        ap (λ (i : ℕ). Err (at_command (refusal_of p r u (bytes_at p i) (decode (bytes_at p i))) i)) f
-        ∙ ended_refused (After (m - 1)) (entry_at p r) Scan-of _ _ u
-        (ap (λ (n : ℕ). scan_of n p r (begin_of p r)) all ∙ stop.1 0) stop.0
-        ∙ sym (reactors_step m h)
+    pub reactor_refused : {w : Refusal} → Ran o q t (Err w) → Err w ≡ reactors_of accepted m p r
+    reactor_refused {w} ran =
+        let here = ran_here (Err w) ran in
+        ap Err here.1 ∙ ended_refused (After (m - 1)) (entry_at p r) (all_of p r) here.0 ∙ sym (reactors_step m h)
 
-    module _ (e : t ≡ false) where
-      all_taken : Scan-of ≡ scanned 0 0 u
-      unfolding scan_of
-      all_taken = let all : commands_in p r ≡ commands_in p r + 0 = omega arith in ap
-          (λ (n : ℕ). scan_of n p r (begin_of p r)) all ∙ (ran_here.passed e).on 0
+    module _ (x : Progress) (ran : Ran o q t (Ok x)) where
+      all_taken : all_of p r ≡ scanned 0 0 (state t x.next)
+      all_taken = let here = ran_here (Ok x) ran in here.0
 
-      pub reactor_missing : complete u ≡ false → Err (Missing (entry_at p r)) ≡ reactors_of accepted m p r
-      reactor_missing f = ended_missing (After (m - 1)) (entry_at p r) Scan-of u all_taken f ∙ sym (reactors_step m h)
+      pub reactor_missing : complete (state t x.next) ≡ false → Err (Missing (entry_at p r)) ≡
+          reactors_of accepted m p r
+      reactor_missing f = ended_missing (After (m - 1)) (entry_at p r) (all_of p r) _ all_taken f ∙ sym
+          (reactors_step m h)
 
-      pub reactor_taken : complete u ≡ true → reactors_of accepted m p r ≡ reactors_of accepted (m - 1) p (r + 1)
-      reactor_taken f = reactors_step m h ∙ ended_on (After (m - 1)) (entry_at p r) Scan-of u all_taken f
+      pub reactor_taken : complete (state t x.next) ≡ true → reactors_of accepted m p r ≡
+          reactors_of accepted (m - 1) p (r + 1)
+      reactor_taken f = reactors_step m h ∙ ended_on (After (m - 1)) (entry_at p r) (all_of p r) _ all_taken f
 
   pub reactors_done : (m : ℕ) → m ≤ 0 → accepted ≡ reactors_of accepted m p r
   unfolding reactors_of

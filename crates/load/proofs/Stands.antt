@@ -11,6 +11,7 @@ use Rattle.program.specs.Location.{most_locations, sink_loc}
 use Rattle.load.specs.Clauses.{state}
 use Rattle.load.specs.Scan.{some_value, unset_sink, kind_at, stand, standing_after, advance, after_of, with_sources}
 use Rattle.load.specs.Scan.{with_sinks}
+use Rattle.load.specs.declared.Locations.{Locations}
 use Rattle.load.specs.declared.Scan.{Scan}
 
 -- a table read past its end
@@ -42,11 +43,10 @@ module _ (p : List ℕ) {b s k : ℕ} where
       (λ (k : ℕ). byte p (shape_at p k + 9 + x)) f
 
 -- another standing alone
-pub stands_as : {xs : List ℕ} (standing kind : List ℕ) (n l : ℕ) {t v : ℕ} → xs ≡ set standing l t → t ≡ v →
-    state xs kind n ≡ stand (state standing kind n) l v (kind_at (state standing kind n) l)
+pub stands_as : {xs : List ℕ} (t : Locations) (n l v : ℕ) → xs ≡ set t.standing l v →
+    state (record { standing = xs; kind = t.kind }) n ≡ stand (state t n) l v (kind_at (state t n) l)
 unfolding stand kind_at
-stands_as standing kind n l e f =
-    λ i. record { standing = (e ∙ ap (set standing l) f) i; kind = sym (set-get_or kind l 0) i; next = n }
+stands_as t n l v e = λ i. record { standing = e i; kind = sym (set-get_or t.kind l 0) i; next = n }
 
 module _ (p : List ℕ) (r : ℕ) (s : Scan) (here : ℕ) where
   next_kept : (d : Cmd) → (standing_after p r s here d).next ≡ s.next

@@ -1,20 +1,24 @@
 -- What the contracts of the check's code speak of beside the definitions: what the scan rests on, the lent tables as a
--- state, what is known of a reactor, and what is asked of a command at once. Only proofs rest on this; what is accepted
--- is said in Scan.antt and Check.antt.
-use Rattle.std.specs.Prelude.{ℕ, ◌+◌, ◌^◌, ◌≤◌, ◌<◌, ◌≡◌, Bool, true, false, List, get_or}
-use Rattle.value.specs.Test.{pick, ◌<?◌, ◌and◌, ◌or◌, ◌=?◌}
-use Rattle.program.specs.Bytes.{shapes, reactors, sources_in, shape_of, commands_in}
+-- state, and what is asked of a command at once. Only proofs rest on this; what is accepted is said in Scan.antt and
+-- Check.antt.
+use Rattle.std.specs.Prelude.{ℕ, ◌+◌, ◌^◌, ◌≤◌, ◌<◌, ◌≡◌, ◌≢◌, Bool, true, false, List, get_or, replicate}
+use Rattle.std.specs.Prelude.{Option, None, Some, Result, Ok, Err}
+use Rattle.std.specs.Bool.{then_some}
+use Rattle.value.specs.Test.{pick, ◌<?◌, ◌and◌, ◌=?◌}
+use Rattle.program.specs.Bytes.{shapes, reactors, sources_in, shape_of, commands_in, commands_r}
 use Rattle.program.specs.declared.Command.{Command}
-use Rattle.program.specs.Location.{most_locations, locations}
-use Rattle.load.specs.Scan.{free_point, standing_at, kind_at, is_supplied, scanned, is_value, some_value, stand}
+use Rattle.program.specs.Location.{most_locations, locations, results}
+use Rattle.program.specs.Command.{Cmd, Give, gives, sequence_of, decode}
+use Rattle.program.specs.Kind.{give_kind}
+use Rattle.load.specs.Refusal.{at_command}
+use Rattle.load.specs.Scan.{Scanned, free_point, standing_at, kind_at, is_supplied, scanned, some_value, stand}
 use Rattle.load.specs.Scan.{in_sequence, formed, remaining, located, agreed, disorder, refusal_of, standing_after}
-use Rattle.load.specs.Scan.{after_of, scan_of, settled}
-use Rattle.load.specs.declared.Scan.{Scan}
-use Rattle.program.specs.Bytes as B
-use Rattle.program.specs.Location as L
-use Rattle.program.specs.Command.{Cmd, sequence_of, decode, bytes_of, v_of}
-use Rattle.load.specs.declared.Facts.{Facts}
+use Rattle.load.specs.Scan.{after_of, scan_of, begin_of, settled}
+use Rattle.answer.specs.declared.Refusal.{Refusal}
 use Rattle.load.specs.declared.Location.{Location}
+use Rattle.load.specs.declared.Progress.{Progress}
+use Rattle.load.specs.declared.Scan.{Scan}
+use Rattle.load.specs.declared.Locations.{Locations}
 
 -- the weight of bit x of a byte; for a higher one 256, which no byte reaches
 unfoldable pub byte_bit : ℕ → ℕ
@@ -41,22 +45,20 @@ Shaped p s = (l : ℕ) → free_point ≤ standing_at s l → kind_at s l < shap
 abbrev pub Within : List ℕ → ℕ → Scan → Type 0
 Within p r s = (l : ℕ) → locations p r ≤ l → standing_at s l ≡ 0
 
--- ---- the lent tables, and what is known of a reactor
+-- ---- the lent tables
+
+-- before anything stands anywhere
+abbrev pub blank : Locations
+blank = record { standing = replicate most_locations 0; kind = replicate most_locations 0 }
 
 -- the tables of standings and kinds, and the index of the next command
-abbrev pub state : List ℕ → List ℕ → ℕ → Scan
-state standing kind next = record { standing = standing; kind = kind; next = next }
+abbrev pub state : Locations → ℕ → Scan
+state t n = record { standing = t.standing; kind = t.kind; next = n }
 
--- what is known of a reactor is so
-pub record FactsOf (p : List ℕ) (f : Facts) : Type 0 where
-  pub a_reactor : f.reactor < B.reactors p
-  pub its_shapes : f.shapes ≡ B.shapes p
-  pub its_globals : f.globals ≡ B.globals p
-  pub its_shape : f.shape ≡ B.shape_of p f.reactor
-  pub its_sources : f.sources ≡ L.source_count p f.reactor
-  pub its_declared : f.declared ≡ B.commands_d p f.reactor
-  pub its_running : f.running ≡ B.commands_r p f.reactor
-  pub its_sinks : f.sinks ≡ L.sink_count p f.reactor
+-- a value of this kind at location `here`, if there is one
+abbrev pub valued : Option ℕ → Scan → ℕ → Scan
+valued None s here = s
+valued (Some k) s here = stand s here some_value k
 
 -- ---- one command
 
@@ -68,64 +70,45 @@ right p r s c d = formed p c d and remaining d and located s d and agreed p r s 
 unfoldable pub allowed : Bool → List ℕ → ℕ → Scan → Command → Cmd → Bool
 allowed is_d p r s c d = in_sequence (sequence_of d) is_d and right p r s c d
 
--- k is the kind of the value that the command gives, or no kind where it is refused
-pub record Giving (p : List ℕ) (r : ℕ) (before : ℕ → Scan) (c : Command) (d : Cmd) (k : ℕ) : Type 0 where
-  pub told : (n : ℕ) → (k <? 256) ≡ right p r (before n) c d
-  pub given : k < 256 → (n here : ℕ) → stand (before n) here some_value k ≡ standing_after p r (before n) here d
+-- k is the kind of the value that the command gives, or none where it is refused
+abbrev pub Giving : List ℕ → ℕ → Locations → Command → Give → Option ℕ → Type 0
+Giving p r t c g k = (n : ℕ) →
+    let s = state t n in k ≡ then_some (right p r s c (gives g)) (give_kind p (kind_at s) (kind_at s) g)
 
--- t tells whether the command is right; if so the tables are as after it, else as before
-pub record Taking (p : List ℕ) (r here : ℕ) (before after : ℕ → Scan) (c : Command) (d : Cmd) (t : Bool) : Type 0 where
-  pub told : (n : ℕ) → t ≡ right p r (before n) c d
-  pub done : (n : ℕ) → after n ≡ pick t (standing_after p r (before n) here d) (before n)
+-- t tells whether the R command is right; if so the tables are as after it, else as before
+pub record Taking (p : List ℕ) (r here : ℕ) (before after : Locations) (c : Command) (d : Cmd) (t : Bool) : Type 0 where
+  pub told : (n : ℕ) → t ≡ allowed false p r (state before n) c d
+  pub done : (n : ℕ) →
+      let s = state before n in state after n ≡ pick t (standing_after p r s here d) s
 
--- m is what a D command makes of its location, standing 0 where it is refused
-pub record Making (p : List ℕ) (r : ℕ) (s : Scan) (here : ℕ) (c : Command) (d : Cmd) (m : Location) : Type 0 where
-  pub told : (0 <? m.standing) ≡ allowed true p r s c d
-  pub made : 0 < m.standing → stand s here m.standing m.kind ≡ standing_after p r s here d
+-- m is what a D command makes of its location, or none where it is refused
+abbrev pub Making : List ℕ → ℕ → Scan → ℕ → Command → Cmd → Option Location → Type 0
+Making p r s here c d None = allowed true p r s c d ≡ false
+Making p r s here c d (Some m) =
+    (allowed true p r s c d ≡ true) × (stand s here m.standing m.kind ≡ standing_after p r s here d)
 
--- a primitive's operands, by what it takes: one, any or a truth; two of kind k; two of one
--- kind; a truth and two of one kind
-abbrev pub one_right : Scan → Command → Bool → Bool
-one_right s c any = (c.b + v_of c =? 0) and is_value s c.a and (any or (kind_at s c.a =? 1))
+-- a refusal's number as an answer, at byte q
+unfoldable pub told : ℕ → ℕ → Result (Unit {0}) Refusal
+told n q = pick (n =? 0) (Ok tt) (Err (at_command n q))
 
-abbrev pub two_right : Scan → Command → ℕ → Bool
-two_right s c k = (v_of c =? 0) and (is_value s c.a and is_value s c.b) and
-    ((kind_at s c.a =? k) and (kind_at s c.b =? k))
-
-abbrev pub alike_right : Scan → Command → Bool
-alike_right s c = (v_of c =? 0) and (is_value s c.a and is_value s c.b) and (kind_at s c.a =? kind_at s c.b)
-
-abbrev pub three_right : Scan → Command → Bool
-three_right s c =
-    (v_of c =? c.v0) and (is_value s c.a and is_value s c.b and is_value s c.v0)
-    and ((kind_at s c.a =? 1) and (kind_at s c.b =? kind_at s c.v0))
-
--- from s the command c leads to u, or is refused and u is s
-pub record Stepped (p : List ℕ) (r : ℕ) (s u : Scan) (c : Command) (refused : Bool) : Type 0 where
-  pub stays : refused ≡ true → (refusal_of p r s c (decode c) ≡ 0 → ⊥) × (u ≡ s)
-  pub goes : refused ≡ false → (refusal_of p r s c (decode c) ≡ 0) × (u ≡ after_of p r s (decode c))
+-- from s the command c leads to the state that is handed back, or is refused and nothing has changed
+abbrev pub Stepped : List ℕ → ℕ → Scan → Command → Locations → Option Progress → Type 0
+Stepped p r s c t None = (refusal_of p r s c (decode c) ≢ 0) × (state t s.next ≡ s)
+Stepped p r s c t (Some q) =
+    (refusal_of p r s c (decode c) ≡ 0) × (q.next ≡ s.next + 1) × (state t q.next ≡ after_of p r s (decode c))
 
 -- ---- many commands
 
--- the refusal of the next command
-abbrev pub refusal_next : List ℕ → ℕ → Scan → ℕ
-refusal_next p r u = refusal_of p r u (bytes_of p r u.next) (decode (bytes_of p r u.next))
+-- what the commands of reactor r come to
+abbrev pub all_of : List ℕ → ℕ → Scanned
+all_of p r = scan_of (commands_in p r) p r (begin_of p r)
 
--- a scan that starts with these n commands stops at u, where one of them is refused
-abbrev pub Stopped : List ℕ → ℕ → ℕ → Scan → Scan → Type 0
-Stopped p r n s u = (refusal_next p r u ≡ 0 → ⊥)
-    × ((m : ℕ) → scan_of (n + m) p r s ≡ scanned (refusal_next p r u) (B.command_at p r u.next) u)
-
--- from s the n commands lead to u
-pub record Passed (p : List ℕ) (r n : ℕ) (s u : Scan) : Type 0 where
-  pub on : (m : ℕ) → scan_of (n + m) p r s ≡ scan_of m p r u
-  pub count : u.next ≡ s.next + n
-  pub shaped : Shaped p u
-  pub within : Within p r u
-
-pub record Ran (p : List ℕ) (r n : ℕ) (s u : Scan) (refused : Bool) : Type 0 where
-  pub stopped : refused ≡ true → Stopped p r n s u
-  pub passed : refused ≡ false → Passed p r n s u
+-- one of them is refused, or all lead to the state that is handed back
+abbrev pub Ran : List ℕ → ℕ → Locations → Result Progress Refusal → Type 0
+Ran p r t (Err w) = ((all_of p r).code ≢ 0) × (w ≡ at_command (all_of p r).code (all_of p r).place)
+Ran p r t (Ok q) =
+    let s = state t q.next in
+    (all_of p r ≡ scanned 0 0 s) × Within p r s × (q.results ≡ results p r (commands_r p r))
 
 -- t tells whether the n locations from `at` on are settled
 abbrev pub Sweeping : List ℕ → ℕ → ℕ → Bool → Type 0

@@ -2,48 +2,15 @@
 ghost use Rattle.std.specs.Prelude.{◌≤◌, ◌<◌, ◌≡◌, length, replicate, Ok};
 ghost use Rattle.value.specs.Test.{◌and◌, ◌≤?◌};
 ghost use Rattle.program.specs.Bytes as B;
-ghost use Rattle.program.specs.Command as C;
 ghost use Rattle.program.specs.Clauses.{Facts};
 ghost use Rattle.load.specs.Check.{accepted, check_of, checked, reactors_of};
 ghost use Rattle.load.specs.Clauses.{LegalTables};
-ghost use Rattle.load.specs.Refusal.{at_command};
-ghost use Rattle.load.specs.Scan as S;
 
-use crate::Scan;
-use crate::known::facts_of;
-use crate::reactor::{complete, scan};
+use crate::Locations;
+use crate::known::Known;
 use crate::tables::{header_fault, header_passes, table_fault, tables_pass};
 use answer::{Answer, Refusal};
-use program::{
-    Counts, Header, MOST_LOCATIONS, bytes_at, entry_at, fact, main_of, reactors, tables_end,
-    whole_length,
-};
-
-// The refusal of the command at byte `at`, by its number.
-fn at_command(number: u8, at: usize) -> Refusal
-    ensures { result ≡ at_command number at }
-{
-    match number {
-        3 => Refusal::Command(at),
-        4 => Refusal::Operand(at),
-        5 => Refusal::PortOrKind(at),
-        6 => Refusal::SetTwice(at),
-        19 => Refusal::TooEarly(at),
-        20 => Refusal::TooLate(at),
-        25 => Refusal::Withdrawn(at),
-        _ => Refusal::NotLower(at),
-    }
-}
-
-// The refusal of the command at byte `at`, the next of reactor r in state s.
-fn refusal(program: &[u8], r: u8, at: u32, s: Scan) -> Refusal
-    ensures { let p = program.now in
-        result ≡ at_command (S.refusal_of p r s (C.bytes_at p at) (C.decode (C.bytes_at p at))) at }
-{
-    let c = bytes_at(program, at as u64);
-    let number = s.refuse(program, r, c);
-    at_command(number, at as usize)
-}
+use program::{Counts, Header, entry_at, fact, main_of, reactors, tables_end, whole_length};
 
 // The reactors, one after the other.
 fn judge_reactors(program: &[u8], facts: &mut [u64; 64]) -> Result<(), Refusal>
@@ -57,27 +24,16 @@ fn judge_reactors(program: &[u8], facts: &mut [u64; 64]) -> Result<(), Refusal>
 {
     let count = reactors(program);
     let mut first = tables_end(program) as u32;
-    let mut r: u8 = 0;
-    while r < count {
-        let f = facts_of(program, r);
-        let mut standing: [u8; MOST_LOCATIONS] = [0; MOST_LOCATIONS];
-        let mut kind: [u8; MOST_LOCATIONS] = [0; MOST_LOCATIONS];
-        let t = scan(program, f, &mut standing, &mut kind, first);
-        if t.refused {
-            let s = Scan {
-                standing,
-                kind,
-                next: t.next,
-            };
-            return Err(refusal(program, r, first + 8 * (t.next as u32), s));
-        }
-        if !complete(&standing, f.first_sink() + f.sinks as usize) {
+    for r in 0..count {
+        let f = Known::of(program, r, first);
+        let mut locations = Locations::blank();
+        let t = f.scan(&mut locations)?;
+        if !locations.complete(f.first_sink() + f.sinks as usize) {
             return Err(Refusal::Missing(entry_at(program, r as u32)));
         }
         let k = Counts::new(first, f.sources, f.declared, f.running, t.results, f.sinks);
         facts[r as usize] = k.word;
         first = first + 8 * (f.declared as u32 + f.running as u32);
-        r = r + 1;
     }
     Ok(())
 }

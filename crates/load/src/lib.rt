@@ -21,36 +21,28 @@ mod take;
 
 pub use calls::{check, judge};
 
-// A standing and a kind for each of up to 174 locations, and the index of the next command, as one
-// value: for the number of a refusal. The definitions of specs/ speak of it.
-#[derive(Clone, Copy)]
+// A standing and a kind for each of up to 174 locations.
+#[derive(Drop)]
+pub struct Locations {
+    pub standing: [u8; MOST_LOCATIONS],
+    pub kind: [u8; MOST_LOCATIONS],
+}
+
+// The same and the index of the next command, as one value: for the number of a refusal. The definitions
+// of specs/ speak of it.
+#[derive(Drop)]
 pub struct Scan {
     pub standing: [u8; MOST_LOCATIONS],
     pub kind: [u8; MOST_LOCATIONS],
     pub next: u8,
 }
 
-// What goes from command to command beside the tables of standings and kinds: the index of the next
-// command, how many R commands before it have a result, and whether it is refused.
+// What goes from command to command beside the locations: the index of the next command, and how many R
+// commands before it have a result.
 #[derive(Clone, Copy)]
 pub struct Progress {
     pub next: u8,
     pub results: u8,
-    pub refused: bool,
-}
-
-// A reactor, and what is read once for all of its commands: the header's counts of shapes and globals,
-// and the reactor's own shape and counts.
-#[derive(Clone, Copy)]
-pub struct Facts {
-    pub reactor: u8,
-    pub shapes: u8,
-    pub globals: u8,
-    pub shape: u8,
-    pub sources: u8,
-    pub declared: u8,
-    pub running: u8,
-    pub sinks: u8,
 }
 
 // What the tables say of one location.

@@ -1,16 +1,20 @@
-// Whether a command is refused: a test for each of the numbers 3 to 6, 19 to 21 and 25, by the command's code.
-ghost use Rattle.std.specs.Prelude.{ℕ, ◌+◌, ◌≡◌, List};
-ghost use Rattle.value.specs.Test.{◌and◌, ◌<?◌, ◌=?◌, need};
+// Why a command is refused: a test for each of the numbers 3 to 6, 19 to 21 and 25, by the command's code.
+ghost use Rattle.std.specs.Prelude.{ℕ, ◌+◌, ◌<◌, ◌≡◌, ◌≢◌, List};
+ghost use Rattle.value.specs.Test.{◌and◌, ◌<?◌, ◌=?◌, pick};
 ghost use Rattle.program.specs.Bytes as B;
 ghost use Rattle.program.specs.Command as C;
 ghost use Rattle.program.specs.Kind.{content_legal};
+ghost use Rattle.load.specs.Clauses.{told, state};
+ghost use Rattle.load.specs.Refusal.{at_command};
 ghost use Rattle.load.specs.Scan as S;
 
-use crate::Scan;
+use crate::known::Known;
 use crate::standing::is_ready;
+use crate::{Locations, Scan};
+use answer::Refusal;
 use program::{
-    Command, commands_d, content_legal, globals, reactors, shape_of, shapes, sink_count, sink_kind,
-    sink_loc, sinks_in, source_kind, sources_in,
+    Command, byte, commands_d, content_legal, globals, reactors, shape_of, shapes, sink_count,
+    sink_kind, sink_loc, sinks_in, source_kind, sources_in,
 };
 use value::{is_primitive, is_withdrawn, kinds_fit, operands};
 
@@ -37,12 +41,11 @@ fn primitive_formed(program: &[u8], c: Command) -> bool
 pub(crate) fn formed(program: &[u8], c: Command) -> bool
     ensures { result ≡ S.formed program.now c (C.decode c) }
 {
-    let code = c.code;
     let x = c.x as u64;
     let a = c.a as u64;
     let b = c.b as u64;
     let v = c.v() as u64;
-    match code {
+    match c.code {
         Command::ALLOC_MONO => (a + b + v == 0) & (c.x < reactors(program)),
         Command::MAKE_POLY => (a + b + v == 0) & (c.x < shapes(program)),
         Command::CONSTANT => content_formed(program, c, (c.x as u16) < 2 + shapes(program) as u16),
@@ -70,22 +73,21 @@ pub(crate) fn remaining(c: Command) -> bool
     !is_withdrawn(c.x)
 }
 
-// 0 where all is well, else the number.
-fn unless(ok: bool, number: u8) -> u8
-    ensures { result ≡ need ok number 0 }
+// The refusal w, unless all is well.
+fn unless(ok: bool, w: Refusal) -> Result<(), Refusal>
+    ensures { result ≡ pick ok (Ok tt) (Err w) }
 {
-    if ok { 0 } else { number }
+    if ok { Ok(()) } else { Err(w) }
 }
 
 impl Scan {
     // 3: AllocMono, MakePoly and Cell among the D commands, the others among the R commands.
-    pub(crate) fn in_sequence(self, program: &[u8], r: u8, c: Command) -> bool
+    pub(crate) fn in_sequence(&self, program: &[u8], r: u8, c: Command) -> bool
         ensures { let p = program.now in
-            result ≡ S.in_sequence (C.sequence_of (C.decode c)) (self.next <? B.commands_d p r) }
+            result ≡ S.in_sequence (C.sequence_of (C.decode c)) (self.now.next <? B.commands_d p r) }
     {
         let in_d = self.next < commands_d(program, r as u32);
-        let code = c.code;
-        match code {
+        match c.code {
             Command::ALLOC_MONO..=Command::MAKE_POLY => in_d,
             Command::CONSTANT..=Command::PRIMITIVE => !in_d,
             Command::CELL => in_d,
@@ -95,19 +97,18 @@ impl Scan {
     }
 
     // 4 for a primitive: each operand that it takes is a value.
-    fn operands_located(self, c: Command) -> bool
-        ensures { result ≡ S.located self (C.gives (C.primitive c.x c.a c.b c.v0)) }
+    fn operands_located(&self, c: Command) -> bool
+        ensures { result ≡ S.located self.now (C.gives (C.primitive c.x c.a c.b c.v0)) }
     {
         let n = operands(c.x);
         self.is_value(c.a) & ((n < 2) | self.is_value(c.b)) & ((n < 3) | self.is_value(c.v0))
     }
 
     // 4: each operand names a location of the kind of thing that it must be, and an earlier one.
-    pub(crate) fn located(self, c: Command) -> bool
-        ensures { result ≡ S.located self (C.decode c) }
+    pub(crate) fn located(&self, c: Command) -> bool
+        ensures { result ≡ S.located self.now (C.decode c) }
     {
-        let code = c.code;
-        match code {
+        match c.code {
             Command::SUPPLY => self.is_value(c.a) & self.is_deployment(c.b),
             Command::REACT..=Command::CONSUME => self.is_deployment(c.b),
             Command::SINK => self.is_value(c.a),
@@ -120,126 +121,147 @@ impl Scan {
     }
 
     // 5 for Supply: the deployment has source x, of the value's kind.
-    fn source_agreed(self, program: &[u8], c: Command) -> bool
-        ensures { (r : ℕ) → result ≡ S.agreed program.now r self (C.supply c.x c.a c.b) }
+    fn source_agreed(&self, program: &[u8], c: Command) -> bool
+        ensures { (r : ℕ) → result ≡ S.agreed program.now r self.now (C.supply c.x c.a c.b) }
     {
-        let k = self.kind_at(c.a as usize);
-        let s = self.kind_at(c.b as usize);
+        let k = self.kind_at(c.a);
+        let s = self.kind_at(c.b);
         (c.x < sources_in(program, s)) & (k == source_kind(program, s, c.x))
     }
 
     // 5 for Sink: the reactor has sink x, of the value's kind.
-    fn sink_agreed(self, program: &[u8], r: u8, c: Command) -> bool
-        ensures { result ≡ S.agreed program.now r self (C.sink c.x c.a) }
+    fn sink_agreed(&self, program: &[u8], r: u8, c: Command) -> bool
+        ensures { result ≡ S.agreed program.now r self.now (C.sink c.x c.a) }
     {
-        let k = self.kind_at(c.a as usize);
+        let k = self.kind_at(c.a);
         let s = shape_of(program, r as u32);
         (c.x < sink_count(program, r as u32)) & (k == sink_kind(program, s, c.x))
     }
 
     // 5 for Consume: the deployment has sink x.
-    fn port_agreed(self, program: &[u8], c: Command) -> bool
-        ensures { (r : ℕ) → result ≡ S.agreed program.now r self (C.gives (C.consume c.x c.b)) }
+    fn port_agreed(&self, program: &[u8], c: Command) -> bool
+        ensures { (r : ℕ) → result ≡ S.agreed program.now r self.now (C.gives (C.consume c.x c.b)) }
     {
-        let s = self.kind_at(c.b as usize);
+        let s = self.kind_at(c.b);
         c.x < sinks_in(program, s)
     }
 
     // 5 for a primitive: its operands have the kinds that its row of the table takes.
-    fn operands_agreed(self, c: Command) -> bool
-        ensures { (p : List ℕ) (r : ℕ) → result ≡ S.agreed p r self (C.gives (C.primitive c.x c.a c.b c.v0)) }
+    fn operands_agreed(&self, c: Command) -> bool
+        ensures { (p : List ℕ) (r : ℕ) → result ≡ S.agreed p r self.now (C.gives (C.primitive c.x c.a c.b c.v0)) }
     {
-        let j = self.kind_at(c.a as usize);
-        let k = self.kind_at(c.b as usize);
-        let l = self.kind_at(c.v0 as usize);
+        let j = self.kind_at(c.a);
+        let k = self.kind_at(c.b);
+        let l = self.kind_at(c.v0);
         kinds_fit(c.x, j, k, l)
     }
 
     // 5: ports exist, and kinds agree.
-    pub(crate) fn agreed(self, program: &[u8], r: u8, c: Command) -> bool
-        ensures { result ≡ S.agreed program.now r self (C.decode c) }
+    pub(crate) fn agreed(&self, program: &[u8], r: u8, c: Command) -> bool
+        ensures { result ≡ S.agreed program.now r self.now (C.decode c) }
     {
-        let code = c.code;
-        match code {
+        match c.code {
             Command::SUPPLY => self.source_agreed(program, c),
             Command::CONSUME => self.port_agreed(program, c),
             Command::SINK => self.sink_agreed(program, r, c),
-            Command::ALLOC_POLY => {
-                self.kind_at(c.a as usize) as u16 == 2 + self.kind_at(c.b as usize) as u16
-            }
+            Command::ALLOC_POLY => { self.kind_at(c.a) as u16 == 2 + self.kind_at(c.b) as u16 }
             Command::PRIMITIVE => self.operands_agreed(c),
-            Command::KEEP => self.kind_at(c.a as usize) == self.kind_at(c.b as usize),
+            Command::KEEP => self.kind_at(c.a) == self.kind_at(c.b),
             _ => true,
         }
     }
 
     // 20 for a Supply after React, 6 for a source that is supplied.
-    fn supply_disorder(self, c: Command) -> u8
-        ensures { (p : List ℕ) (r : ℕ) → result ≡ S.disorder p r self (C.supply c.x c.a c.b) }
+    fn supply_disorder(&self, c: Command, at: usize) -> Result<(), Refusal>
+        ensures { (p : List ℕ) (r : ℕ) → result ≡ told (S.disorder p r self.now (C.supply c.x c.a c.b)) at }
     {
-        if self.standing_at(c.b as usize) < Scan::WAITING {
-            return 20;
-        }
-        unless(!self.is_supplied(c.b, c.x), 6)
+        unless(Scan::WAITING <= self.standing_at(c.b), Refusal::TooLate(at))?;
+        unless(!self.is_supplied(c.b, c.x), Refusal::SetTwice(at))
     }
 
     // 20 for a second React, 19 for one before every source is supplied.
-    fn react_disorder(self, program: &[u8], c: Command) -> u8
-        ensures { (r : ℕ) → result ≡ S.disorder program.now r self (C.react c.b) }
+    fn react_disorder(&self, program: &[u8], c: Command, at: usize) -> Result<(), Refusal>
+        ensures { (r : ℕ) → result ≡ told (S.disorder program.now r self.now (C.react c.b)) at }
     {
-        let standing = self.standing_at(c.b as usize);
-        if standing < Scan::WAITING {
-            return 20;
-        }
-        let k = self.kind_at(c.b as usize);
-        let n = sources_in(program, k);
-        unless(is_ready(standing, n), 19)
+        let standing = self.standing_at(c.b);
+        unless(Scan::WAITING <= standing, Refusal::TooLate(at))?;
+        let n = sources_in(program, self.kind_at(c.b));
+        unless(is_ready(standing, n), Refusal::TooEarly(at))
     }
 
     // 6 for an own sink that is set.
-    fn sink_disorder(self, program: &[u8], r: u8, c: Command) -> u8
-        ensures { result ≡ S.disorder program.now r self (C.sink c.x c.a) }
+    fn sink_disorder(&self, program: &[u8], r: u8, c: Command, at: usize) -> Result<(), Refusal>
+        ensures { result ≡ told (S.disorder program.now r self.now (C.sink c.x c.a)) at }
     {
         let l = sink_loc(program, r as u32, c.x);
-        unless(self.standing_at(l as usize) == Scan::UNSET_SINK, 6)
+        let standing = byte(&self.standing, l as usize);
+        unless(standing == Scan::UNSET_SINK, Refusal::SetTwice(at))
     }
 
-    // 6 set twice, 19 too early, 20 too late, 21 AllocMono of a reactor that is not lower; or 0.
-    pub(crate) fn disorder(self, program: &[u8], r: u8, c: Command) -> u8
-        ensures { result ≡ S.disorder program.now r self (C.decode c) }
+    // 6 set twice, 19 too early, 20 too late, 21 AllocMono of a reactor that is not lower.
+    pub(crate) fn disorder(
+        &self,
+        program: &[u8],
+        r: u8,
+        c: Command,
+        at: usize,
+    ) -> Result<(), Refusal>
+        ensures { result ≡ told (S.disorder program.now r self.now (C.decode c)) at }
     {
-        let code = c.code;
-        match code {
-            Command::ALLOC_MONO => unless(c.x < r, 21),
-            Command::SUPPLY => self.supply_disorder(c),
-            Command::REACT => self.react_disorder(program, c),
-            Command::CONSUME => unless(self.standing_at(c.b as usize) == Scan::REACTED, 19),
-            Command::SINK => self.sink_disorder(program, r, c),
-            Command::ALLOC_POLY => unless(self.standing_at(c.b as usize) == Scan::FREE_POINT, 20),
-            Command::KEEP => unless(self.standing_at(c.b as usize) == Scan::FREE_CELL, 20),
-            _ => 0,
+        match c.code {
+            Command::ALLOC_MONO => unless(c.x < r, Refusal::NotLower(at)),
+            Command::SUPPLY => self.supply_disorder(c, at),
+            Command::REACT => self.react_disorder(program, c, at),
+            Command::CONSUME => unless(
+                self.standing_at(c.b) == Scan::REACTED,
+                Refusal::TooEarly(at),
+            ),
+            Command::SINK => self.sink_disorder(program, r, c, at),
+            Command::ALLOC_POLY => unless(
+                self.standing_at(c.b) == Scan::FREE_POINT,
+                Refusal::TooLate(at),
+            ),
+            Command::KEEP => unless(
+                self.standing_at(c.b) == Scan::FREE_CELL,
+                Refusal::TooLate(at),
+            ),
+            _ => Ok(()),
         }
     }
 
-    // The refusal of a command as the next of reactor r, or 0. Order comes last, once all else is right.
-    pub(crate) fn refuse(self, program: &[u8], r: u8, c: Command) -> u8
-        ensures { result ≡ S.refusal_of program.now r self c (C.decode c) }
+    // Why the command at byte `at` is refused as the next of reactor r, if it is. Order comes last, once
+    // all else is right.
+    pub(crate) fn refuse(&self, program: &[u8], r: u8, c: Command, at: usize) -> Result<(), Refusal>
+        ensures { result ≡ told (S.refusal_of program.now r self.now c (C.decode c)) at }
     {
-        if !self.in_sequence(program, r, c) {
-            return 3;
+        let formed = self.in_sequence(program, r, c) & formed(program, c);
+        unless(formed, Refusal::Command(at))?;
+        unless(remaining(c), Refusal::Withdrawn(at))?;
+        unless(self.located(c), Refusal::Operand(at))?;
+        unless(self.agreed(program, r, c), Refusal::PortOrKind(at))?;
+        self.disorder(program, r, c, at)
+    }
+}
+
+impl Known<'_> {
+    // Why command i is refused, which is the next and is.
+    pub(crate) fn refusal(&self, locations: &Locations, i: u8, c: Command) -> Refusal
+        requires bytes { i < self.now.declared + self.now.running }
+        requires refused { let k = self.now in
+            S.refusal_of k.program.now k.reactor (state locations.now i) c (C.decode c) ≢ 0 }
+        ensures { let k = self.now in let p = k.program.now in
+            result ≡ at_command (S.refusal_of p k.reactor (state locations.now i) c (C.decode c))
+            (B.command_at p k.reactor i) }
+    {
+        let scan = Scan {
+            standing: locations.standing,
+            kind: locations.kind,
+            next: i,
+        };
+        let at = self.first + 8 * (i as u32);
+        match scan.refuse(self.program, self.reactor, c, at as usize) {
+            Err(w) => w,
+            Ok(()) => unreachable!(),
         }
-        if !formed(program, c) {
-            return 3;
-        }
-        if !remaining(c) {
-            return 25;
-        }
-        if !self.located(c) {
-            return 4;
-        }
-        if !self.agreed(program, r, c) {
-            return 5;
-        }
-        self.disorder(program, r, c)
     }
 }

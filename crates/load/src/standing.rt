@@ -2,10 +2,10 @@
 // as nothing, and no change reaches it.
 ghost use Rattle.std.specs.Prelude.{ℕ, ◌/◌, ◌%◌, ◌^◌, ◌≡◌, get_or, set};
 ghost use Rattle.value.specs.Test.{◌=?◌};
-ghost use Rattle.load.specs.Clauses.{byte_bit, state};
+ghost use Rattle.load.specs.Clauses.{blank, byte_bit, state};
 ghost use Rattle.load.specs.Scan as S;
 
-use crate::{Location, Scan};
+use crate::{Location, Locations, Scan};
 use program::{MOST_LOCATIONS, byte};
 
 // A deployment that awaits its React has WAITING and a bit for each source that is supplied.
@@ -28,65 +28,89 @@ impl Scan {
 
     pub const WAITING: u8 = 128;
 
-    pub(crate) fn standing_at(self, l: usize) -> u8
-        ensures { result ≡ S.standing_at self l }
+    pub(crate) fn standing_at(&self, l: u8) -> u8
+        ensures { result ≡ S.standing_at self.now l }
     {
-        if l < MOST_LOCATIONS {
-            self.standing[l]
-        } else {
-            0
-        }
+        byte(&self.standing, l as usize)
     }
 
-    pub(crate) fn kind_at(self, l: usize) -> u8
-        ensures { result ≡ S.kind_at self l }
+    pub(crate) fn kind_at(&self, l: u8) -> u8
+        ensures { result ≡ S.kind_at self.now l }
     {
-        if l < MOST_LOCATIONS { self.kind[l] } else { 0 }
+        byte(&self.kind, l as usize)
     }
 
-    pub(crate) fn is_value(self, l: u8) -> bool
-        ensures { result ≡ S.is_value self l }
+    pub(crate) fn is_value(&self, l: u8) -> bool
+        ensures { result ≡ S.is_value self.now l }
     {
-        self.standing_at(l as usize) == Scan::VALUE
+        self.standing_at(l) == Scan::VALUE
     }
 
-    pub(crate) fn is_cell(self, l: u8) -> bool
-        ensures { result ≡ S.is_cell self l }
+    pub(crate) fn is_cell(&self, l: u8) -> bool
+        ensures { result ≡ S.is_cell self.now l }
     {
-        let s = self.standing_at(l as usize);
+        let s = self.standing_at(l);
         (Scan::FREE_CELL <= s) & (s <= Scan::KEPT_CELL)
     }
 
-    pub(crate) fn is_point(self, l: u8) -> bool
-        ensures { result ≡ S.is_point self l }
+    pub(crate) fn is_point(&self, l: u8) -> bool
+        ensures { result ≡ S.is_point self.now l }
     {
-        let s = self.standing_at(l as usize);
+        let s = self.standing_at(l);
         (Scan::FREE_POINT <= s) & (s <= Scan::USED_POINT)
     }
 
-    pub(crate) fn is_deployment(self, l: u8) -> bool
-        ensures { result ≡ S.is_deployment self l }
+    pub(crate) fn is_deployment(&self, l: u8) -> bool
+        ensures { result ≡ S.is_deployment self.now l }
     {
-        Scan::REACTED <= self.standing_at(l as usize)
+        Scan::REACTED <= self.standing_at(l)
     }
 
     // Whether source x of the deployment at l is supplied.
-    pub(crate) fn is_supplied(self, l: u8, x: u8) -> bool
-        ensures { result ≡ S.is_supplied self l x }
+    pub(crate) fn is_supplied(&self, l: u8, x: u8) -> bool
+        ensures { result ≡ S.is_supplied self.now l x }
     {
-        has_source(self.standing_at(l as usize), x)
+        has_source(self.standing_at(l), x)
     }
 }
 
-// What the lent tables say of location l; past them nothing stands there.
-pub(crate) fn seen(standing: &[u8; MOST_LOCATIONS], kind: &[u8; MOST_LOCATIONS], l: u8) -> Location
-    ensures standing { result.standing ≡ get_or standing.now l 0 }
-    ensures kind { result.kind ≡ get_or kind.now l 0 }
-{
-    let at = l as usize;
-    Location {
-        standing: byte(standing, at),
-        kind: byte(kind, at),
+impl Locations {
+    // Before anything stands anywhere.
+    pub(crate) fn blank() -> Locations
+        ensures { result ≡ blank }
+    {
+        Locations {
+            standing: [0; MOST_LOCATIONS],
+            kind: [0; MOST_LOCATIONS],
+        }
+    }
+
+    // What they say of location l; past them nothing stands there.
+    pub(crate) fn seen(&self, l: u8) -> Location
+        ensures standing { result.standing ≡ get_or self.now.standing l 0 }
+        ensures kind { result.kind ≡ get_or self.now.kind l 0 }
+    {
+        let at = l as usize;
+        Location {
+            standing: byte(&self.standing, at),
+            kind: byte(&self.kind, at),
+        }
+    }
+
+    // Gives location l another standing and kind.
+    pub(crate) fn stand(&mut self, l: usize, s: u8, k: u8)
+        ensures { (n : ℕ) → state self.new n ≡ S.stand (state self.old n) l s k }
+    {
+        put(&mut self.standing, l, s);
+        put(&mut self.kind, l, k);
+    }
+
+    // Gives location l another standing alone.
+    pub(crate) fn restand(&mut self, l: u8, s: u8)
+        ensures { let before = state self.old in
+            ((n : ℕ) → state self.new n ≡ S.stand (before n) l s (S.kind_at (before n) l)) }
+    {
+        put(&mut self.standing, l as usize, s);
     }
 }
 
@@ -97,22 +121,6 @@ pub(crate) fn put(table: &mut [u8], l: usize, v: u8)
     if l < table.len() {
         table[l] = v;
     }
-}
-
-// Gives location l another standing and kind.
-pub(crate) fn stand(
-    standing: &mut [u8; MOST_LOCATIONS],
-    kind: &mut [u8; MOST_LOCATIONS],
-    l: usize,
-    s: u8,
-    k: u8,
-)
-    ensures { let before = state standing.old kind.old in
-        let after = state standing.new kind.new in
-        ((n : ℕ) → after n ≡ S.stand (before n) l s k) }
-{
-    put(standing, l, s);
-    put(kind, l, k);
 }
 
 // Whether a deployment of this standing has source x supplied.
@@ -126,21 +134,14 @@ pub(crate) fn has_source(standing: u8, x: u8) -> bool
 pub(crate) fn bit(x: u8) -> u16
     ensures { result ≡ byte_bit x }
 {
-    if 7 < x {
-        return 256;
-    }
-    let weights: [u16; 8] = [1, 2, 4, 8, 16, 32, 64, 128];
-    weights[x as usize]
+    1 << x.min(8)
 }
 
 // Whether a deployment of this standing has each of its n sources supplied, and no React yet.
 pub(crate) fn is_ready(standing: u8, n: u8) -> bool
     ensures { result ≡ (standing =? S.ready_at n) }
 {
-    if 7 < n {
-        return false;
-    }
-    standing as u16 == Scan::WAITING as u16 + (bit(n) - 1)
+    (n < 8) & (standing as u16 == Scan::WAITING as u16 + (bit(n) - 1))
 }
 
 // Whether a location may have this standing at its reactor's end: no React, AllocPoly, Keep or sink

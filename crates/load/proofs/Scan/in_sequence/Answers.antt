@@ -12,7 +12,7 @@ use Rattle.load.proofs.Scan.in_sequence.Goals as goal
 pub returns-in-11 : goal.returns-in-11
 unfolding in_sequence sequence_of
 returns-in-11 c = let args = c.args in
-    as_cell (λ (d : Cmd). in_sequence (sequence_of d) (args.self.next <? commands_d (args.program.now) args.r))
+    as_cell (λ (d : Cmd). in_sequence (sequence_of d) (args.self.now.next <? commands_d (args.program.now) args.r))
     args.c (omega arith) (same_lt refl c.commands_d.ensures)
 
 pub returns-in-1-to-2 : goal.returns-in-1-to-2
@@ -20,8 +20,8 @@ unfolding in_sequence sequence_of
 returns-in-1-to-2 c = let args = c.args in
     let declared' = c.commands_d in
     by_code
-    (λ (d : Cmd). ltb args.self.next declared'.result
-    ≡ in_sequence (sequence_of d) (args.self.next <? commands_d (args.program.now) args.r))
+    (λ (d : Cmd). ltb args.self.now.next declared'.result
+    ≡ in_sequence (sequence_of d) (args.self.now.next <? commands_d (args.program.now) args.r))
     args.c
     (λ e. same_lt refl declared'.ensures) (λ e. same_lt refl declared'.ensures)
     (λ e. absurd (omega arith)) (λ e. absurd (omega arith)) (λ e. absurd (omega arith))
@@ -35,8 +35,8 @@ unfolding in_sequence sequence_of
 returns-in-3-to-10 c = let args = c.args in
     let declared' = c.commands_d in
     by_code
-    (λ (d : Cmd). not (ltb args.self.next declared'.result)
-    ≡ in_sequence (sequence_of d) (args.self.next <? commands_d (args.program.now) args.r))
+    (λ (d : Cmd). not (ltb args.self.now.next declared'.result)
+    ≡ in_sequence (sequence_of d) (args.self.now.next <? commands_d (args.program.now) args.r))
     args.c
     (λ e. absurd (omega arith)) (λ e. absurd (omega arith)) (λ e. ap not (same_lt refl declared'.ensures))
     (λ e. ap not (same_lt refl declared'.ensures)) (λ e. ap not (same_lt refl declared'.ensures))
@@ -51,8 +51,8 @@ unfolding in_sequence sequence_of
 returns-in-12-to-13 c = let args = c.args in
     let declared' = c.commands_d in
     by_code
-    (λ (d : Cmd). not (ltb args.self.next declared'.result)
-    ≡ in_sequence (sequence_of d) (args.self.next <? commands_d (args.program.now) args.r))
+    (λ (d : Cmd). not (ltb args.self.now.next declared'.result)
+    ≡ in_sequence (sequence_of d) (args.self.now.next <? commands_d (args.program.now) args.r))
     args.c
     (λ e. absurd (omega arith)) (λ e. absurd (omega arith)) (λ e. absurd (omega arith))
     (λ e. absurd (omega arith)) (λ e. absurd (omega arith)) (λ e. absurd (omega arith))
@@ -64,11 +64,11 @@ returns-in-12-to-13 c = let args = c.args in
 pub returns-in_default : goal.returns-in_default
 unfolding in_sequence sequence_of
 returns-in_default c = let args = c.args in
-    as_none (λ (d : Cmd). in_sequence (sequence_of d) (args.self.next <? commands_d (args.program.now) args.r))
+    as_none (λ (d : Cmd). in_sequence (sequence_of d) (args.self.now.next <? commands_d (args.program.now) args.r))
     args.c (inl (omega arith)) refl
 
 pub returns-in_default-2 : goal.returns-in_default-2
 unfolding in_sequence sequence_of
 returns-in_default-2 c = let args = c.args in
-    as_none (λ (d : Cmd). in_sequence (sequence_of d) (args.self.next <? commands_d (args.program.now) args.r))
+    as_none (λ (d : Cmd). in_sequence (sequence_of d) (args.self.now.next <? commands_d (args.program.now) args.r))
     args.c (inr (omega arith)) refl

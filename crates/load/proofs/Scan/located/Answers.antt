@@ -9,40 +9,40 @@ use Rattle.load.proofs.Scan.located.Goals as goal
 pub returns-in-5 : goal.returns-in-5
 unfolding located
 returns-in-5 c = let args = c.args in
-    as_supply (located args.self) args.c (omega arith)
+    as_supply (located args.self.now) args.c (omega arith)
     (same_and c.is_value.ensures c.is_deployment.ensures)
 
 pub returns-in-8 : goal.returns-in-8
 unfolding located
 returns-in-8 c = let args = c.args in
-    as_sink (located args.self) args.c (omega arith) c.is_value-in-8.ensures
+    as_sink (located args.self.now) args.c (omega arith) c.is_value-in-8.ensures
 
 pub returns-in-9 : goal.returns-in-9
 unfolding located
 returns-in-9 c = let args = c.args in
-    as_poly (located args.self) args.c (omega arith)
+    as_poly (located args.self.now) args.c (omega arith)
     (same_and c.is_value-in-9.ensures c.is_point.ensures)
 
 pub returns-in-10 : goal.returns-in-10
 unfolding located
 returns-in-10 c = let args = c.args in
-    as_primitive (located args.self) args.c (omega arith) c.operands_located.ensures
+    as_primitive (located args.self.now) args.c (omega arith) c.operands_located.ensures
 
 pub returns-in-12 : goal.returns-in-12
 unfolding located
 returns-in-12 c = let args = c.args in
-    as_fetch (located args.self) args.c (omega arith) c.is_cell.ensures
+    as_fetch (located args.self.now) args.c (omega arith) c.is_cell.ensures
 
 pub returns-in-13 : goal.returns-in-13
 unfolding located
 returns-in-13 c = let args = c.args in
-    as_keep (located args.self) args.c (omega arith)
+    as_keep (located args.self.now) args.c (omega arith)
     (same_and c.is_value-in-13.ensures c.is_cell-in-13.ensures)
 
 pub returns-in-6-to-7 : goal.returns-in-6-to-7
 unfolding located
 returns-in-6-to-7 c = let args = c.args in
-    by_code (λ (d : Cmd). c.is_deployment-in-6-to-7.result ≡ located args.self d) args.c
+    by_code (λ (d : Cmd). c.is_deployment-in-6-to-7.result ≡ located args.self.now d) args.c
     (λ e. absurd (omega arith)) (λ e. absurd (omega arith)) (λ e. absurd (omega arith))
     (λ e. absurd (omega arith)) (λ e. absurd (omega arith)) (λ e. c.is_deployment-in-6-to-7.ensures)
     (λ e. c.is_deployment-in-6-to-7.ensures) (λ e. absurd (omega arith)) (λ e. absurd (omega arith))
@@ -53,7 +53,7 @@ returns-in-6-to-7 c = let args = c.args in
 pub returns-in_default : goal.returns-in_default
 unfolding located
 returns-in_default c = let args = c.args in
-    by_code (λ (d : Cmd). true ≡ located args.self d) args.c
+    by_code (λ (d : Cmd). true ≡ located args.self.now d) args.c
     (λ e. refl) (λ e. refl) (λ e. refl) (λ e. refl) (λ e. absurd (omega arith)) (λ e. absurd (omega arith))
     (λ e. absurd (omega arith)) (λ e. absurd (omega arith)) (λ e. absurd (omega arith))
     (λ e. absurd (omega arith)) (λ e. absurd (omega arith)) (λ e. absurd (omega arith))
@@ -62,7 +62,7 @@ returns-in_default c = let args = c.args in
 pub returns-in_default-2 : goal.returns-in_default-2
 unfolding located
 returns-in_default-2 c = let args = c.args in
-    by_code (λ (d : Cmd). true ≡ located args.self d) args.c
+    by_code (λ (d : Cmd). true ≡ located args.self.now d) args.c
     (λ e. absurd (omega arith)) (λ e. absurd (omega arith)) (λ e. absurd (omega arith))
     (λ e. absurd (omega arith)) (λ e. absurd (omega arith)) (λ e. absurd (omega arith))
     (λ e. absurd (omega arith)) (λ e. absurd (c.in_default.in_default-own.rest.0.0.0.0.1 e))

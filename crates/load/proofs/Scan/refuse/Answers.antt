@@ -1,46 +1,48 @@
--- A return after so many tests. `at-..` is what is known where that test was made: its result, and that it passed.
-use Rattle.std.proofs.Common.{not}
-use Rattle.std.proofs.Common.{ap}
+use Rattle.std.proofs.lemmas.Result.{err_from_is_err_and}
+use Rattle.load.proofs.Told.{command, need_both, operand, port_or_kind, told_no, told_yes, withdrawn}
+use Rattle.load.specs.Clauses.{told}
 use Rattle.load.specs.Scan.{refusal_of}
-use Rattle.value.proofs.Tests.{no, passed, refused, yes}
-use Rattle.std.specs.Prelude.{refl}
+use Rattle.std.proofs.Common.{◌∙◌, ap}
+use Rattle.std.specs.Prelude.{ℕ}
+use Rattle.value.proofs.Tests.{same_and}
 use Rattle.load.proofs.Scan.refuse.Goals as goal
 
-pub returns-then-not-in_sequence : goal.returns-then-not-in_sequence
+-- each return is after so many tests; the first two are asked at once
+pub returns-in_err-unless : goal.returns-in_err-unless
 unfolding refusal_of
-returns-then-not-in_sequence c = no _ (refused c.in_sequence.ensures (ap not c.if-not-in_sequence.true)) refl
+returns-in_err-unless c = let p = err_from_is_err_and c.from_residual.result c.from_residual.ensures.1 in rw (p.1, p.2)
+    ((told_no (command c.args.at) _ _ (same_and c.in_sequence.ensures c.formed.ensures) _ c.in_err-unless.ensures)
+    ∙ ap (λ (n : ℕ). told n c.args.at) (need_both _ _ 3 _))
 
-pub returns-then-not-formed : goal.returns-then-not-formed
+pub returns-in_err-unless-2 : goal.returns-in_err-unless-2
 unfolding refusal_of
-returns-then-not-formed c = yes _ (passed c.in_sequence.ensures (ap not c.if-not-in_sequence.false))
-    (no _ (refused c.formed.ensures (ap not c.if-not-formed.true)) refl)
+returns-in_err-unless-2 c = let p = err_from_is_err_and c.from_residual-in_err-unless-2.result c.from_residual-in_err-unless-2.ensures.1 in rw (p.1, p.2)
+    ((told_yes (command c.args.at) _ _ (same_and c.in_sequence.ensures c.formed.ensures) _ c.in_ok-unless.ensures
+    (told_no (withdrawn c.args.at) _ _ (c.remaining.ensures) _ c.in_err-unless-2.ensures))
+    ∙ ap (λ (n : ℕ). told n c.args.at) (need_both _ _ 3 _))
 
-pub returns-then-not-remaining : goal.returns-then-not-remaining
+pub returns-in_err-unless-3 : goal.returns-in_err-unless-3
 unfolding refusal_of
-returns-then-not-remaining c = yes _ (passed c.in_sequence.ensures (ap not c.if-not-in_sequence.false))
-    (yes _ (passed c.formed.ensures (ap not c.if-not-formed.false))
-    (no _ (refused c.remaining.ensures (ap not c.if-not-remaining.true)) refl))
+returns-in_err-unless-3 c = let p = err_from_is_err_and c.from_residual-in_err-unless-3.result c.from_residual-in_err-unless-3.ensures.1 in rw (p.1, p.2)
+    ((told_yes (command c.args.at) _ _ (same_and c.in_sequence.ensures c.formed.ensures) _ c.in_ok-unless.ensures
+    (told_yes (withdrawn c.args.at) _ _ (c.remaining.ensures) _ c.in_ok-unless-2.ensures
+    (told_no (operand c.args.at) _ _ (c.located.ensures) _ c.in_err-unless-3.ensures)))
+    ∙ ap (λ (n : ℕ). told n c.args.at) (need_both _ _ 3 _))
 
-pub returns-then-not-located : goal.returns-then-not-located
+pub returns-in_err-unless-4 : goal.returns-in_err-unless-4
 unfolding refusal_of
-returns-then-not-located c = yes _ (passed c.in_sequence.ensures (ap not c.if-not-in_sequence.false))
-    (yes _ (passed c.formed.ensures (ap not c.if-not-formed.false))
-    (yes _ (passed c.remaining.ensures (ap not c.if-not-remaining.false))
-    (no _ (refused c.located.ensures (ap not c.if-not-located.true)) refl)))
-
-pub returns-then-not-agreed : goal.returns-then-not-agreed
-unfolding refusal_of
-returns-then-not-agreed c = yes _ (passed c.in_sequence.ensures (ap not c.if-not-in_sequence.false))
-    (yes _ (passed c.formed.ensures (ap not c.if-not-formed.false))
-    (yes _ (passed c.remaining.ensures (ap not c.if-not-remaining.false))
-    (yes _ (passed c.located.ensures (ap not c.if-not-located.false))
-    (no _ (refused c.agreed.ensures (ap not c.if-not-agreed.true)) refl))))
+returns-in_err-unless-4 c = let p = err_from_is_err_and c.from_residual-in_err-unless-4.result c.from_residual-in_err-unless-4.ensures.1 in rw (p.1, p.2)
+    ((told_yes (command c.args.at) _ _ (same_and c.in_sequence.ensures c.formed.ensures) _ c.in_ok-unless.ensures
+    (told_yes (withdrawn c.args.at) _ _ (c.remaining.ensures) _ c.in_ok-unless-2.ensures
+    (told_yes (operand c.args.at) _ _ (c.located.ensures) _ c.in_ok-unless-3.ensures
+    (told_no (port_or_kind c.args.at) _ _ (c.agreed.ensures) _ c.in_err-unless-4.ensures))))
+    ∙ ap (λ (n : ℕ). told n c.args.at) (need_both _ _ 3 _))
 
 pub returns : goal.returns
 unfolding refusal_of
-returns c = yes _ (passed c.in_sequence.ensures (ap not c.if-not-in_sequence.false))
-    (yes _ (passed c.formed.ensures (ap not c.if-not-formed.false))
-    (yes _ (passed c.remaining.ensures (ap not c.if-not-remaining.false))
-    (yes _ (passed c.located.ensures (ap not c.if-not-located.false))
-    (yes _ (passed c.agreed.ensures (ap not c.if-not-agreed.false))
+returns c = (told_yes (command c.args.at) _ _ (same_and c.in_sequence.ensures c.formed.ensures) _ c.in_ok-unless.ensures
+    (told_yes (withdrawn c.args.at) _ _ (c.remaining.ensures) _ c.in_ok-unless-2.ensures
+    (told_yes (operand c.args.at) _ _ (c.located.ensures) _ c.in_ok-unless-3.ensures
+    (told_yes (port_or_kind c.args.at) _ _ (c.agreed.ensures) _ c.in_ok-unless-4.ensures
     c.disorder.ensures))))
+    ∙ ap (λ (n : ℕ). told n c.args.at) (need_both _ _ 3 _)

@@ -1,13 +1,7 @@
-use Rattle.std.proofs.Common.{rules}
-use Rattle.load.proofs.Stands.{past_table}
 use Rattle.load.specs.Scan.{standing_at}
-use Rattle.std.specs.Prelude.{refl}
+use Rattle.program.specs.Bytes.{byte}
 use Rattle.load.proofs.Scan.standing_at.Goals as goal
 
-pub returns-then-l-lt-MOST_LOCATIONS : goal.returns-then-l-lt-MOST_LOCATIONS
-unfolding standing_at
-returns-then-l-lt-MOST_LOCATIONS c = refl
-
-pub returns-else-l-lt-MOST_LOCATIONS : goal.returns-else-l-lt-MOST_LOCATIONS
-unfolding standing_at
-returns-else-l-lt-MOST_LOCATIONS c = past_table c.args.self.standing _ (search rules) c.if-l-lt-MOST_LOCATIONS.false
+pub returns : goal.returns
+unfolding standing_at byte
+returns c = c.byte.ensures

@@ -1,15 +1,18 @@
+use Rattle.std.proofs.lemmas.Result.{err_from_is_err_and}
+use Rattle.load.proofs.Told.{set_twice, told_last, told_no, told_yes, too_late}
 use Rattle.load.specs.Scan.{disorder}
-use Rattle.value.proofs.Tests.{yes, no, le!, le×}
-use Rattle.value.specs.Test.{need}
-use Rattle.std.specs.Prelude.{refl, Bool, not}
-use Rattle.std.proofs.Common.{◌∙◌, ap, arith}
+use Rattle.std.specs.Prelude.{refl, not}
+use Rattle.std.proofs.Common.{ap}
+use Rattle.value.proofs.Tests.{same_le}
 use Rattle.load.proofs.Scan.supply_disorder.Goals as goal
 
-pub returns-then-standing_at-lt-WAITING : goal.returns-then-standing_at-lt-WAITING
+pub returns-in_err-unless : goal.returns-in_err-unless
 unfolding disorder
-returns-then-standing_at-lt-WAITING c = λ p r. no _ (le× (omega (arith, c.standing_at.ensures))) refl
+returns-in_err-unless c = λ q r. let p = err_from_is_err_and c.from_residual.result c.from_residual.ensures.1 in rw (p.1, p.2)
+    (told_no (too_late c.args.at) _ _ (same_le refl c.standing_at.ensures) _
+    c.in_err-unless.ensures)
 
 pub returns : goal.returns
 unfolding disorder
-returns c = λ p r. yes _ (le! (omega (arith, c.standing_at.ensures)))
-    (c.unless.ensures ∙ ap (λ (t : Bool). need (not t) 6 0) c.is_supplied.ensures)
+returns c = λ p r. told_yes (too_late c.args.at) _ _ (same_le refl c.standing_at.ensures) _ c.in_ok-unless.ensures
+    (told_last (set_twice c.args.at) _ _ (ap not c.is_supplied.ensures) c.unless-2.ensures)

@@ -9,6 +9,3 @@ invariant-loop-r l =
     (reactors_of (accepted l.program) (reactors l.program) l.program 0 ≡ reactors_of
     (accepted l.program) (reactors l.program - l.r) l.program l.r)
     × (l.r ≤ reactors l.program) × (l.first ≡ commands_at l.program l.r) × Upto l.program l.facts l.r
-
-abbrev pub decreases-loop-r : goal.decreases-loop-r
-decreases-loop-r l = reactors l.program - l.r

@@ -1,7 +1,0 @@
-use Rattle.program.specs.Bytes.{byte, shape_at}
-use Rattle.std.proofs.Common.{◌∙◌, ap, arith}
-use Rattle.load.proofs.Facts.port.Goals as goal
-
-pub returns : goal.returns
-unfolding shape_at
-returns c = c.byte.ensures ∙ ap (byte _) (omega (arith, c.requires.its_globals))
