@@ -1,10 +1,9 @@
 -- The chain of a branch point: each test of one link, the next link, and the list of its members.
 -- Assumes nothing.
-use Rattle.std.specs.Prelude.{ℕ, zero, suc, ◌+◌, ◌-◌, ◌≤◌, ◌<◌, ◌≡◌, refl, true, false, List, [], ◌∷◌, get_or, set}
-use Rattle.std.proofs.Common.{sym}
-use Rattle.std.proofs.Common.{arith}
-use Rattle.value.specs.Test.{◌and◌, ◌<?◌, ◌=?◌}
-use Rattle.value.proofs.Tests.{goes, stops, lt!, lt×}
+use Rattle.std.specs.Prelude.{ℕ, zero, suc, ◌+◌, ◌-◌, ◌≤◌, ◌<◌, ◌≡◌, refl, Bool, true, false, List, [], ◌∷◌, get_or, set}
+use Rattle.std.proofs.Common.{sym, ◌∙◌, ⊎_elim, arith}
+use Rattle.value.specs.Test.{◌and◌, ◌<?◌, ◌=?◌, guard}
+use Rattle.value.proofs.Tests.{goes, stops, lt!, lt×, below, cases}
 use Rattle.program.specs.Bytes.{shape_of}
 use Rattle.image.specs.Memory.{reactor, next}
 use Rattle.image.specs.Passes.{is_start, chain_from, members_from, children_from, over}
@@ -12,10 +11,16 @@ use Rattle.image.specs.Clauses.{named_at}
 use Rattle.image.proofs.Lists.{over_append, over_done}
 
 module _ (p m t : List ℕ) (o s last : ℕ) (seen : List ℕ) (c : ℕ) where
-  pub chain_out : (n : ℕ) → n < 1 → false ≡ chain_from p m n t o s last seen c
+  -- where one more link would be too many, the chain has to end
+  pub chain_last : (n : ℕ) → n ≡ suc zero → (c <? 1) ≡ chain_from p m n t o s last seen c
   unfolding chain_from
-  chain_out zero h = refl
-  chain_out (suc n) h = absurd (omega arith)
+  chain_last n e =
+      rw e
+      (⊎_elim (λ (l : c < 1). lt! l ∙ stops _ (lt× (omega arith)) refl)
+      (λ (l : 1 ≤ c). lt× l ∙ goes _ _ (lt! (omega arith)) (none _ _)) (below c 1))
+    where
+      none : (a b : Bool) → false ≡ guard a false (λ _. guard b false (λ _. false))
+      none a b = cases a (λ e. goes _ _ e (cases b (λ h. goes _ _ h refl) (λ h. stops _ h refl))) (λ e. stops _ e refl)
 
   module _ (n k : ℕ) (e : n ≡ suc k) where
     pub chain_ends : c < 1 → true ≡ chain_from p m n t o s last seen c

@@ -39,8 +39,7 @@ pub(crate) fn chain_sound(
     let mut seen = [0u8; 64];
     let mut last = used(memory);
     let mut c = head;
-    let mut left = reactors(program) as u16 + 1;
-    while 0 < left {
+    for _ in 0..reactors(program) {
         if c < 1 {
             return true;
         }
@@ -54,7 +53,6 @@ pub(crate) fn chain_sound(
         put_byte(&mut seen, r as usize, 1);
         last = c;
         c = next(memory, c);
-        left = left - 1;
     }
-    false
+    c < 1
 }

@@ -62,8 +62,7 @@ fn sweep_chain(
     let mut seen = [0u8; 64];
     let mut last = used(memory);
     let mut c = head;
-    let mut left = reactors(program);
-    while 0 < left {
+    for _ in 0..reactors(program) {
         if c < 1 {
             return true;
         }
@@ -77,7 +76,6 @@ fn sweep_chain(
         put_byte(&mut seen, r as usize, 1);
         last = c;
         c = next(memory, c);
-        left = left - 1;
     }
     c < 1
 }
@@ -168,12 +166,9 @@ fn sweep_slots(
     ensures { let p = program.now in let m = memory.now in
         (result ≡ true → SlotsSwept p m o table.old table.new) }
 {
-    let n = counts.commands_d();
-    let mut j: u8 = 0;
-    while j < n {
+    for j in 0..counts.commands_d() {
         let at = counts.at() as usize + 8 * (j as usize);
         let i = o as usize + counts.slots_d() as usize + 2 * (j as usize);
-        j += 1;
         if !sweep_slot(
             program,
             memory,

@@ -1,5 +1,4 @@
-// Stretches of zeros. The loops have no test but their end's, so that they are done many words at a
-// time.
+// Stretches of zeros. The loop has no way out, so that many words are taken at a time.
 ghost use Rattle.std.specs.Prelude.{◌≡◌, length, replicate};
 ghost use Rattle.image.specs.Memory as M;
 
@@ -7,11 +6,9 @@ ghost use Rattle.image.specs.Memory as M;
 fn all_zero(words: &[u32]) -> bool
     ensures { result ≡ M.all_zero words.now }
 {
-    let mut bits: u32 = 0;
-    let mut i = 0;
-    while i < words.len() {
-        bits = bits | words[i];
-        i += 1;
+    let mut bits = 0;
+    for word in words {
+        bits |= *word;
     }
     bits == 0
 }
@@ -34,9 +31,5 @@ pub(crate) fn zero_at(memory: &[u32], from: usize, n: usize) -> bool
 pub fn wipe(words: &mut [u32])
     ensures { words.new ≡ replicate (length words.old) 0 }
 {
-    let mut i = 0;
-    while i < words.len() {
-        words[i] = 0;
-        i += 1;
-    }
+    words.fill(0);
 }

@@ -1,28 +1,21 @@
-use Rattle.std.proofs.Common.{not}
-use Rattle.std.proofs.Common.{ap}
-use Rattle.std.specs.Prelude.{refl}
-use Rattle.std.proofs.Common.{sym, ◌∙◌, arith}
+use Rattle.std.proofs.Common.{not, ap, sym, ◌∙◌, arith}
+use Rattle.std.specs.Prelude.{◌+◌, ◌-◌, ◌≡◌, refl}
 use Rattle.std.proofs.lemmas.Bool.{false≢true}
 use Rattle.image.proofs.Merging.{placed_later}
 use Rattle.image.proofs.Sweeping.{chain_swept, chain_further}
+use Rattle.program.specs.Bytes.{reactors}
 use Rattle.value.proofs.Tests.{passed, lt?, same_lt}
 use Rattle.image.proofs.sweep.sweep_chain.Goals as goal
 
-pub loop-left-init : goal.loop-left-init
-loop-left-init c = (
-  omega arith,
-  refl,
-  refl,
-  c.requires,
-  rw
-      (c.reactors-left.ensures, c.used-last.ensures) (λ t f. f),
-)
+pub loop-init : goal.loop-init
+loop-init c = let e : c.reactors-end.result - 0 ≡ reactors (c.args.program.now) = omega arith in
+    (refl, c.requires, rw (e, c.used-last.ensures) (λ t f. f))
 
 pub returns-then-c-lt1 : goal.returns-then-c-lt1
-returns-then-c-lt1 c = λ e. c.loop-left.invariant.4 _ (chain_swept _ _ _ _ _ _ _ _ _ (omega arith))
+returns-then-c-lt1 c = λ e. c.loop.invariant.2 _ (chain_swept _ _ _ _ _ _ _ _ _ (omega arith))
 
 pub link-requires : goal.link-requires
-link-requires c = c.loop-left.invariant.3
+link-requires c = c.loop.invariant.1
 
 pub returns-then-not-link : goal.returns-then-not-link
 returns-then-not-link c = λ e. absurd (false≢true e)
@@ -30,24 +23,24 @@ returns-then-not-link c = λ e. absurd (false≢true e)
 pub returns-then-not-joins : goal.returns-then-not-joins
 returns-then-not-joins c = λ e. absurd (false≢true e)
 
-pub loop-left-preserved : goal.loop-left-preserved
-loop-left-preserved c = let loop = c.loop-left in
+pub loop-preserved : goal.loop-preserved
+loop-preserved c = let loop = c.loop in
+    let left = c.reactors-end.result - loop.counter in
+    let e : c.reactors-end.result - (loop.counter + 1) ≡ left - 1 = omega arith in
     let linked = c.link.ensures (passed refl (ap not c.if-not-link.false)) in (
-      omega arith,
       cc,
-      cc,
-      placed_later _ _ _ _ loop.invariant.3 linked.later,
-      λ t f.
-          loop.invariant.4 t
-          (chain_further _ _ _ _ _ _ _ _ _ _ _ _ _ _ (omega arith) (omega arith)
+      placed_later _ _ _ _ loop.invariant.1 linked.later,
+      rw e (λ t f.
+          loop.invariant.2 t
+          (chain_further _ _ _ _ _ _ _ left _ _ _ _ _ _ (omega arith) (omega arith)
           c.reactor-r.ensures
           (passed c.joins.ensures (ap not c.if-not-joins.false)) c.put_byte.ensures
-          c.next-c.ensures linked f),
+          c.next-c.ensures linked f)),
     )
 
 pub returns : goal.returns
-returns c = let l = c.loop-left in
-    λ e. l.invariant.4 _ (chain_swept _ _ _ _ _ _ _ _ _ (lt? (sym (same_lt refl refl) ∙ e)))
+returns c = let l = c.loop in
+    λ e. l.invariant.2 _ (chain_swept _ _ _ _ _ _ _ _ _ (lt? (sym (same_lt refl refl) ∙ e)))
 
 pub shape_of-table-then-c-lt1 : goal.shape_of-table-then-c-lt1
 shape_of-table-then-c-lt1 c = cc
