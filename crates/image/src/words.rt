@@ -23,7 +23,7 @@ pub const MOST_DEPTH: u8 = 64;
 pub fn word(memory: &[u32], i: usize) -> u32
     ensures { result ≡ M.word memory.now i }
 {
-    if i < memory.len() { memory[i] } else { 0 }
+    memory.get(i).copied().unwrap_or(0)
 }
 
 // Stores v at `i`, and nothing past the end.
