@@ -1,39 +1,23 @@
 -- A D command by its two bytes, a deployment's children, a pass, and the ladder of soundness as the code climbs it.
 -- Assumes nothing.
 use Rattle.std.specs.Prelude.{ℕ, ◌+◌, ◌-◌, ◌≡◌, refl, Bool, true, false, List, replicate, Ok, Err}
-use Rattle.std.proofs.Common.{sym, ◌∙◌, ap, ⊎_elim, arith}
+use Rattle.std.proofs.Common.{sym, ◌∙◌, ap, arith}
 use Rattle.value.specs.Test.{◌and◌, ◌=?◌}
-use Rattle.value.proofs.Tests.{goes, stops, eq!, eq×, le?, both?, same?}
-use Rattle.program.specs.Bytes.{reactors, commands_d, main_of}
+use Rattle.value.proofs.Tests.{goes, stops, eq!, eq×, le?, both?}
+use Rattle.program.specs.Bytes.{commands_d, main_of}
 use Rattle.program.specs.Command.{Made, made_by, cmd_of}
 use Rattle.program.specs.Location.{command_loc, size_of}
-use Rattle.image.specs.Memory.{main_at, used, turns, reactor, wired, next, content, zero_at, starts_below}
+use Rattle.image.specs.Memory.{main_at, used, turns, reactor, wired, next, zero_at, starts_below}
 use Rattle.image.specs.Passes.{table_bytes, lowest, over, with_table_byte, blank_table, visit, table_after, fits}
-use Rattle.image.specs.Passes.{members_from, named_by, children_from, children_of, lowest_unfit, fresh_sound}
+use Rattle.image.specs.Passes.{children_from, children_of, lowest_unfit, fresh_sound}
 use Rattle.image.specs.Passes.{grown_sound, by_turns, framed, sound_of}
-use Rattle.image.specs.Clauses.{made_of, SlotOf, Tiling, starts_on}
+use Rattle.image.specs.Clauses.{made, SlotOf, Tiling, starts_on}
 use Rattle.image.specs.declared.DSlot.{DSlot}
 use Rattle.image.specs.declared.Pass.{Pass}
-use Rattle.image.proofs.MadeByBytes.{made_mono, made_point, made_cell, made_other}
-
-module _ (p m : List ℕ) (f : List ℕ → ℕ → List ℕ) (t : List ℕ) (o l code x c : ℕ) (holds : c ≡ content p m o l) where
-  pub step_mono : (t₁ : List ℕ) → code ≡ 1 → t₁ ≡ f t c → t₁ ≡ over f t (named_by p m o l (made_of code x))
-  unfolding over named_by
-  step_mono t₁ e h = rw (← made_mono code x e, ← holds) h
-
-  pub step_point : (t₁ : List ℕ) → code ≡ 2 → t₁ ≡ over f t (members_from p m (reactors p) c)
-      → t₁ ≡ over f t (named_by p m o l (made_of code x))
-  unfolding named_by
-  step_point t₁ e h = rw (← made_point code x e, ← holds) h
-
-  pub step_none : (code ≡ 1 → ⊥) → (code ≡ 2 → ⊥) → t ≡ over f t (named_by p m o l (made_of code x))
-  unfolding over named_by
-  step_none d e =
-      ⊎_elim (λ h. rw (← made_cell code x h) refl) (λ h. rw (← made_other code x d e h) refl) (same? code 11)
 
 -- what is said of a D slot and of what its bytes make holds of its command
 pub by_slot : {A : Type 0} (F : ℕ → Made → A) (p m : List ℕ) (o j : ℕ) (s : DSlot) → SlotOf p m o j s
-    → F s.location (made_of s.code s.x) ≡ F (command_loc p (reactor m o) j) (made_by (cmd_of p (reactor m o) j))
+    → F s.location (made s.makes) ≡ F (command_loc p (reactor m o) j) (made_by (cmd_of p (reactor m o) j))
 by_slot F p m o j s e = rw (e.located, e.makes)
 
 pub children_first : (p m : List ℕ) (f : List ℕ → ℕ → List ℕ) (t : List ℕ) (o n : ℕ) → n ≡ commands_d p (reactor m o)
@@ -42,12 +26,12 @@ unfolding children_of
 children_first p m f t o n e = let d : n - 0 ≡ commands_d p (reactor m o) = omega arith in rw d
 
 -- a pass: t is its table before the visits, t₁ after them
-pub pass_run : (p m : List ℕ) (pass : Pass) (t t₁ s : List ℕ) {r : ℕ}
+pub pass_run : (p m : List ℕ) (pass : Pass) (t t₁ s : List ℕ)
     → t ≡ with_table_byte (replicate table_bytes 0) main_at 1 → t₁ ≡ over (visit p m pass) t s
-    → r ≡ lowest (fits p m pass t₁) s → r ≡ lowest_unfit p m pass s
+    → lowest (fits p m pass t₁) s ≡ lowest_unfit p m pass s
 unfolding lowest_unfit table_after blank_table
-pass_run p m pass t t₁ s a b h = h
-    ∙ ap (λ (t : List ℕ). lowest (fits p m pass t) s) (b ∙ ap (λ (t : List ℕ). over (visit p m pass) t s) a)
+pass_run p m pass t t₁ s a b =
+    ap (λ (t : List ℕ). lowest (fits p m pass t) s) (b ∙ ap (λ (t : List ℕ). over (visit p m pass) t s) a)
 
 module _ (p m : List ℕ) where
   -- with turns 0, by main's size

@@ -1,8 +1,11 @@
 -- Folds and first faults over a list, one element at a time.
 -- Assumes nothing.
-use Rattle.std.specs.Prelude.{ℕ, ◌≡◌, refl, Bool, true, false, List, [], ◌∷◌, ◌++◌}
+use Rattle.std.specs.Prelude.{ℕ, zero, suc, ◌<◌, ◌≡◌, refl, Option, Some, None, Bool, true, false, List, [], ◌∷◌, ◌++◌}
 use Rattle.value.proofs.Tests.{goes, stops}
+use Rattle.std.specs.Option.{unwrap_or}
+use Rattle.std.proofs.Common.{arith}
 use Rattle.image.specs.Passes.{lowest, over}
+use Rattle.image.specs.Clauses.{found}
 
 module _ (f : List ℕ → ℕ → List ℕ) where
   -- t₁ is t changed for the first of s
@@ -31,3 +34,18 @@ module _ (ok : ℕ → Bool) (s rest : List ℕ) (a : ℕ) (e : s ≡ a ∷ rest
 pub lowest_done : (ok : ℕ → Bool) (s : List ℕ) → s ≡ [] → 0 ≡ lowest ok s
 unfolding lowest
 lowest_done ok s e = rw e
+
+-- a place that is not 0 is found, and 0 is none
+pub found_at : (a n : ℕ) → 0 < a → a ≡ n → Some a ≡ found n
+unfolding found
+found_at zero n h e = absurd (omega arith)
+found_at (suc a) n h e = rw (← e) refl
+
+pub found_none : (n : ℕ) → 0 ≡ n → None ≡ found n
+unfolding found
+found_none n e = rw (← e) refl
+
+pub unwrap_found : (o : Option ℕ) (n : ℕ) → o ≡ found n → unwrap_or o 0 ≡ n
+unfolding found
+unwrap_found o zero e = rw e refl
+unwrap_found o (suc n) e = rw e refl

@@ -11,16 +11,15 @@ use Rattle.value.specs.declared.Value.{Value}
 use Rattle.value.proofs.Tests.{both!, both?, eq!, lt×?, or×?, same_or, same_lt}
 use Rattle.value.proofs.Sweeps.{sweep_next, sweep_done}
 use Rattle.program.specs.Bytes.{reactors, commands_d, shape_of}
-use Rattle.program.specs.Command.{Made, deployment, point, held, made_by, cmd_of}
+use Rattle.program.specs.Command.{Made, deployment, point, held, nought, made_by, cmd_of}
 use Rattle.program.specs.Kind.{legal}
 use Rattle.program.specs.Location.{command_loc, source_count, slot_at}
 use Rattle.program.proofs.Slots.{slot_low}
 use Rattle.image.specs.Memory.{word, used, reactor, wired, next, slot, mark, content, value_at}
 use Rattle.image.specs.Passes.{table_byte, is_start, chain_from, members_from, slot_sound, named_by, children_from}
 use Rattle.image.specs.Passes.{children_of, clear_at, own_sound}
-use Rattle.image.specs.Clauses.{made_of, command_sound, Placed, Sweeps, SlotSwept, SlotsSwept, OwnSwept}
+use Rattle.image.specs.Clauses.{command_sound, Placed, Sweeps, SlotSwept, SlotsSwept, OwnSwept}
 use Rattle.image.proofs.Chains.{chain_ends, chain_next, members_end, members_next}
-use Rattle.image.proofs.MadeByBytes.{made_other}
 use Rattle.image.proofs.Merging.{sweeps_none, sweeps_then, sweeps_as}
 
 -- ---- a chain
@@ -88,14 +87,9 @@ module _ (p m : List ℕ) (o l x : ℕ) (t : List ℕ) where
   unfolding named_by slot_sound
   cell_swept v e h = sweeps_none o _ _ t (λ r. ap (legal p x) (sym e) ∙ h) refl
 
-module _ (p m : List ℕ) (o l code x : ℕ) (t : List ℕ) where
-  pub by_made : (t₁ : List ℕ) (made : Made) → made ≡ made_of code x → SlotSwept p m o t t₁ l made
-      → SlotSwept p m o t t₁ l (made_of code x)
-  by_made t₁ made e h = rw (← e) h
-
-  pub by_none : (code ≡ 1 → ⊥) → (code ≡ 2 → ⊥) → (code ≡ 11 → ⊥) → SlotSwept p m o t t l (made_of code x)
-  unfolding named_by slot_sound
-  by_none d e f = rw (← made_other code x d e f) (sweeps_none o _ _ t (λ r. refl) refl)
+pub nought_swept : (p m : List ℕ) (o l : ℕ) (t : List ℕ) → SlotSwept p m o t t l nought
+unfolding named_by slot_sound
+nought_swept p m o l t = sweeps_none o _ _ t (λ r. refl) refl
 
 -- ---- all D slots
 

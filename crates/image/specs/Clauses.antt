@@ -1,6 +1,8 @@
 -- What the contracts of the code speak of beside the definitions. Passes.antt is cut into what each function answers;
 -- and the sweep's one table is tied to those of the three passes.
-use Rattle.std.specs.Prelude.{ℕ, ◌+◌, ◌≤◌, ◌<◌, ◌≡◌, ◌≢◌, Bool, true, List, ◌∷◌, length, get_or}
+use Rattle.std.specs.Prelude.{ℕ, zero, suc, Option, Some, None, ◌+◌, ◌≤◌, ◌<◌, ◌≡◌, ◌≢◌, Bool, true, List, ◌∷◌, length, get_or}
+use Rattle.std.specs.Borrow.{MutBor}
+use Rattle.std.specs.Fn.{Shared}
 use Rattle.value.specs.Test.{pick, ◌≤?◌, ◌=?◌, ◌and◌, ◌<?◌, sweep}
 use Rattle.program.specs.Bytes.{reactors, commands_at, main_of, commands_d}
 use Rattle.program.specs.Command.{Made, deployment, point, held, nought, made_by, cmd_of}
@@ -9,8 +11,8 @@ use Rattle.image.specs.Memory.{used, reactor, deploy, starts_from, most_turns, m
 use Rattle.image.specs.Passes.{name, deepen, tiles_from, slot_sound, named_by, lowest, over, table_byte}
 use Rattle.image.specs.Passes.{with_table_byte, visit, children_of, own_sound, lowest_unfit}
 use Rattle.image.specs.declared.DSlot.{DSlot}
-use Rattle.image.specs.declared.ChildStep.{ChildStep}
-use Rattle.image.specs.declared.ChildStep.TheVariants.{Name, Deepen}
+use Rattle.image.specs.declared.Makes.{Makes}
+use Rattle.image.specs.declared.Makes.TheVariants.{Deployment, Point, Cell, Nothing}
 use Rattle.image.specs.declared.Pass.TheVariants.{Starts, Names, Depths}
 use Rattle.image.specs.Start.{Start}
 use Rattle.answer.specs.Answer.{Answer}
@@ -22,6 +24,12 @@ deploy_fits p m r old = pick (used m + size_of p r ≤? 4294967295) (deploy p m 
 -- what a D command of this code and x makes
 unfoldable pub made_of : ℕ → ℕ → Made
 made_of code x = pick (code =? 1) (deployment x) (pick (code =? 2) (point x) (pick (code =? 11) (held x) nought))
+
+unfoldable pub made : Makes → Made
+made (Deployment x) = deployment x
+made (Point x) = point x
+made (Cell x) = held x
+made Nothing = nought
 
 -- a table of the byte at which each reactor's commands begin
 abbrev pub Positions : List ℕ → List ℕ → Type 0
@@ -45,10 +53,15 @@ module _ (p m : List ℕ) where
     pub legal : reactor m a < reactors p
     pub here : starts_on u a ≡ a ∷ starts_on u b
 
--- what a step does for the child c of o
-abbrev pub child_step : ChildStep → ℕ → List ℕ → ℕ → List ℕ
-child_step Name o = name
-child_step Deepen o = deepen o
+-- a place of 0 is none
+unfoldable pub found : ℕ → Option ℕ
+found zero = None
+found (suc a) = Some (suc a)
+
+-- calls of f on a table, which is changed in place, and a deployment leave in the table what `does` says
+abbrev pub Leaves : {F : Type 0} → Shared F (MutBor (List ℕ) × (ℕ × Unit {0})) (Unit {0} × (MutBor (List ℕ) × Unit {0})) → F
+    → (List ℕ → ℕ → List ℕ) → Type 0
+Leaves g f does = (t t₁ : MutBor (List ℕ)) (c : ℕ) → g.post f (t, (c, tt)) (tt, (t₁, tt)) → t₁.now ≡ does t.now c
 
 module _ (p m : List ℕ) where
   -- whether the slot of D command j of o is right
@@ -62,7 +75,7 @@ module _ (p m : List ℕ) where
   -- s is the slot of D command j of o
   pub record SlotOf (o j : ℕ) (s : DSlot) : Type 0 where
     pub located : s.location ≡ command_loc p (reactor m o) j
-    pub makes : made_of s.code s.x ≡ made_by (cmd_of p (reactor m o) j)
+    pub makes : made s.makes ≡ made_by (cmd_of p (reactor m o) j)
 
 -- ---- the sweep
 

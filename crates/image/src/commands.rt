@@ -1,48 +1,51 @@
-// The D commands of a deployment. Where each reactor's commands begin is summed up once for all.
-ghost use Rattle.std.specs.Prelude.{◌<◌, ◌≡◌, length};
+// The D commands of a deployment: what each makes, and in which slot.
+ghost use Rattle.std.specs.Prelude.{◌+◌, ◌<◌, ◌≡◌};
 ghost use Rattle.program.specs.Bytes as B;
 ghost use Rattle.image.specs.Memory as M;
-ghost use Rattle.image.specs.Clauses.{SlotOf, Positions};
+ghost use Rattle.image.specs.Clauses.{made, made_of, SlotOf, Positions};
 
-use crate::DSlot;
-use crate::words::{put, reactor, word};
-use program::{byte, commands_in, reactors, source_count, tables_end};
+use crate::tiled::Tiled;
+use crate::words::{reactor, word};
+use crate::{DSlot, Makes};
+use program::{Command, byte, commands_in, reactors, source_count, tables_end};
 
 // Fills in the byte at which each reactor's commands begin.
-pub(crate) fn fill_positions(program: &[u8], places: &mut [u32])
-    requires { length places.old ≡ 256 }
+pub(crate) fn fill_positions(program: &[u8], places: &mut [u32; 256])
     ensures { Positions program.now places.new }
 {
-    let n = reactors(program);
     let mut at = tables_end(program) as u32;
-    let mut r: u8 = 0;
-    while r < n {
-        put(places, r as usize, at);
-        at = at + 8 * (commands_in(program, r as u32) as u32);
-        r = r + 1;
+    for r in 0..reactors(program) {
+        places[r as usize] = at;
+        at += 8 * commands_in(program, r as u32) as u32;
     }
 }
 
-// The byte at which the commands of the deployment at o begin.
-pub(crate) fn position(program: &[u8], places: &[u32], memory: &[u32], o: u32) -> u32
-    requires positions { Positions program.now places.now }
-    requires o_bound { M.reactor memory.now o < B.reactors program.now }
-    ensures { result ≡ B.commands_at program.now (M.reactor memory.now o) }
+// What the D command at byte `at` makes.
+pub(crate) fn makes_at(program: &[u8], at: usize) -> Makes
+    requires { at < 18446744073709551615 }
+    ensures { let p = program.now in
+        made result ≡ made_of (B.byte p at) (B.byte p (at + 1)) }
 {
-    let r = reactor(memory, o);
-    word(places, r as usize)
+    let x = byte(program, at + 1);
+    match byte(program, at) {
+        Command::ALLOC_MONO => Makes::Deployment(x),
+        Command::MAKE_POLY => Makes::Point(x),
+        Command::CELL => Makes::Cell(x),
+        _ => Makes::Nothing,
+    }
 }
 
-// The slot of D command j of o, whose commands begin at byte `at`.
-pub(crate) fn slot_of(program: &[u8], at: u32, memory: &[u32], o: u32, j: u8) -> DSlot
-    requires { at ≡ B.commands_at program.now (M.reactor memory.now o) }
-    ensures { SlotOf program.now memory.now o j result }
-{
-    let r = reactor(memory, o);
-    let i = at as usize + 8 * (j as usize);
-    DSlot {
-        location: source_count(program, r) as u16 + j as u16,
-        code: byte(program, i),
-        x: byte(program, i + 1),
+impl Tiled<'_> {
+    // The slot of D command j of o.
+    pub(crate) fn d_slot(&self, o: u32, j: u8) -> DSlot
+        requires { M.reactor self.now.memory.now o < B.reactors self.now.program.now }
+        ensures { SlotOf self.now.program.now self.now.memory.now o j result }
+    {
+        let r = reactor(self.memory, o);
+        let at = word(self.places, r as usize) as usize + 8 * j as usize;
+        DSlot {
+            location: source_count(self.program, r) as u16 + j as u16,
+            makes: makes_at(self.program, at),
+        }
     }
 }

@@ -1,11 +1,13 @@
 // 3.5, 6.12 The slots of a deployment, and a new deployment.
-ghost use Rattle.std.specs.Prelude.{◌+◌, ◌<◌, ◌≡◌, set};
+ghost use Rattle.std.specs.Prelude.{◌+◌, ◌-◌, ◌≤◌, ◌<◌, ◌≡◌, set};
+ghost use Rattle.value.specs.Test.{◌and◌};
 ghost use Rattle.program.specs.Location as L;
 ghost use Rattle.image.specs.Memory as M;
 ghost use Rattle.image.specs.Clauses.{deploy_fits};
 
-use crate::words::{pair, put, reactor, set_used, used, word};
-use program::{size_of, slot_at};
+use crate::words::{SLOTS_AT, pair, put, reactor, set_used, used, word};
+use crate::zero::zero_at;
+use program::{HEAD_WORDS, size_of, slot_at};
 use value::Value;
 
 // The index of location l's two words, in the deployment at a.
@@ -48,6 +50,19 @@ pub fn size_at(program: &[u8], memory: &[u32], a: u32) -> u32
 {
     let r = reactor(memory, a);
     size_of(program, r)
+}
+
+// Whether all slots of the deployment at a are zero but those from its word `first` up to `end`, of
+// `size` words.
+pub(crate) fn zero_around(memory: &[u32], a: u32, first: u32, end: u32, size: u32) -> bool
+    requires head { 3 ≤ first }
+    requires tail { end ≤ size }
+    ensures { let m = memory.now in
+        result ≡ (M.zero_at m (a + 3) (first - 3) and M.zero_at m (a + end) (size - end)) }
+{
+    let a = a as usize;
+    zero_at(memory, a + SLOTS_AT, (first - HEAD_WORDS) as usize)
+        & zero_at(memory, a + end as usize, (size - end) as usize)
 }
 
 // The three words of an unwired deployment at u, and u after it.

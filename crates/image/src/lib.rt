@@ -15,6 +15,7 @@ mod passes;
 mod soundness;
 mod sweep;
 mod table;
+mod tiled;
 mod tiling;
 mod words;
 mod zero;
@@ -38,17 +39,19 @@ pub enum Pass {
     Depths,
 }
 
-// What the two later ones do for each child: one more name for it, or one deeper than its owner.
+// What a D command makes in its slot: a deployment of a reactor, a branch point of a shape, a cell of a
+// kind, or nothing.
 #[derive(Clone, Copy)]
-pub enum ChildStep {
-    Name,
-    Deepen,
+pub enum Makes {
+    Deployment(u8),
+    Point(u8),
+    Cell(u8),
+    Nothing,
 }
 
-// A D slot: its location, and its command's code and x.
+// A D slot: its location, and what its command makes there.
 #[derive(Clone, Copy)]
 pub struct DSlot {
     pub location: u16,
-    pub code: u8,
-    pub x: u8,
+    pub makes: Makes,
 }

@@ -9,17 +9,20 @@ ghost use Rattle.program.specs.Command as C;
 ghost use Rattle.program.specs.Clauses.{Facts, Tells};
 ghost use Rattle.image.specs.Memory as M;
 ghost use Rattle.image.specs.Passes as P;
-ghost use Rattle.image.specs.Clauses.{Tiling, starts_on, made_of, Placed, Sweeps, SlotSwept, SlotsSwept};
+ghost use Rattle.image.specs.Clauses.{Tiling, starts_on, made, Placed, Sweeps, SlotSwept, SlotsSwept};
 ghost use Rattle.image.specs.Clauses.{OwnSwept, Swept, Begun, Headed, Grown};
 ghost use Rattle.image.specs.declared.Pass.TheVariants.{Starts};
 
-use crate::chain::joins;
+use crate::chain::{joins, linked};
+use crate::commands::makes_at;
+use crate::deployment::zero_around;
 use crate::soundness::{main_first, sound};
-use crate::table::{TABLE_BYTES, is_start, mark_start, put_byte, put_table_byte, table_byte};
+use crate::table::{TABLE_BYTES, mark_start, put_byte, put_table_byte, table_byte};
 use crate::tiling::counts_at;
-use crate::words::{MAIN_AT, MOST_TURNS, SLOTS_AT, next, pair, reactor, turns, used, wired};
+use crate::words::{MAIN_AT, MOST_TURNS, next, pair, reactor, turns, used, wired};
 use crate::zero::zero_at;
-use program::{Command, Counts, byte, legal, reactors};
+use crate::Makes;
+use program::{Counts, legal, reactors};
 use value::Value;
 
 // The byte of a deployment that is named at depth 1, and at depth 64.
@@ -37,7 +40,7 @@ fn link(table: &mut [u8], o: u32, k: u8, last: u32, c: u32) -> bool
     ensures { let t = table.old in let t₁ = table.new in
         (result ≡ true → Sweeps o (c ∷ []) (λ s. (o <? c) and (c <? last) and P.is_start s c) t t₁) }
 {
-    if !((o < c) & (c < last) & is_start(table, c)) {
+    if !linked(table, o, last, c) {
         return false;
     }
     put_table_byte(table, c, k + 1);
@@ -123,7 +126,7 @@ fn sweep_point(
     sweep_chain(program, memory, table, o, k, x, head)
 }
 
-// The D slot at word i of o, whose command has this code and x.
+// The D slot at word i of o, by what its command makes.
 fn sweep_slot(
     program: &[u8],
     memory: &[u32],
@@ -131,25 +134,20 @@ fn sweep_slot(
     o: u32,
     k: u8,
     i: usize,
-    code: u8,
-    x: u8,
+    makes: Makes,
 ) -> bool
     requires placed { Placed o k table.old }
     requires i_bound { i < 18446744073709551615 }
     ensures { let p = program.now in let m = memory.now in let t = table.old in
         let t₁ = table.new in
-        ((l : ℕ) → i ≡ M.slot p m o l → result ≡ true → SlotSwept p m o t t₁ l (made_of code x)) }
+        ((l : ℕ) → i ≡ M.slot p m o l → result ≡ true → SlotSwept p m o t t₁ l (made makes)) }
 {
-    if code == Command::ALLOC_MONO {
-        return sweep_mono(memory, table, o, k, i, x);
+    match makes {
+        Makes::Deployment(x) => sweep_mono(memory, table, o, k, i, x),
+        Makes::Point(x) => sweep_point(program, memory, table, o, k, i, x),
+        Makes::Cell(x) => legal(program, x, pair(memory, i)),
+        Makes::Nothing => true,
     }
-    if code == Command::MAKE_POLY {
-        return sweep_point(program, memory, table, o, k, i, x);
-    }
-    if code == Command::CELL {
-        return legal(program, x, pair(memory, i));
-    }
-    true
 }
 
 // All D slots of o, by the counts of its reactor.
@@ -167,18 +165,9 @@ fn sweep_slots(
         (result ≡ true → SlotsSwept p m o table.old table.new) }
 {
     for j in 0..counts.commands_d() {
-        let at = counts.at() as usize + 8 * (j as usize);
-        let i = o as usize + counts.slots_d() as usize + 2 * (j as usize);
-        if !sweep_slot(
-            program,
-            memory,
-            table,
-            o,
-            k,
-            i,
-            byte(program, at),
-            byte(program, at + 1),
-        ) {
+        let makes = makes_at(program, counts.at() as usize + 8 * j as usize);
+        let i = o as usize + counts.slots_d() as usize + 2 * j as usize;
+        if !sweep_slot(program, memory, table, o, k, i, makes) {
             return false;
         }
     }
@@ -190,11 +179,7 @@ fn clear_by(program: &[u8], memory: &[u32], a: u32, counts: Counts) -> bool
     requires { Tells program.now (M.reactor memory.now a) counts.word }
     ensures { result ≡ P.clear_at program.now memory.now a }
 {
-    let first = counts.slots_d() as usize;
-    let end = counts.slots_r() as usize;
-    let size = counts.size() as usize;
-    zero_at(memory, a as usize + SLOTS_AT, first - SLOTS_AT)
-        & zero_at(memory, a as usize + end, size - end)
+    zero_around(memory, a, counts.slots_d(), counts.slots_r(), counts.size())
 }
 
 // The deployment at a, by the counts of its reactor.

@@ -2,7 +2,7 @@ use Rattle.std.proofs.Common.{not}
 use Rattle.std.proofs.Common.{ap}
 use Rattle.std.specs.Prelude.{refl}
 use Rattle.std.proofs.lemmas.Bool.{false≢true}
-use Rattle.std.proofs.Common.{arith}
+use Rattle.std.proofs.Common.{◌∙◌, arith}
 use Rattle.image.proofs.MadeByBytes.{made_at}
 use Rattle.image.proofs.Merging.{placed_later}
 use Rattle.image.proofs.Sweeping.{slot_in_row, slots_swept, slots_further, slots_all}
@@ -37,8 +37,7 @@ loop-j-preserved c = let p = c.args.program.now in
     let D = c.commands_d-j-end.ensures p r told in
     let first = c.slots_d.ensures.is p r told in
     let at = c.at.ensures.is p r told in
-    let made = made_at p r j _ _ _ at c.byte.ensures
-    c.byte-in-loop-j.ensures in
+    let made = c.makes_at-makes.ensures ∙ made_at p r j _ _ _ at refl refl in
     let one = c.sweep_slot.ensures (command_loc p r j)
     (slot_in_row p m c.args.o j _ _ (omega arith) first refl) (passed refl (ap not c.if-not-sweep_slot.false)) in (
       cc,
