@@ -10,10 +10,13 @@ use Rattle.program.specs.Location.{command_loc, size_of}
 use Rattle.image.specs.Memory.{main_at, used, turns, reactor, wired, next, zero_at, starts_below}
 use Rattle.image.specs.Passes.{table_bytes, lowest, over, with_table_byte, blank_table, visit, table_after, fits}
 use Rattle.image.specs.Passes.{children_from, children_of, lowest_unfit, fresh_sound}
-use Rattle.image.specs.Passes.{grown_sound, by_turns, framed, sound_of}
-use Rattle.image.specs.Clauses.{made, SlotOf, Tiling, starts_on}
+use Rattle.image.specs.Passes.{Judged, grown_sound, by_turns, framed, sound_of}
+use Rattle.image.specs.Clauses.{judged, made, SlotOf, Tiling, starts_on}
 use Rattle.image.specs.declared.DSlot.{DSlot}
 use Rattle.image.specs.declared.Pass.{Pass}
+use Rattle.image.specs.declared.Pass.TheVariants.{Starts, Names, Depths}
+use Rattle.std.specs.Result.{result_or}
+use Rattle.image.proofs.Lists.{fault_judged, none_judged}
 
 -- what is said of a D slot and of what its bytes make holds of its command
 pub by_slot : {A : Type 0} (F : ℕ → Made → A) (p m : List ℕ) (o j : ℕ) (s : DSlot) → SlotOf p m o j s
@@ -50,6 +53,28 @@ module _ (p m : List ℕ) where
     pub main_alone : Clear ≡ true → used m ≡ main_at + size → Ok tt ≡ fresh_sound p m
     unfolding fresh_sound
     main_alone e f = rw (← sized) (goes _ _ e (goes _ _ (eq! f) refl))
+
+  -- with turns above 0, by what each pass answers
+  module _ (starts : List ℕ) where
+    pub own_fault : (a : ℕ) → Err a ≡ judged (lowest_unfit p m Starts starts) → Err a ≡ grown_sound p m starts
+    unfolding grown_sound
+    own_fault a e = let f = fault_judged _ a e in stops _ (eq× f.0) (ap Err f.1)
+
+    module _ (own : Ok tt ≡ judged (lowest_unfit p m Starts starts)) where
+      pub named_fault : (a : ℕ) → Err a ≡ judged (lowest_unfit p m Names starts) → Err a ≡ grown_sound p m starts
+      unfolding grown_sound
+      named_fault a e = let f = fault_judged _ a e in
+          goes _ _ (eq! (none_judged _ own)) (stops _ (eq× f.0) (ap Err f.1))
+
+      module _ (named : Ok tt ≡ judged (lowest_unfit p m Names starts)) where
+        pub depth_judged : (r : Judged) → r ≡ judged (lowest_unfit p m Depths starts)
+            → result_or r (Err 0) ≡ grown_sound p m starts
+        unfolding grown_sound
+        depth_judged (Ok x) e =
+            goes _ _ (eq! (none_judged _ own)) (goes _ _ (eq! (none_judged _ named)) (goes _ _ (eq! (none_judged _ e)) refl))
+        depth_judged (Err a) e =
+            let f = fault_judged _ a e in
+            goes _ _ (eq! (none_judged _ own)) (goes _ _ (eq! (none_judged _ named)) (stops _ (eq× f.0) refl))
 
   -- the ladder
   pub unframed : framed p m ≡ false → Err 0 ≡ sound_of p m

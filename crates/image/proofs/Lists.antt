@@ -1,11 +1,10 @@
 -- Folds and first faults over a list, one element at a time.
 -- Assumes nothing.
-use Rattle.std.specs.Prelude.{ℕ, zero, suc, ◌<◌, ◌≡◌, refl, Option, Some, None, Bool, true, false, List, [], ◌∷◌, ◌++◌}
+use Rattle.std.specs.Prelude.{ℕ, zero, suc, ◌<◌, ◌≡◌, refl, ◌≢◌, Ok, Err, IsErrAnd, Bool, true, false, List, [], ◌∷◌, ◌++◌}
 use Rattle.value.proofs.Tests.{goes, stops}
-use Rattle.std.specs.Option.{unwrap_or}
-use Rattle.std.proofs.Common.{arith}
-use Rattle.image.specs.Passes.{lowest, over}
-use Rattle.image.specs.Clauses.{found}
+use Rattle.std.proofs.Common.{ap, arith}
+use Rattle.image.specs.Passes.{Judged, lowest, over}
+use Rattle.image.specs.Clauses.{judged}
 
 module _ (f : List ℕ → ℕ → List ℕ) where
   -- t₁ is t changed for the first of s
@@ -35,17 +34,27 @@ pub lowest_done : (ok : ℕ → Bool) (s : List ℕ) → s ≡ [] → 0 ≡ lowe
 unfolding lowest
 lowest_done ok s e = rw e
 
--- a place that is not 0 is found, and 0 is none
-pub found_at : (a n : ℕ) → 0 < a → a ≡ n → Some a ≡ found n
-unfolding found
-found_at zero n h e = absurd (omega arith)
-found_at (suc a) n h e = rw (← e) refl
+-- what a pass answers
+pub judged_fault : (a n : ℕ) → 0 < a → a ≡ n → Err a ≡ judged n
+unfolding judged
+judged_fault zero n h e = absurd (omega arith)
+judged_fault (suc a) n h e = rw (← e) refl
 
-pub found_none : (n : ℕ) → 0 ≡ n → None ≡ found n
-unfolding found
-found_none n e = rw (← e) refl
+pub judged_none : (n : ℕ) → 0 ≡ n → Ok tt ≡ judged n
+unfolding judged
+judged_none n e = rw (← e) refl
 
-pub unwrap_found : (o : Option ℕ) (n : ℕ) → o ≡ found n → unwrap_or o 0 ≡ n
-unfolding found
-unwrap_found o zero e = rw e refl
-unwrap_found o (suc n) e = rw e refl
+pub fault_judged : (n a : ℕ) → Err a ≡ judged n → (n ≢ 0) × (a ≡ n)
+unfolding judged
+fault_judged zero a e = cc
+fault_judged (suc n) a e = (λ z. omega arith, cc)
+
+pub none_judged : (n : ℕ) → Ok tt ≡ judged n → n ≡ 0
+unfolding judged
+none_judged zero e = refl
+none_judged (suc n) e = cc
+
+-- what `?` hands on of a fault
+pub handed_on : {a : ℕ} (r : Judged) → IsErrAnd r (λ b. b ≡ a) → r ≡ Err a
+handed_on (Ok x) h = absurd h
+handed_on (Err b) h = ap Err h

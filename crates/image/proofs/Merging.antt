@@ -13,7 +13,7 @@ use Rattle.value.proofs.Tests.{same?, below, both!, both?, or×?, lt!, lt×?, le
 use Rattle.value.proofs.Tests.{same_eq, same_or}
 use Rattle.program.specs.Bytes.{main_of}
 use Rattle.value.proofs.Zeros.{zeros_at}
-use Rattle.image.specs.Memory.{main_at, most_turns, used, turns, reactor, next, all_zero, zero_at}
+use Rattle.image.specs.Memory.{main_at, most_turns, used, turns, reactor, next, zero_at}
 use Rattle.image.specs.Passes as P
 use Rattle.image.specs.Passes.{table_bytes, lowest, over, table_byte, with_table_byte, blank_table, is_start, name}
 use Rattle.image.specs.Passes.{deepen, visit, fits, own_sound, children_of, table_after, lowest_unfit, tiles_from}
@@ -319,10 +319,14 @@ module _ (p m l t t₁ t₂ : List ℕ) (zeros : t ≡ replicate (length t) 0) (
   unfolding lowest_unfit fits table_byte
   depths_fit = swept.deep _ (λ a h g. let w = ended.named (a / 3) (omega arith) in le! (omega (arith, w.1)))
 
-pub swept_grown : (p m : List ℕ) (u : ℕ) (t b t₂ : List ℕ) → t ≡ replicate (length t) 0 → 0 < length t
-    → length t ≤ table_bytes → u ≡ used m → Headed p m → Begun p m u t b → Swept p m (starts_on p m u main_at) b t₂
+pub swept_grown : (p m : List ℕ) (u n : ℕ) (t b t₂ : List ℕ) → t ≡ replicate n 0 → 0 < n → n ≤ table_bytes
+    → u ≡ used m → Headed p m → Begun p m u t b → Swept p m (starts_on p m u main_at) b t₂
     → Grown p m
-swept_grown p m u t b t₂ z s f e h g w =
+swept_grown p m u n t b t₂ y i j e h g w =
+    let k : length t ≡ n = ap length y ∙ length-replicate {A = ℕ} n 0 in
+    let z : t ≡ replicate (length t) 0 = rw k y in
+    let s : 0 < length t = omega arith in
+    let f : length t ≤ table_bytes = omega arith in
     let l = starts_on p m u main_at in
     let t₁ = over (visit p m Starts) t l in
     let begins : Swept p m l (with_table_byte t₁ main_at 5) t₂ = rw g.marked at w in
@@ -353,11 +357,6 @@ module _ (p m : List ℕ) (u : ℕ) (its : u ≡ used m) (fits : u ≤ length m)
 
   pub grown_sound_lem : sound_of p m ≡ Ok tt
   grown_sound_lem = sym (grown_true ∙ grown_judged p m framed_true g.head.last g.head.late)
-
--- nothing is past the end
-pub rest_none : (m : List ℕ) (u : ℕ) → length m ≡ u → zero_at m u (length m - u) ≡ true
-unfolding zero_at all_zero
-rest_none m u e = let z : length m - u ≡ 0 = omega arith in rw z refl
 
 -- what the code finds of word 1, main's next, and whether main comes first
 pub headed_by : (p m : List ℕ) (u t n : ℕ) (f : Bool) → u ≡ used m → t ≡ turns m → n ≡ next m main_at

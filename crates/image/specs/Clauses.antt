@@ -1,6 +1,6 @@
 -- What the contracts of the code speak of beside the definitions. Passes.antt is cut into what each function answers;
 -- and the sweep's one table is tied to those of the three passes.
-use Rattle.std.specs.Prelude.{ℕ, zero, suc, Option, Some, None, ◌+◌, ◌≤◌, ◌<◌, ◌≡◌, ◌≢◌, Bool, true, List, ◌∷◌, length, get_or}
+use Rattle.std.specs.Prelude.{ℕ, zero, suc, Ok, Err, ◌+◌, ◌≤◌, ◌<◌, ◌≡◌, ◌≢◌, Bool, true, List, ◌∷◌, length, get_or}
 use Rattle.std.specs.Borrow.{MutBor}
 use Rattle.std.specs.Fn.{Shared}
 use Rattle.value.specs.Test.{pick, ◌≤?◌, ◌=?◌, ◌and◌, ◌<?◌, sweep}
@@ -8,7 +8,7 @@ use Rattle.program.specs.Bytes.{reactors, commands_at, main_of, commands_d}
 use Rattle.program.specs.Command.{Made, deployment, point, held, nought, made_by, cmd_of}
 use Rattle.program.specs.Location.{command_loc, size_of}
 use Rattle.image.specs.Memory.{used, reactor, deploy, starts_from, most_turns, main_at, turns, next}
-use Rattle.image.specs.Passes.{name, deepen, tiles_from, slot_sound, named_by, lowest, over, table_byte}
+use Rattle.image.specs.Passes.{Judged, name, deepen, tiles_from, slot_sound, named_by, lowest, over, table_byte}
 use Rattle.image.specs.Passes.{with_table_byte, visit, children_of, own_sound, lowest_unfit}
 use Rattle.image.specs.declared.DSlot.{DSlot}
 use Rattle.image.specs.declared.Makes.{Makes}
@@ -53,10 +53,10 @@ module _ (p m : List ℕ) where
     pub legal : reactor m a < reactors p
     pub here : starts_on u a ≡ a ∷ starts_on u b
 
--- a place of 0 is none
-unfoldable pub found : ℕ → Option ℕ
-found zero = None
-found (suc a) = Some (suc a)
+-- what a pass answers by the place of a fault; 0 is none
+unfoldable pub judged : ℕ → Judged
+judged zero = Ok tt
+judged (suc a) = Err (suc a)
 
 -- calls of f on a table, which is changed in place, and a deployment leave in the table what `does` says
 abbrev pub Leaves : {F : Type 0} → Shared F (MutBor (List ℕ) × (ℕ × Unit {0})) (Unit {0} × (MutBor (List ℕ) × Unit {0})) → F

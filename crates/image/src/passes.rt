@@ -4,7 +4,7 @@ ghost use Rattle.std.specs.Prelude.{◌<◌, ◌≡◌};
 ghost use Rattle.program.specs.Bytes as B;
 ghost use Rattle.image.specs.Memory as M;
 ghost use Rattle.image.specs.Passes as P;
-ghost use Rattle.image.specs.Clauses.{Positions, Tiling, starts_on, found};
+ghost use Rattle.image.specs.Clauses.{starts_on, judged};
 
 use crate::Pass;
 use crate::table::{TABLE_BYTES, mark_start, put_table_byte, table_byte};
@@ -54,48 +54,32 @@ impl Tiled<'_> {
         }
     }
 
-    // The lowest deployment that is not fit.
-    fn lowest(&self, pass: Pass, table: &[u8]) -> Option<u32>
+    // Whether all deployments are fit; if not, the lowest that is not.
+    fn all_fit(&self, pass: Pass, table: &[u8]) -> Result<(), usize>
         ensures { let p = self.now.program.now in let m = self.now.memory.now in
-            result ≡ found (P.lowest (P.fits p m pass table.now) (starts_on p m self.now.u M.main_at)) }
+            result ≡ judged (P.lowest (P.fits p m pass table.now) (starts_on p m self.now.u M.main_at)) }
     {
         let mut a = MAIN_AT;
         while a < self.u {
             let o = a;
             a = following(self.program, self.memory, self.u, a);
             if !self.fits(pass, table, o) {
-                return Some(o);
+                return Err(o as usize);
             }
         }
-        None
+        Ok(())
     }
 
-    // Goes through a pass: the lowest deployment that it finds unfit. The table stays out of the frames
-    // of a turn.
+    // Goes through a pass: whether it finds all deployments fit; if not, the lowest that is not. The
+    // table stays out of the frame of a turn.
     #[inline(never)]
-    pub(crate) fn lowest_unfit(&self, pass: Pass) -> Option<u32>
+    pub(crate) fn run_pass(&self, pass: Pass) -> Result<(), usize>
         ensures { let p = self.now.program.now in let m = self.now.memory.now in
-            result ≡ found (P.lowest_unfit p m pass (starts_on p m self.now.u M.main_at)) }
+            result ≡ judged (P.lowest_unfit p m pass (starts_on p m self.now.u M.main_at)) }
     {
         let mut table = [0u8; TABLE_BYTES];
         put_table_byte(&mut table, MAIN_AT, 1);
         self.visit_all(pass, &mut table);
-        self.lowest(pass, &table)
+        self.all_fit(pass, &table)
     }
-}
-
-// Goes through a pass: the lowest deployment that it finds unfit; 0 if none.
-pub(crate) fn run_pass(pass: Pass, program: &[u8], places: &[u32], memory: &[u32], u: u32) -> u32
-    requires positions { Positions program.now places.now }
-    requires tiling { Tiling program.now memory.now u M.main_at }
-    ensures { let p = program.now in let m = memory.now in
-        result ≡ P.lowest_unfit p m pass (starts_on p m u M.main_at) }
-{
-    let image = Tiled {
-        program,
-        places,
-        memory,
-        u,
-    };
-    image.lowest_unfit(pass).unwrap_or(0)
 }

@@ -7,8 +7,8 @@ ghost use Rattle.image.specs.Passes as P;
 ghost use Rattle.image.specs.Clauses.{Tiling, starts_on};
 
 use crate::Pass;
-use crate::commands::fill_positions;
-use crate::passes::run_pass;
+use crate::commands::positions;
+use crate::tiled::Tiled;
 use crate::tiling::tiles;
 use crate::words::{MAIN_AT, MOST_TURNS, SLOTS_AT, next, reactor, turns, used, wired};
 use crate::zero::zero_at;
@@ -70,20 +70,16 @@ fn grown(program: &[u8], memory: &[u32], u: u32) -> Result<(), usize>
     ensures { let p = program.now in let m = memory.now in
         result ≡ P.grown_sound p m (starts_on p m u M.main_at) }
 {
-    let mut places = [0u32; 256];
-    fill_positions(program, &mut places);
-    let own = run_pass(Pass::Starts, program, &places, memory, u);
-    if own != 0 {
-        return Err(own as usize);
-    }
-    let named = run_pass(Pass::Names, program, &places, memory, u);
-    if named != 0 {
-        return Err(named as usize);
-    }
-    if run_pass(Pass::Depths, program, &places, memory, u) != 0 {
-        return Err(0);
-    }
-    Ok(())
+    let places = positions(program);
+    let image = Tiled {
+        program,
+        places: &places,
+        memory,
+        u,
+    };
+    image.run_pass(Pass::Starts)?;
+    image.run_pass(Pass::Names)?;
+    image.run_pass(Pass::Depths).or(Err(0))
 }
 
 // Whether an image is sound for a program, and if not, where it is at fault: exactly so for up to 64

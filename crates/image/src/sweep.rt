@@ -13,6 +13,7 @@ ghost use Rattle.image.specs.Clauses.{Tiling, starts_on, made, Placed, Sweeps, S
 ghost use Rattle.image.specs.Clauses.{OwnSwept, Swept, Begun, Headed, Grown};
 ghost use Rattle.image.specs.declared.Pass.TheVariants.{Starts};
 
+use crate::Makes;
 use crate::chain::{joins, linked};
 use crate::commands::makes_at;
 use crate::deployment::zero_around;
@@ -21,7 +22,6 @@ use crate::table::{TABLE_BYTES, mark_start, put_byte, put_table_byte, table_byte
 use crate::tiling::counts_at;
 use crate::words::{MAIN_AT, MOST_TURNS, next, pair, reactor, turns, used, wired};
 use crate::zero::zero_at;
-use crate::Makes;
 use program::{Counts, legal, reactors};
 use value::Value;
 
@@ -30,7 +30,9 @@ const LEAST: u8 = 5;
 
 const MOST: u8 = 68;
 
-// How many words a table of 64 bytes is for.
+// A small table, and how many words it is for.
+const FEW_BYTES: usize = 64;
+
 const FEW_WORDS: u32 = 192;
 
 // Names c, which has to be a deployment above its owner o, below `last` and not named yet; k is o's
@@ -274,14 +276,17 @@ fn headed(program: &[u8], memory: &[u32], u: u32) -> bool
     main_first(program, memory, u) & (next(memory, MAIN_AT) == 0)
 }
 
-// The sweep with a small table.
-fn sweep_few(program: &[u8], facts: &[u64; 64], memory: &[u32], u: u32) -> bool
+// The sweep, with a table of BYTES bytes, which stays out of the frame of a turn.
+#[inline(never)]
+fn sweep<const BYTES: usize>(program: &[u8], facts: &[u64; 64], memory: &[u32], u: u32) -> bool
+    requires some { 0 < BYTES }
+    requires few { BYTES ≤ P.table_bytes }
     requires facts { Facts program.now facts.now }
     requires u_value { u ≡ M.used memory.now }
     requires u_in_bounds { u ≤ length memory.now }
     ensures { result ≡ true → Grown program.now memory.now }
 {
-    let mut table = [0u8; 64];
+    let mut table = [0u8; BYTES];
     if !headed(program, memory, u) {
         return false;
     }
@@ -291,25 +296,7 @@ fn sweep_few(program: &[u8], facts: &[u64; 64], memory: &[u32], u: u32) -> bool
     sweep_all(program, facts, memory, &mut table, u)
 }
 
-// The same with a table for up to 16,384 words.
-fn sweep_many(program: &[u8], facts: &[u64; 64], memory: &[u32], u: u32) -> bool
-    requires facts { Facts program.now facts.now }
-    requires u_value { u ≡ M.used memory.now }
-    requires u_in_bounds { u ≤ length memory.now }
-    ensures { result ≡ true → Grown program.now memory.now }
-{
-    let mut table = [0u8; TABLE_BYTES];
-    if !headed(program, memory, u) {
-        return false;
-    }
-    if !begun(facts, memory, &mut table, u) {
-        return false;
-    }
-    sweep_all(program, facts, memory, &mut table, u)
-}
-
-// Whether a grown image is sound, where a sweep can tell. Nothing is past u in a full memory. The
-// large table is in the frame of `sweep_many` alone, which two calls keep out of the turn's.
+// Whether a grown image is sound, where a sweep can tell.
 fn surely_sound(program: &[u8], facts: &[u64; 64], memory: &[u32]) -> bool
     requires { Facts program.now facts.now }
     ensures { result ≡ true → P.sound_of program.now memory.now ≡ (Ok tt) }
@@ -319,13 +306,13 @@ fn surely_sound(program: &[u8], facts: &[u64; 64], memory: &[u32]) -> bool
     if n < u as usize {
         return false;
     }
+    if !zero_at(memory, u as usize, n - u as usize) {
+        return false;
+    }
     if u <= FEW_WORDS {
-        return zero_at(memory, u as usize, n - u as usize) & sweep_few(program, facts, memory, u);
+        return sweep::<FEW_BYTES>(program, facts, memory, u);
     }
-    if n == u as usize {
-        return sweep_many(program, facts, memory, u);
-    }
-    zero_at(memory, u as usize, n - u as usize) & sweep_many(program, facts, memory, u)
+    sweep::<TABLE_BYTES>(program, facts, memory, u)
 }
 
 // Whether an image is sound for a program, by a table of its facts. Where the sweep does not find it

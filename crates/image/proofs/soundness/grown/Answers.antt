@@ -1,24 +1,15 @@
-use Rattle.image.specs.Passes.{grown_sound}
-use Rattle.value.proofs.Tests.{goes, stops, eq!, eq×}
-use Rattle.std.specs.Prelude.{refl, Err}
-use Rattle.std.proofs.Common.{◌∙◌, ap, arith}
+use Rattle.std.proofs.Common.{◌∙◌}
+use Rattle.image.proofs.Cuts.{own_fault, named_fault, depth_judged}
+use Rattle.image.proofs.Lists.{handed_on}
 use Rattle.image.proofs.soundness.grown.Goals as goal
 
-pub returns-then-own-ne0 : goal.returns-then-own-ne0
-unfolding grown_sound
-returns-then-own-ne0 c = let own = c.run_pass-own.ensures in
-    stops _ (eq× (λ e. c.if-own-ne0.true (own ∙ e))) (ap Err own)
+pub returns-in_err-run_pass : goal.returns-in_err-run_pass
+returns-in_err-run_pass c = handed_on _ c.from_residual.ensures.1 ∙ own_fault _ _ _ _ c.in_err-run_pass.ensures
 
-pub returns-then-named-ne0 : goal.returns-then-named-ne0
-unfolding grown_sound
-returns-then-named-ne0 c = let named = c.run_pass-named.ensures in
-    goes _ _ (eq! (omega arith)) (stops _ (eq× (λ e. c.if-named-ne0.true (named ∙ e))) (ap Err named))
-
-pub returns-then-run_pass-ne0 : goal.returns-then-run_pass-ne0
-unfolding grown_sound
-returns-then-run_pass-ne0 c = goes _ _ (eq! (omega arith))
-    (goes _ _ (eq! (omega arith)) (stops _ (eq× (λ e. c.if-run_pass-ne0.true (c.run_pass.ensures ∙ e))) refl))
+pub returns-in_err-run_pass-2 : goal.returns-in_err-run_pass-2
+returns-in_err-run_pass-2 c = handed_on _ c.from_residual-in_err-run_pass-2.ensures.1
+    ∙ named_fault _ _ _ c.in_ok-run_pass.ensures _ c.in_err-run_pass-2.ensures
 
 pub returns : goal.returns
-unfolding grown_sound
-returns c = goes _ _ (eq! (omega arith)) (goes _ _ (eq! (omega arith)) (goes _ _ (eq! (omega arith)) refl))
+returns c = c.or.ensures
+    ∙ depth_judged _ _ _ c.in_ok-run_pass.ensures c.in_ok-run_pass-2.ensures _ c.run_pass-3.ensures

@@ -1,7 +1,7 @@
 use Rattle.std.specs.Prelude.{◌-◌, ◌≤◌, ◌≡◌}
 use Rattle.image.specs.Passes.{fits, lowest}
 use Rattle.image.specs.Clauses.{Tiling, starts_on}
-use Rattle.image.proofs.tiled.Tiled.lowest.Given as goal
+use Rattle.image.proofs.tiled.Tiled.all_fit.Given as goal
 
 abbrev pub invariant-loop-a : goal.invariant-loop-a
 invariant-loop-a l =

@@ -1,9 +1,9 @@
 use Rattle.std.proofs.Common.{not, ap, ◌∙◌, arith}
 use Rattle.std.specs.Prelude.{refl}
-use Rattle.image.proofs.Lists.{found_at, found_none, lowest_done, lowest_found, lowest_next}
+use Rattle.image.proofs.Lists.{judged_fault, judged_none, lowest_done, lowest_found, lowest_next}
 use Rattle.image.proofs.Tiles.{starts_done}
 use Rattle.value.proofs.Tests.{passed, refused}
-use Rattle.image.proofs.tiled.Tiled.lowest.Goals as goal
+use Rattle.image.proofs.tiled.Tiled.all_fit.Goals as goal
 
 pub loop-a-init : goal.loop-a-init
 loop-a-init c = (c.args.self.now.tiling, omega arith, refl)
@@ -16,7 +16,7 @@ fits-requires c = let f = c.following-a.ensures in f.legal
 
 pub returns-then-not-fits : goal.returns-then-not-fits
 returns-then-not-fits c = let f = c.following-a.ensures in
-    found_at _ _ (omega arith)
+    judged_fault _ _ (omega arith)
     (lowest_found _ _ _ _ f.here (refused c.fits.ensures (ap not c.if-not-fits.true)) ∙ c.loop-a.invariant.2)
 
 pub loop-a-smaller : goal.loop-a-smaller
@@ -31,5 +31,5 @@ loop-a-preserved c = let f = c.following-a.ensures in (
 
 pub returns : goal.returns
 returns c = let t = c.args.self.now in
-    found_none _
+    judged_none _
     (lowest_done _ _ (starts_done t.program.now t.memory.now t.u c.loop-a.a c.loop-a-test.false) ∙ c.loop-a.invariant.2)
