@@ -1,6 +1,6 @@
 -- A chain of deployments, one step further.
 -- Assumes nothing.
-use Rattle.std.specs.Prelude.{ℕ, zero, suc, ◌-◌, ◌≤◌, ◌<◌, ◌≡◌, refl, not, List}
+use Rattle.std.specs.Prelude.{ℕ, zero, suc, ◌≤◌, ◌<◌, ◌≡◌, refl, not, List}
 use Rattle.std.proofs.Common.{ap, arith}
 use Rattle.value.proofs.Tests.{lt!, lt×, le!, le×, eq!, eq×, goes, stops}
 use Rattle.image.specs.Memory.{reactor, next}
@@ -23,12 +23,9 @@ module _ (m : List ℕ) (q c : ℕ) where
   find_hit zero l h e = absurd (omega arith)
   find_hit (suc n) l h e = goes _ _ (lt! (omega arith)) (stops _ (ap not (eq! e)) refl)
 
-  pub find-next : (n : ℕ) → 0 < n → 1 ≤ c → (reactor m c ≡ q → ⊥) → find (n - 1) m q (next m c) ≡ find n m q c
+  pub find-next : (n k : ℕ) → n ≡ suc k → 1 ≤ c → (reactor m c ≡ q → ⊥) → find k m q (next m c) ≡ find n m q c
   unfolding find
-  find-next zero l h d = absurd (omega arith)
-  find-next (suc n) l h d =
-      let k : suc n - 1 ≡ n = omega arith in
-      goes _ _ (lt! (omega arith)) (goes _ _ (ap not (eq× d)) (rw k))
+  find-next n k e h d = rw e (goes _ _ (lt! (omega arith)) (goes _ _ (ap not (eq× d)) refl))
 
 module _ (m : List ℕ) (u c : ℕ) where
   pub below_out : (n : ℕ) → n ≤ 0 → 0 ≡ below n m u c
@@ -41,7 +38,6 @@ module _ (m : List ℕ) (u c : ℕ) where
   below_here zero l h = absurd (omega arith)
   below_here (suc n) l h = stops _ (le× h) refl
 
-  pub below_next : (n : ℕ) → 0 < n → u ≤ c → below (n - 1) m u (next m c) ≡ below n m u c
+  pub below_next : (n k : ℕ) → n ≡ suc k → u ≤ c → below k m u (next m c) ≡ below n m u c
   unfolding below
-  below_next zero l h = absurd (omega arith)
-  below_next (suc n) l h = let k : suc n - 1 ≡ n = omega arith in goes _ _ (le! h) (rw k)
+  below_next n k e h = rw e (goes _ _ (le! h) refl)

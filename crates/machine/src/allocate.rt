@@ -1,7 +1,7 @@
 // The commands that allocate: AllocMono and AllocPoly. A new deployment stands one deeper than its
 // owner: past the limit of depths the turn ends with 15, and else, where it does not fit the words that
 // are left, with 14.
-ghost use Rattle.std.specs.Prelude.{ℕ, ◌+◌, ◌≤◌, ◌<◌, ◌≡◌, true, false, List, length};
+ghost use Rattle.std.specs.Prelude.{ℕ, ◌+◌, ◌≤◌, ◌<◌, ◌≡◌, true, false, List, length, MatchOption};
 ghost use Rattle.value.specs.Test.{◌≤?◌};
 ghost use Rattle.value.specs.Value as W;
 ghost use Rattle.program.specs.Bytes as B;
@@ -75,23 +75,22 @@ pub(crate) fn alloc_mono(
     Ok(())
 }
 
-// The deployment of reactor q on the chain from `head`; 0 if there is none.
-fn find(program: &[u8], memory: &[u32], q: u32, head: u32) -> u32
-    ensures { result ≡ X.find (B.reactors program.now) memory.now q head }
+// The deployment of reactor q on the chain from `head`, if there is one.
+fn find(program: &[u8], memory: &[u32], q: u32, head: u32) -> Option<u32>
+    ensures { let found = X.find (B.reactors program.now) memory.now q head in
+        MatchOption result (found ≡ 0) (λ d. (0 < d) × (found ≡ d)) }
 {
     let mut c = head;
-    let mut left = reactors(program);
-    while 0 < left {
-        if c < 1 {
-            return 0;
+    for _i in 0..reactors(program) {
+        if c == 0 {
+            return None;
         }
         if reactor(memory, c) == q {
-            return c;
+            return Some(c);
         }
         c = next(memory, c);
-        left = left - 1;
     }
-    0
+    None
 }
 
 // The new deployment at u is the newest of the branch point at b, and the command's.
@@ -165,18 +164,17 @@ fn choose(
         → did result memory.new ≡ acted m (C.alloc_poly j k) (X.operated p rd h m o i false q k)) }
 {
     let newest = word(memory, b + 1);
-    let d = find(program, memory, q, newest);
-    if d < 1 {
-        return make(facts, memory, h, here, q, b);
+    match find(program, memory, q, newest) {
+        None => make(facts, memory, h, here, q, b),
+        Some(d) => give(
+            memory,
+            here,
+            Value {
+                mark: Value::DEPLOYMENT,
+                content: d,
+            },
+        ),
     }
-    give(
-        memory,
-        here,
-        Value {
-            mark: Value::DEPLOYMENT,
-            content: d,
-        },
-    )
 }
 
 // 9 AllocPoly: the deployment of the operator's reactor, at a, on the branch point at b; blank for a

@@ -18,13 +18,11 @@ fn first_below(program: &[u8], memory: &[u32], u: u32, head: u32) -> u32
     ensures { result ≡ U.below (B.reactors program.now + 1) memory.now u head }
 {
     let mut c = head;
-    let mut left = reactors(program) as u16 + 1;
-    while 0 < left {
+    for _i in 0..reactors(program) as u16 + 1 {
         if c < u {
             return c;
         }
         c = next(memory, c);
-        left = left - 1;
     }
     0
 }
@@ -69,12 +67,8 @@ fn slots_back(program: &[u8], facts: &[u64; 64], memory: &mut [u32], u: u32, o: 
     let counts = fact(facts, reactor(memory, o));
     let at = counts.at() as usize;
     let first = o as usize + counts.slots_d() as usize;
-    let n = counts.commands_d();
-    let mut j: u8 = 0;
-    while j < n {
-        let k = j as usize;
-        j += 1;
-        slot_back(program, memory, u, byte(program, at + 8 * k), first + 2 * k);
+    for j in 0..counts.commands_d() as usize {
+        slot_back(program, memory, u, byte(program, at + 8 * j), first + 2 * j);
     }
 }
 

@@ -62,12 +62,9 @@ pub(crate) fn write_sinks(program: &[u8], facts: &[u64; 64], memory: &[u32], spa
     ensures { space.new ≡ E.sunk program.now memory.now space.old }
 {
     let n = fact(facts, main_of(program) as u32).sink_count();
-    let mut x: u8 = 0;
-    while x < n {
-        let k = x;
-        x += 1;
-        let i = sink_index(facts, memory, MAIN_AT, k);
+    for x in 0..n {
+        let i = sink_index(facts, memory, MAIN_AT, x);
         let v = pair(memory, i);
-        put_pair(space, 2 * (k as usize), v);
+        put_pair(space, 2 * (x as usize), v);
     }
 }

@@ -18,14 +18,11 @@ fn has_cell(program: &[u8], counts: Counts) -> bool
     ensures { let p = program.now in
         ((r : ℕ) → Tells p r counts.word → result ≡ has_cell p r) }
 {
-    let n = counts.commands_d();
     let at = counts.at() as usize;
-    let mut j: u8 = 0;
-    while j < n {
-        if byte(program, at + 8 * (j as usize)) == Command::CELL {
+    for j in 0..counts.commands_d() as usize {
+        if byte(program, at + 8 * j) == Command::CELL {
             return true;
         }
-        j = j + 1;
     }
     false
 }
@@ -35,13 +32,10 @@ pub(crate) fn has_cells(program: &[u8], facts: &[u64; 64]) -> bool
     requires { Loaded program.now facts.now }
     ensures { result ≡ has_cells program.now }
 {
-    let n = reactors(program);
-    let mut r: u8 = 0;
-    while r < n {
-        if has_cell(program, fact(facts, r as u32)) {
+    for r in 0..reactors(program) as u32 {
+        if has_cell(program, fact(facts, r)) {
             return true;
         }
-        r = r + 1;
     }
     false
 }
@@ -71,17 +65,13 @@ fn keep_each(program: &[u8], memory: &mut [u32], counts: Counts, o: u32)
     ensures { memory.new ≡ Cells.keep_one program.now memory.old o }
 {
     let at = counts.at() as usize + 8 * (counts.commands_d() as usize);
-    let n = counts.commands_r();
-    let mut i = o as usize + counts.slots_r() as usize;
-    let mut j: u8 = 0;
-    while j < n {
-        let c = bytes_within(program, at + 8 * (j as usize));
-        let here = i;
-        j += 1;
-        i += 2 * (result_of(c.code) as usize);
+    let mut here = o as usize + counts.slots_r() as usize;
+    for j in 0..counts.commands_r() as usize {
+        let c = bytes_within(program, at + 8 * j);
         if c.code == Command::KEEP {
             fill(memory, here, o as usize + SLOTS_AT + 2 * (c.b as usize));
         }
+        here += 2 * (result_of(c.code) as usize);
     }
 }
 

@@ -52,11 +52,8 @@ fn lay_first(slots: &mut [u8; 256], n: u8)
     ensures fact { let t = slots.new in
         ((p : List ℕ) (r : ℕ) → n ≤ L.source_count p r + B.commands_d p r → PlacedTo p r t n) }
 {
-    let mut l: u8 = 0;
-    while l < n {
-        let k = l;
-        l += 1;
-        note(slots, k, k);
+    for l in 0..n {
+        note(slots, l, l);
     }
 }
 
@@ -72,12 +69,9 @@ fn lay_rest(program: &[u8], slots: &mut [u8; 256], at: usize, first: u8, n: u8)
         → PlacedTo p r slots.old first → PlacedTo p r slots.new (first + n)) }
 {
     let mut m = first;
-    let mut j: u8 = 0;
-    while j < n {
-        let k = j;
-        j += 1;
-        note(slots, first + k, m);
-        m += result_of(program[at + 8 * (k as usize)]);
+    for j in 0..n {
+        note(slots, first + j, m);
+        m += result_of(program[at + 8 * (j as usize)]);
     }
 }
 

@@ -1,25 +1,16 @@
 use Rattle.machine.proofs.Acting.{content_at}
 use Rattle.machine.proofs.Allocating.{found}
 use Rattle.remus.specs.Exec.{operated}
-use Rattle.std.specs.Prelude.{◌≡◌}
-use Rattle.std.proofs.Common.{arith}
+use Rattle.std.proofs.Common.{sym}
 use Rattle.machine.proofs.allocate.choose.Goals as goal
 
-pub returns-then-d-lt1 : goal.returns-then-d-lt1
+pub returns-in-None : goal.returns-in-None
 unfolding operated
-returns-then-d-lt1 c = let at_make = c.make in
-    let at_find = c.find-d in
-    let at_word = c.word-newest in
-    let z : at_find.result ≡ 0 = omega arith in
-    λ rd o i j k f l s b at.
-    rw (← content_at _ _ o k _ b at_word.ensures, ← at_find.ensures, z)
-    (at_make.ensures _ rd o i j k f l s b at)
+returns-in-None c = λ rd o i j k f l s b at.
+    rw (← content_at _ _ o k _ b c.word-newest.ensures, c.in-None.ensures) (c.make.ensures _ rd o i j k f l s b at)
 
-pub returns : goal.returns
+pub returns-in-Some : goal.returns-in-Some
 unfolding operated
-returns c = let at_give = c.give in
-    let at_find = c.find-d in
-    let at_word = c.word-newest in
-    λ rd o i j k f l s b at.
-    rw (← content_at _ _ o k _ b at_word.ensures, ← at_find.ensures)
-    (found _ rd _ _ o i _ _ j k (omega arith) (at_give.ensures _ o _ at))
+returns-in-Some c = λ rd o i j k f l s b at.
+    rw (← content_at _ _ o k _ b c.word-newest.ensures, c.in-Some.ensures.1)
+    (found _ rd _ _ o i _ _ j k c.in-Some.ensures.0 (c.give.ensures _ o _ at))

@@ -1,10 +1,7 @@
-use Rattle.std.specs.Prelude.{◌+◌, ◌≡◌}
+use Rattle.std.specs.Prelude.{◌+◌, ◌-◌, ◌≡◌}
 use Rattle.program.specs.Bytes.{reactors}
 use Rattle.remus.specs.Undo.{below}
 use Rattle.machine.proofs.back.first_below.Given as goal
 
-abbrev pub invariant-loop-left : goal.invariant-loop-left
-invariant-loop-left l = below l.left l.memory l.u l.c ≡ below (reactors l.program + 1) l.memory l.u l.head
-
-abbrev pub decreases-loop-left : goal.decreases-loop-left
-decreases-loop-left l = l.left
+abbrev pub invariant-loop-i : goal.invariant-loop-i
+invariant-loop-i l = below (l._i-end - l._i) l.memory l.u l.c ≡ below (reactors l.program + 1) l.memory l.u l.head

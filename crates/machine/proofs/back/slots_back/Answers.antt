@@ -12,7 +12,7 @@ pub loop-j-init : goal.loop-j-init
 loop-j-init c = let pre = c.requires in
     let at_reactor = c.reactor in
     let at_fact = c.fact-counts in
-    let at_declared = c.commands_d-n in
+    let at_declared = c.commands_d-j-end in
     let args = c.args in
     let known = told pre.loaded at_reactor.ensures pre.o_bound at_fact.ensures.known in
     let e : at_declared.result - 0 ≡ commands_d args.program.now (reactor args.memory.now args.o) = omega
@@ -24,7 +24,7 @@ unfolding cmd_of
 loop-j-preserved c = let pre = c.requires in
     let at_reactor = c.reactor in
     let at_fact = c.fact-counts in
-    let at_declared = c.commands_d-n in
+    let at_declared = c.commands_d-j-end in
     let at_loop = c.loop-j in
     let args = c.args in
     let at_slots_d = c.slots_d in

@@ -7,7 +7,4 @@ use Rattle.machine.proofs.back.slots_back.Given as goal
 abbrev pub invariant-loop-j : goal.invariant-loop-j
 invariant-loop-j l =
     (length l.memory ≡ length l.initial.memory) × (reactor l.memory l.o ≡ reactor l.initial.memory l.o)
-    × (slots_back l.program l.u (l.n - l.j) l.j l.memory l.o ≡ slots_back l.program l.u (commands_d l.program (reactor l.initial.memory l.o)) 0 l.initial.memory l.o)
-
-abbrev pub decreases-loop-j : goal.decreases-loop-j
-decreases-loop-j l = l.n - l.j
+    × (slots_back l.program l.u (l.j-end - l.j) l.j l.memory l.o ≡ slots_back l.program l.u (commands_d l.program (reactor l.initial.memory l.o)) 0 l.initial.memory l.o)

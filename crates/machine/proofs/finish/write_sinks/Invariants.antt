@@ -7,6 +7,3 @@ abbrev pub invariant-loop-x : goal.invariant-loop-x
 invariant-loop-x l =
     (length l.space ≡ length l.initial.space)
     × (patch l.space (2 * l.x) (pairs_from l.program (l.n - l.x) l.x l.memory) ≡ sunk l.program l.memory l.initial.space)
-
-abbrev pub decreases-loop-x : goal.decreases-loop-x
-decreases-loop-x l = l.n - l.x

@@ -16,7 +16,7 @@ returns-then-byte-eq-CELL c = let at_at = c.at-at in
     let at_if1 = c.if-byte-eq-CELL in
     let at_loop_test = c.loop-j-test in
     let at_loop = c.loop-j in
-    let at_declared = c.commands_d-n in
+    let at_declared = c.commands_d-j-end in
     λ r known.
     let at = at_at.ensures.is _ r known in
     let here = cell_here _ r _ _ _ at at_byte.ensures at_if1.true in
@@ -37,7 +37,7 @@ unfolding has_cell
 returns c = let at_loop_test = c.loop-j-test in
     let at_loop = c.loop-j in
     let at_at = c.at-at in
-    let at_declared = c.commands_d-n in
+    let at_declared = c.commands_d-j-end in
     λ r known.
     let swept = sweep_done _ _ _ at_loop_test.false ∙ at_loop.invariant r (at_at.ensures.is _ r known) in
     rw (← at_declared.ensures _ r known, ← swept) (sym (lt× at_loop_test.false))

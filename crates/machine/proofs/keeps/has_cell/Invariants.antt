@@ -6,7 +6,4 @@ use Rattle.machine.proofs.keeps.has_cell.Given as goal
 
 abbrev pub invariant-loop-j : goal.invariant-loop-j
 invariant-loop-j l =
-    (r : ℕ) → l.at ≡ commands_at l.program r → sweep (no_cell l.program r) l.j (l.n - l.j) ≡ sweep (no_cell l.program r) 0 l.n
-
-abbrev pub decreases-loop-j : goal.decreases-loop-j
-decreases-loop-j l = l.n - l.j
+    (r : ℕ) → l.at ≡ commands_at l.program r → sweep (no_cell l.program r) l.j (l.j-end - l.j) ≡ sweep (no_cell l.program r) 0 l.j-end

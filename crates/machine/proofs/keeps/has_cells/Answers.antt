@@ -13,7 +13,7 @@ loop-r-init c = ap (sweep _ 0) (omega arith)
 pub returns-then-has_cell : goal.returns-then-has_cell
 unfolding has_cells
 returns-then-has_cell c = let pre = c.requires in
-    let at_reactors = c.reactors-n in
+    let at_reactors = c.reactors-r-end in
     let at_fact = c.fact in
     let at_has_cell = c.has_cell in
     let at_if1 = c.if-has_cell in
@@ -26,7 +26,7 @@ returns-then-has_cell c = let pre = c.requires in
 
 pub loop-r-preserved : goal.loop-r-preserved
 loop-r-preserved c = let pre = c.requires in
-    let at_reactors = c.reactors-n in
+    let at_reactors = c.reactors-r-end in
     let at_fact = c.fact in
     let at_has_cell = c.has_cell in
     let at_if1 = c.if-has_cell in
@@ -40,6 +40,6 @@ pub returns : goal.returns
 unfolding has_cells
 returns c = let at_loop_test = c.loop-r-test in
     let at_loop = c.loop-r in
-    let at_reactors = c.reactors-n in
+    let at_reactors = c.reactors-r-end in
     let swept = sweep_done _ _ _ at_loop_test.false ∙ at_loop.invariant in
     rw (← at_reactors.ensures, ← swept) (sym (lt× at_loop_test.false))

@@ -5,7 +5,4 @@ use Rattle.machine.proofs.keeps.has_cells.Given as goal
 
 abbrev pub invariant-loop-r : goal.invariant-loop-r
 invariant-loop-r l =
-    sweep (λ (k : ℕ). not (has_cell l.program k)) l.r (l.n - l.r) ≡ sweep (λ (k : ℕ). not (has_cell l.program k)) 0 l.n
-
-abbrev pub decreases-loop-r : goal.decreases-loop-r
-decreases-loop-r l = l.n - l.r
+    sweep (λ (k : ℕ). not (has_cell l.program k)) l.r (l.r-end - l.r) ≡ sweep (λ (k : ℕ). not (has_cell l.program k)) 0 l.r-end

@@ -5,7 +5,4 @@ use Rattle.machine.proofs.places.lay_first.Given as goal
 
 abbrev pub invariant-loop-l : goal.invariant-loop-l
 invariant-loop-l l =
-    (l.l ≤ l.n) × (length l.slots ≡ 256) × ((p : List ℕ) (r : ℕ) → l.n ≤ first_r p r → PlacedTo p r l.slots l.l)
-
-abbrev pub decreases-loop-l : goal.decreases-loop-l
-decreases-loop-l l = l.n - l.l
+    (length l.slots ≡ 256) × ((p : List ℕ) (r : ℕ) → l.n ≤ first_r p r → PlacedTo p r l.slots l.l)

@@ -7,28 +7,27 @@ use Rattle.machine.proofs.places.lay_rest.Goals as goal
 
 pub loop-j-init : goal.loop-j-init
 unfolding results
-loop-j-init c = (omega arith, omega arith, c.requires.slots_len, λ r e f h. (omega arith, λ g l q. g l (omega arith)))
+loop-j-init c = (omega arith, c.requires.slots_len, λ r e f h. (omega arith, λ g l q. g l (omega arith)))
 
 pub loop-j-preserved : goal.loop-j-preserved
 unfolding byte
 loop-j-preserved c = let at_note = c.note in
     let loop = c.loop-j in
     let one = c.result_of-m.ensures in (
-      omega arith,
-      omega (arith, loop.invariant.1, one.one),
-      long_next loop.slots _ _ _ _ loop.invariant.2 at_note.ensures,
+      omega (arith, loop.invariant.0, one.one),
+      long_next loop.slots _ _ _ _ loop.invariant.1 at_note.ensures,
       λ r e f h.
-          let so = loop.invariant.3 r e f h in (
+          let so = loop.invariant.2 r e f h in (
             results_next _ r _ _ _ _ _ e refl one.is so.0,
             λ g l q.
-                placed_next _ loop.slots _ r _ _ (omega (arith, loop.invariant.2)) at_note.ensures (so.1 g)
+                placed_next _ loop.slots _ r _ _ (omega (arith, loop.invariant.1)) at_note.ensures (so.1 g)
                 (place_r_lem _ r _ _ _ f (omega arith) so.0) l (omega arith),
           ),
     )
 
 pub returns : goal.returns
 returns c = let loop = c.loop-j in
-    record { slots_len_2 = loop.invariant.2; fact = λ r e f h g l q. (loop.invariant.3 r e f h).1 g l (omega arith) }
+    record { slots_len_2 = loop.invariant.1; fact = λ r e f h g l q. (loop.invariant.2 r e f h).1 g l (omega arith) }
 
 pub overflow_add-m : goal.overflow_add-m
 overflow_add-m c = omega (arith, c.result_of-m.ensures.one)

@@ -7,10 +7,7 @@ use Rattle.machine.proofs.places.lay_rest.Given as goal
 
 abbrev pub invariant-loop-j : goal.invariant-loop-j
 invariant-loop-j l =
-    (l.j ≤ l.n) × (l.m ≤ l.first + l.j) × (length l.slots ≡ 256)
+    (l.m ≤ l.first + l.j) × (length l.slots ≡ 256)
     × ((r : ℕ) → l.at ≡ command_at l.program r (commands_d l.program r) → l.first ≡ first_r l.program r → l.n ≤ commands_r l.program r
     → (l.m ≡ first_r l.program r + results l.program r l.j)
     × (PlacedTo l.program r l.initial.slots l.first → PlacedTo l.program r l.slots (l.first + l.j)))
-
-abbrev pub decreases-loop-j : goal.decreases-loop-j
-decreases-loop-j l = l.n - l.j
