@@ -21,8 +21,8 @@ use Rattle.image.proofs.Tiles.{starts_done, follows}
 use Rattle.remus.specs.Cells.{keep_by, keep_from, keep_one}
 use Rattle.remus.specs.Clear.{pairs_from}
 use Rattle.remus.specs.Undo.{slot_back, slots_back}
-use Rattle.machine.specs.Clauses.{Remembering}
-use Rattle.machine.proofs.Clears.{Local, local_by, local_slot}
+use Rattle.machine.specs.Clauses.{Local, Remembering}
+use Rattle.machine.proofs.Clears.{local_by, local_slot}
 use Rattle.machine.proofs.Stretch.{patch_cons, patch_none}
 
 -- ---- the deployments

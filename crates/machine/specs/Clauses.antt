@@ -5,18 +5,15 @@ use Rattle.program.specs.Command.{Cmd, takes_words, Made, deployment, point, hel
 use Rattle.program.specs.Command.{alloc_mono, make_poly, constant, global, supply, react, gives, consume, sink, alloc_poly}
 use Rattle.program.specs.Command.{primitive, fetch, none}
 use Rattle.program.specs.Location.{head_words, command_loc, source_count, slot_at}
-use Rattle.image.specs.Memory.{most_words, main_at, used, turns, reactor, slot, with_wired, most_depth}
+use Rattle.image.specs.Memory.{most_words, main_at, word, used, turns, reactor, size_at, slot, with_wired, most_depth}
 use Rattle.remus.specs.Exec.{Eff, move, call, fail, exec}
 use Rattle.remus.specs.Run.{Ran, ran, stopped, entered, commands, step_of, run_of, main_run}
-use Rattle.remus.specs.Cells.{keep_one, keep_of}
-use Rattle.remus.specs.Clear.{clear_one}
-use Rattle.remus.specs.Undo.{one_back, undo_of}
+use Rattle.remus.specs.Cells.{keep_of}
+use Rattle.remus.specs.Undo.{undo_of}
 use Rattle.answer.specs.Answer.{Ruling}
 use Rattle.std.specs.Prelude.{Ok, Err}
 use Rattle.machine.specs.declared.Outcome.{Outcome}
 use Rattle.machine.specs.declared.Outcome.TheVariants.{Given, Move, Call, Fail}
-use Rattle.machine.specs.declared.Each.{Each}
-use Rattle.machine.specs.declared.Each.TheVariants.{Keep, Clear, Back}
 use Rattle.program.specs.Bytes.{reactors, commands_d, commands_in, main_of, commands_r, commands_at}
 use Rattle.program.specs.Clauses.{Facts}
 use Rattle.remus.specs.Steady.{Through, Orderly, Steady}
@@ -77,11 +74,11 @@ pub record Workable (m : List ℕ) : Type 0 where
   pub past : main_at ≤ used m
   pub clock : TimeFits m
 
--- what a pass over the deployments below u does to each
-unfoldable pub each_of : Each → List ℕ → ℕ → List ℕ → ℕ → List ℕ
-each_of Keep p u = keep_one p
-each_of Clear p u = clear_one p
-each_of Back p u = one_back p u
+-- m' has as many words as m, the same deployment at a, and the same words from its end on
+pub record Local (p m : List ℕ) (a : ℕ) (m' : List ℕ) : Type 0 where
+  pub long : length m' ≡ length m
+  pub same : reactor m' a ≡ reactor m a
+  pub rest : (i : ℕ) → a + size_at p m a ≤ i → word m' i ≡ word m i
 
 -- ---- cells
 

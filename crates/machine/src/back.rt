@@ -8,7 +8,8 @@ ghost use Rattle.image.specs.Memory as M;
 ghost use Rattle.remus.specs.Undo as U;
 ghost use Rattle.machine.specs.Clauses.{Loaded};
 
-use crate::clear::clear_one;
+use crate::clear::Clear;
+use crate::passes::Change;
 use image::{next, put_pair, reactor, word};
 use program::{Command, byte, fact, reactors};
 use value::Value;
@@ -72,13 +73,19 @@ fn slots_back(program: &[u8], facts: &[u64; 64], memory: &mut [u32], u: u32, o: 
     }
 }
 
-// A deployment that is older than the turn.
-pub(crate) fn one_back(program: &[u8], facts: &[u64; 64], memory: &mut [u32], u: u32, o: u32)
-    requires loaded { Loaded program.now facts.now }
-    requires o_bound { M.reactor memory.old o < B.reactors program.now }
-    requires o_in_bounds { o + M.size_at program.now memory.old o ≤ length memory.old }
-    ensures { memory.new ≡ U.one_back program.now u memory.old o }
-{
-    slots_back(program, facts, memory, u, o);
-    clear_one(program, facts, memory, o)
+// Brings back a deployment that is older than the turn.
+#[derive(Clone, Copy)]
+pub(crate) struct Back {
+    pub u: u32,
+}
+
+impl Change for Back {
+    ghost suits = { λ self p. Unit {0} };
+
+    ghost makes = { λ self p m o. U.one_back p self.u m o };
+
+    fn change(&self, program: &[u8], facts: &[u64; 64], memory: &mut [u32], o: u32) {
+        slots_back(program, facts, memory, self.u, o);
+        Clear.change(program, facts, memory, o)
+    }
 }

@@ -9,9 +9,9 @@ ghost use Rattle.remus.specs.Cells as Cells;
 ghost use Rattle.remus.specs.Clear as E;
 ghost use Rattle.machine.specs.Clauses.{Ending, Loaded, TimeFits};
 
-use crate::Each;
+use crate::clear::Clear;
 use crate::command::sink_index;
-use crate::keeps::has_cells;
+use crate::keeps::{Keep, has_cells};
 use crate::passes::pass_over;
 use image::{MAIN_AT, pair, put_pair, set_turns, turns, used};
 use program::{fact, main_of};
@@ -25,7 +25,7 @@ fn fill_cells(program: &[u8], facts: &[u64; 64], memory: &mut [u32])
 {
     let u = used(memory);
     if has_cells(program, facts) {
-        pass_over(program, facts, memory, Each::Keep, u);
+        pass_over(&Keep, program, facts, memory, u);
     }
 }
 
@@ -38,7 +38,7 @@ fn close(program: &[u8], facts: &[u64; 64], memory: &mut [u32])
 {
     let u = used(memory);
     let t = turns(memory);
-    pass_over(program, facts, memory, Each::Clear, u);
+    pass_over(&Clear, program, facts, memory, u);
     set_turns(memory, t + 1)
 }
 

@@ -9,6 +9,7 @@ ghost use Rattle.remus.specs.Cells as Cells;
 ghost use Rattle.machine.specs.Clauses.{has_cell, has_cells, Remembering, Loaded};
 
 use crate::cells::kept;
+use crate::passes::Change;
 use image::{SLOTS_AT, pair, put_pair, reactor};
 use program::{Command, Counts, byte, bytes_within, fact, reactors, result_of};
 use value::Value;
@@ -75,15 +76,19 @@ fn keep_each(program: &[u8], memory: &mut [u32], counts: Counts, o: u32)
     }
 }
 
-// The cells of the deployment at o.
-pub(crate) fn keep_one(program: &[u8], facts: &[u64; 64], memory: &mut [u32], o: u32)
-    requires loaded { Loaded program.now facts.now }
-    requires remembering { Remembering program.now }
-    requires o_bound { M.reactor memory.old o < B.reactors program.now }
-    ensures { memory.new ≡ Cells.keep_one program.now memory.old o }
-{
-    let counts = fact(facts, reactor(memory, o));
-    if has_cell(program, counts) {
-        keep_each(program, memory, counts, o);
+// Fills the cells of a deployment.
+#[derive(Clone, Copy)]
+pub(crate) struct Keep;
+
+impl Change for Keep {
+    ghost suits = { λ self p. Remembering p };
+
+    ghost makes = { λ self p m o. Cells.keep_one p m o };
+
+    fn change(&self, program: &[u8], facts: &[u64; 64], memory: &mut [u32], o: u32) {
+        let counts = fact(facts, reactor(memory, o));
+        if has_cell(program, counts) {
+            keep_each(program, memory, counts, o);
+        }
     }
 }

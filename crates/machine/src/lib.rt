@@ -38,12 +38,3 @@ pub enum Outcome {
     Call(u32),
     Fail(Refusal),
 }
-
-// What a pass does to each deployment: fills its cells with what was kept, clears it, or brings it back
-// as it was before the turn.
-#[derive(Clone, Copy)]
-pub enum Each {
-    Keep,
-    Clear,
-    Back,
-}

@@ -1,46 +1,49 @@
 // A pass over the deployments below u, each changed in its own words.
-ghost use Rattle.std.specs.Prelude.{◌+◌, ◌≤◌, ◌<◌, ◌≡◌, length};
+ghost use Rattle.std.specs.Prelude.{ℕ, ◌+◌, ◌≤◌, ◌<◌, ◌≡◌, List, length};
 ghost use Rattle.program.specs.Bytes as B;
 ghost use Rattle.image.specs.Memory as M;
 ghost use Rattle.image.specs.Passes as P;
 ghost use Rattle.image.specs.Clauses.{Tiling};
-ghost use Rattle.machine.specs.Clauses.{each_of, Remembering, Loaded};
-ghost use Rattle.machine.specs.declared.Each.TheVariants.{Keep};
+ghost use Rattle.machine.specs.Clauses.{Loaded, Local};
 
-use crate::Each;
-use crate::back::one_back;
-use crate::clear::clear_one;
-use crate::keeps::keep_one;
 use image::{MAIN_AT, reactor};
 use program::fact;
 
-// The deployment at o.
-fn pass_one(program: &[u8], facts: &[u64; 64], memory: &mut [u32], s: Each, u: u32, o: u32)
-    requires loaded { Loaded program.now facts.now }
-    requires o_in_bounds { o + M.size_at program.now memory.old o ≤ length memory.old }
-    requires o_bound { M.reactor memory.old o < B.reactors program.now }
-    requires remembering { s ≡ Keep → Remembering program.now }
-    ensures { memory.new ≡ each_of s program.now u memory.old o }
-{
-    match s {
-        Each::Keep => keep_one(program, facts, memory, o),
-        Each::Clear => clear_one(program, facts, memory, o),
-        Each::Back => one_back(program, facts, memory, u, o),
-    }
+// What a pass does to each deployment.
+pub(crate) trait Change {
+    // of which programs it may be asked
+    ghost suits: { Self → List ℕ → Type 0 };
+
+    // what it makes of a program's words, at a deployment
+    ghost makes: { Self → List ℕ → List ℕ → ℕ → List ℕ };
+
+    fn change(&self, program: &[u8], facts: &[u64; 64], memory: &mut [u32], o: u32)
+        requires loaded { Loaded program.now facts.now }
+        requires suited { suits self.now program.now }
+        requires o_bound { M.reactor memory.old o < B.reactors program.now }
+        requires o_in_bounds { o + M.size_at program.now memory.old o ≤ length memory.old }
+        ensures is { memory.new ≡ makes self.now program.now memory.old o }
+        ensures local { Local program.now memory.old o memory.new };
 }
 
-// All of them.
-pub(crate) fn pass_over(program: &[u8], facts: &[u64; 64], memory: &mut [u32], s: Each, u: u32)
+// The change of all of them.
+pub(crate) fn pass_over<C: Change>(
+    change: &C,
+    program: &[u8],
+    facts: &[u64; 64],
+    memory: &mut [u32],
+    u: u32,
+)
     requires loaded { Loaded program.now facts.now }
     requires tiling { Tiling program.now memory.old u M.main_at }
-    requires remembering { s ≡ Keep → Remembering program.now }
+    requires suited { C.suits change.now program.now }
     ensures { let p = program.now in let m = memory.old in
-        memory.new ≡ P.over (each_of s p u) m (M.starts_below p m u) }
+        memory.new ≡ P.over (C.makes change.now p) m (M.starts_below p m u) }
 {
     let mut a = MAIN_AT;
     while a < u {
         let o = a;
         a = o + fact(facts, reactor(memory, o)).size();
-        pass_one(program, facts, memory, s, u, o);
+        change.change(program, facts, memory, o);
     }
 }

@@ -6,7 +6,7 @@ ghost use Rattle.image.specs.Clauses.{Tiling};
 ghost use Rattle.remus.specs.Undo as U;
 ghost use Rattle.machine.specs.Clauses.{Loaded};
 
-use crate::Each;
+use crate::back::Back;
 use crate::passes::pass_over;
 use image::{MAIN_AT, SLOTS_AT, set_used, set_wired, turns, wipe};
 
@@ -37,7 +37,7 @@ fn later_back(program: &[u8], facts: &[u64; 64], memory: &mut [u32], u: u32)
     requires tiling { Tiling program.now memory.old u M.main_at }
     ensures { memory.new ≡ U.back program.now u false memory.old }
 {
-    pass_over(program, facts, memory, Each::Back, u);
+    pass_over(&Back { u }, program, facts, memory, u);
     zero_from(memory, u as usize)
 }
 

@@ -1,16 +1,15 @@
 use Rattle.std.specs.Prelude.{ℕ, ◌≡◌}
 use Rattle.std.proofs.Common.{arith}
-use Rattle.machine.specs.Clauses.{each_of}
 use Rattle.remus.specs.Clear.{clear_of, closed}
 use Rattle.machine.proofs.finish.close.Goals as goal
 
 pub pass_over-requires : goal.pass_over-requires
 pass_over-requires c = let pre = c.requires in
     let at_used = c.used-u in
-    record { loaded = pre.loaded; tiling = rw at_used.ensures pre.tiling; remembering = λ e. let z : ◌≡◌ {A = ℕ} 0 1 = cc in absurd (omega arith) }
+    record { loaded = pre.loaded; tiling = rw at_used.ensures pre.tiling; suited = tt }
 
 pub returns : goal.returns
-unfolding closed clear_of each_of
+unfolding closed clear_of
 returns c = let at_used = c.used-u in
     let at_turns = c.turns-t in
     let at_pass_over = c.pass_over in

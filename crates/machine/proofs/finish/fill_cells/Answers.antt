@@ -1,5 +1,4 @@
 use Rattle.machine.proofs.CellBytes.{keeps_none}
-use Rattle.machine.specs.Clauses.{each_of}
 use Rattle.remus.specs.Cells.{keep_of}
 use Rattle.std.proofs.Common.{sym, ◌∙◌}
 use Rattle.machine.proofs.finish.fill_cells.Goals as goal
@@ -7,10 +6,10 @@ use Rattle.machine.proofs.finish.fill_cells.Goals as goal
 pub pass_over-requires : goal.pass_over-requires
 pass_over-requires c = let pre = c.requires in
     let at_used = c.used-u in
-    record { loaded = pre.loaded; tiling = rw at_used.ensures pre.ending.tiled; remembering = λ e. pre.ending.remembers }
+    record { loaded = pre.loaded; tiling = rw at_used.ensures pre.ending.tiled; suited = pre.ending.remembers }
 
 pub returns-then-has_cells : goal.returns-then-has_cells
-unfolding keep_of each_of
+unfolding keep_of
 returns-then-has_cells c = let at_used = c.used-u in
     let at_pass_over = c.pass_over in
     rw (← at_used.ensures) at_pass_over.ensures

@@ -1,19 +1,17 @@
 use Rattle.std.specs.Prelude.{refl}
 use Rattle.std.proofs.Common.{◌∙◌, arith}
 use Rattle.image.specs.Memory.{size_at, starts_below}
-use Rattle.machine.proofs.Clears.{local_each}
 use Rattle.machine.proofs.Passing.{pass_done, pass_inside, pass_legal, pass_next, pass_rises, pass_within}
 use Rattle.machine.proofs.FactLaws.{told}
-use Rattle.machine.specs.Clauses.{each_of}
 use Rattle.machine.proofs.passes.pass_over.Goals as goal
 
 pub loop-a-init : goal.loop-a-init
 unfolding starts_below
-loop-a-init c = (refl, c.requires.tiling, refl)
+loop-a-init g c = (refl, c.requires.tiling, refl)
 
 pub overflow_add-a : goal.overflow_add-a
 unfolding size_at
-overflow_add-a c = let at_loop = c.loop-a in
+overflow_add-a g c = let at_loop = c.loop-a in
     let at_loop_test = c.loop-a-test in
     let at_size = c.size in
     let pre = c.requires in
@@ -25,17 +23,17 @@ overflow_add-a c = let at_loop = c.loop-a in
     let size = at_size.ensures.is _ _ (told pre.loaded at_reactor.ensures legal at_fact.ensures.known) in
     omega (arith, pass_within _ _ _ _ tiling in_loop _ size)
 
-pub pass_one-requires : goal.pass_one-requires
-pass_one-requires c = let at_loop = c.loop-a in
+pub change-requires : goal.change-requires
+change-requires g c = let at_loop = c.loop-a in
     let at_loop_test = c.loop-a-test in
     let pre = c.requires in
     let tiling = at_loop.invariant.1 in
     let in_loop = at_loop_test.true in
-    record { loaded = pre.loaded; o_in_bounds = pass_inside _ _ _ _ tiling in_loop; o_bound = pass_legal _ _ _ _ tiling in_loop; remembering = pre.remembering }
+    record { loaded = pre.loaded; o_in_bounds = pass_inside _ _ _ _ tiling in_loop; o_bound = pass_legal _ _ _ _ tiling in_loop; suited = pre.suited }
 
 pub loop-a-smaller : goal.loop-a-smaller
 unfolding size_at
-loop-a-smaller c = let at_loop = c.loop-a in
+loop-a-smaller g c = let at_loop = c.loop-a in
     let at_loop_test = c.loop-a-test in
     let at_size = c.size in
     let pre = c.requires in
@@ -49,24 +47,23 @@ loop-a-smaller c = let at_loop = c.loop-a in
 
 pub loop-a-preserved : goal.loop-a-preserved
 unfolding size_at
-loop-a-preserved c = let at_loop = c.loop-a in
+loop-a-preserved g c = let at_loop = c.loop-a in
     let at_loop_test = c.loop-a-test in
     let at_size = c.size in
     let pre = c.requires in
     let at_reactor = c.reactor in
     let at_fact = c.fact in
     let args = c.args in
-    let at_pass_one = c.pass_one in
+    let at_change = c.change in
     let tiling = at_loop.invariant.1 in
     let in_loop = at_loop_test.true in
     let legal = pass_legal _ _ _ _ tiling in_loop in
     let size = at_size.ensures.is _ _ (told pre.loaded at_reactor.ensures legal at_fact.ensures.known) in
-    let whole = pass_inside _ _ _ _ tiling in_loop in
-    pass_next _ _ _ _ tiling in_loop _ size (each_of args.s args.program.now args.u) _ _ _
-    at_pass_one.ensures (local_each _ _ _ _ _ whole legal pre.remembering) at_loop.invariant.0 at_loop.invariant.2
+    pass_next _ _ _ _ tiling in_loop _ size (g.C.Change.makes args.change.now args.program.now) _ _ _
+    at_change.ensures.is (rw at_change.ensures.is at at_change.ensures.local) at_loop.invariant.0 at_loop.invariant.2
 
 pub shape_of-memory : goal.shape_of-memory
-shape_of-memory c = c.loop-a.invariant.0
+shape_of-memory g c = c.loop-a.invariant.0
 
 pub returns : goal.returns
-returns c = pass_done _ _ _ _ _ c.loop-a-test.false ∙ c.loop-a.invariant.2
+returns g c = pass_done _ _ _ _ _ c.loop-a-test.false ∙ c.loop-a.invariant.2

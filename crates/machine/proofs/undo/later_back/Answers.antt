@@ -1,15 +1,14 @@
 use Rattle.std.specs.Prelude.{ℕ, ◌≡◌}
 use Rattle.std.proofs.Common.{arith}
-use Rattle.machine.specs.Clauses.{each_of}
 use Rattle.remus.specs.Undo.{back, zero_from}
 use Rattle.machine.proofs.undo.later_back.Goals as goal
 
 pub pass_over-requires : goal.pass_over-requires
 pass_over-requires c = let pre = c.requires in
-    record { loaded = pre.loaded; tiling = pre.tiling; remembering = λ e. let z : ◌≡◌ {A = ℕ} 0 1 = cc in absurd (omega arith) }
+    record { loaded = pre.loaded; tiling = pre.tiling; suited = tt }
 
 pub returns : goal.returns
-unfolding back zero_from each_of
+unfolding back zero_from
 returns c = let at_pass_over = c.pass_over in
     let at_zero_from = c.zero_from in
     rw (← at_pass_over.ensures) at_zero_from.ensures
