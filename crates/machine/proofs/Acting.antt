@@ -1,6 +1,6 @@
 -- What a command's code leaves, as the definition of the command says it.
 -- Assumes nothing.
-use Rattle.std.specs.Prelude.{ℕ, zero, suc, ◌+◌, ◌-◌, ◌*◌, ◌≤◌, ◌<◌, ◌≡◌, true, false, List, set}
+use Rattle.std.specs.Prelude.{ℕ, zero, suc, ◌+◌, ◌-◌, ◌*◌, ◌≤◌, ◌<◌, ◌≡◌, true, false, List, set, Ok}
 use Rattle.std.proofs.Common.{sym, ◌∙◌, ap, arith}
 use Rattle.value.specs.Value.{value, blank_mark, deployment_mark, is_blank}
 use Rattle.value.specs.declared.Value.{Value}
@@ -56,11 +56,11 @@ module _ (p m : List ℕ) (o b : ℕ) {v : Value} (e : v ≡ value_at p m o b) w
 
 -- ---- a value given, or stored elsewhere, by what it equals
 module _ (p m : List ℕ) (o l : ℕ) (v w : Value) where
-  pub gives : {x : Acted} → x ≡ did Given (store p m o l v) → v ≡ w → x ≡ did Given (store p m o l w)
-  gives e f = e ∙ ap (λ (u : Value). did Given (store p m o l u)) f
+  pub gives : {x : Acted} → x ≡ did (Ok Given) (store p m o l v) → v ≡ w → x ≡ did (Ok Given) (store p m o l w)
+  gives e f = e ∙ ap (λ (u : Value). did (Ok Given) (store p m o l u)) f
 
-  pub leaves : {m' : List ℕ} → m' ≡ store p m o l v → v ≡ w → did Move m' ≡ did Move (store p m o l w)
-  leaves e f = ap (did Move) (e ∙ ap (store p m o l) f)
+  pub leaves : {m' : List ℕ} → m' ≡ store p m o l v → v ≡ w → did (Ok Move) m' ≡ did (Ok Move) (store p m o l w)
+  leaves e f = ap (did (Ok Move)) (e ∙ ap (store p m o l) f)
 
 -- a global by its number
 pub global_time : (rd m : List ℕ) (x t : ℕ) → x < 1 → t ≡ turns m + 1 → value 1 t ≡ global_value rd m x

@@ -1,6 +1,6 @@
 -- What an allocation's code leaves, as the definition of the command says it.
 -- Assumes nothing.
-use Rattle.std.specs.Prelude.{ℕ, zero, suc, ◌+◌, ◌-◌, ◌≤◌, ◌<◌, ◌≡◌, true, false, List, length}
+use Rattle.std.specs.Prelude.{ℕ, zero, suc, ◌+◌, ◌-◌, ◌≤◌, ◌<◌, ◌≡◌, true, false, List, length, Ok}
 use Rattle.std.proofs.Common.{sym, ◌∙◌, ap, arith}
 use Rattle.value.specs.Test.{pick, ◌≤?◌}
 use Rattle.value.specs.Value.{value, deployment_mark}
@@ -52,7 +52,7 @@ slot_stored p m m₁ o k l i v e f =
 
 -- ---- the deployment that is there
 pub found : (p rd : List ℕ) (h : ℕ) (m : List ℕ) (o i d q a b : ℕ) {x : Acted} → 0 < d
-    → x ≡ did Given (store p m o (command_loc p (reactor m o) i) (value deployment_mark d))
+    → x ≡ did (Ok Given) (store p m o (command_loc p (reactor m o) i) (value deployment_mark d))
     → x ≡ acted m (alloc_poly a b) (chosen p rd h m o i d q b)
 unfolding chosen acted takes_words pick
 found p rd h m o i zero q a b l e = absurd (omega arith)

@@ -1,6 +1,6 @@
 -- What holds before each R command of a run, of the words, the table of places and the counts that the code goes by.
 -- Assumes nothing.
-use Rattle.std.specs.Prelude.{ℕ, suc, ◌+◌, ◌-◌, ◌*◌, ◌≤◌, ◌<◌, ◌≡◌, refl, true, List, Ok, Err}
+use Rattle.std.specs.Prelude.{ℕ, suc, ◌+◌, ◌-◌, ◌*◌, ◌≤◌, ◌<◌, ◌≡◌, refl, true, List, Result, Ok, Err}
 use Rattle.std.proofs.Common.{sym, ◌∙◌, ap, subst, ⊎_elim}
 use Rattle.std.specs.Prelude.{length, set}
 use Rattle.std.proofs.Common.{arith}
@@ -16,7 +16,7 @@ use Rattle.remus.specs.Run.{Ran, ran, stopped, commands, run_of}
 use Rattle.remus.specs.Steady.{Fits, Steady}
 use Rattle.answer.specs.Answer.{Ruling}
 use Rattle.machine.specs.declared.Outcome.{Outcome}
-use Rattle.machine.specs.declared.Outcome.TheVariants.{Given, Move, Call, Fail}
+use Rattle.machine.specs.declared.Outcome.TheVariants.{Given, Move, Call}
 use Rattle.machine.specs.Clauses.{did, doing, ran_as, Here, Workable, stepping, Left, Opened, Loaded, PlacedTo}
 use Rattle.machine.specs.Clauses.{Reaches}
 use Rattle.machine.proofs.Opening.{left_at, starts, legal as entered_legal}
@@ -252,24 +252,24 @@ module _ (p t rd : List ℕ) (h o : ℕ) (m₀ : List ℕ) (first at end : ℕ) 
           (PlacedTo p r (set s (first + j) n)) e noted
 
       -- by the code's outcome q, with the words m₁ and the table s₁ then
-      module _ (q : Outcome) (m₁ s₁ : List ℕ) (code : did q m₁ ≡ doing p rd h m o (commands_d p r + j)
+      module _ (q : Result Outcome Refusal) (m₁ s₁ : List ℕ) (code : did q m₁ ≡ doing p rd h m o (commands_d p r + j)
           (cmd_of p r (commands_d p r + j))) where
-        pub going_given : s₁ ≡ set s (first + j) n → q ≡ Given → Going m₁ s₁ (n + 1) (j + 1)
+        pub going_given : s₁ ≡ set s (first + j) n → q ≡ Ok Given → Going m₁ s₁ (n + 1) (j + 1)
         going_given e z =
             let k = on_given p rd f h o x r m j under g.left g.wiring q m₁ code z in
             let a = g.count in
             rw e (next m₁ (set s (first + j) n) (n + 1) k.0 table_noted placed_noted (let b = k.1 in omega arith))
 
-        pub going_move : s₁ ≡ set s (first + j) n → q ≡ Move → Going m₁ s₁ n (j + 1)
+        pub going_move : s₁ ≡ set s (first + j) n → q ≡ Ok Move → Going m₁ s₁ n (j + 1)
         going_move e z =
             let k = on_move p rd f h o x r m j under g.left g.wiring q m₁ code z in
             let a = g.count in
             rw e (next m₁ (set s (first + j) n) n k.0 table_noted placed_noted (let b = k.1 in omega arith))
 
-        pub going_fail : (w : Refusal) → q ≡ Fail w → x ≡ stopped w m₁
+        pub going_fail : (w : Refusal) → q ≡ Err w → x ≡ stopped w m₁
         going_fail w z = on_fail p rd f h o x r m j under g.left g.wiring q m₁ code w z
 
-        module _ (d : ℕ) (z : q ≡ Call d) where
+        module _ (d : ℕ) (z : q ≡ Ok (Call d)) where
           pub nested : Steady p rd f (h + 1) m₁ d × Workable m₁
           nested = on_call p rd f h o x r m j under g.left g.wiring q m₁ code d z
 

@@ -1,6 +1,6 @@
 -- How a run goes on, by what the present command comes to.
 -- Assumes nothing.
-use Rattle.std.specs.Prelude.{ℕ, suc, ◌+◌, ◌≡◌, refl, ◌≢◌, Bool, true, false, List}
+use Rattle.std.specs.Prelude.{ℕ, suc, ◌+◌, ◌≡◌, refl, ◌≢◌, Bool, true, false, List, Ok, Err}
 use Rattle.std.proofs.Common.{sym, ◌∙◌, ap, arith}
 use lib.Seq.{get_or-set_other}
 use Rattle.value.specs.Test.{pick}
@@ -12,53 +12,53 @@ use Rattle.image.specs.Memory.{word, reactor, with_wired}
 use Rattle.remus.specs.Exec.{Eff, move, call, fail, exec, ready, eff}
 use Rattle.remus.specs.Run.{Ran, ran, stopped, and_then, entered, commands, step_of, run_of}
 use Rattle.remus.specs.Steady.{Through}
-use Rattle.machine.specs.declared.Outcome.TheVariants.{Given, Move, Call, Fail}
+use Rattle.machine.specs.declared.Outcome.TheVariants.{Given, Move, Call}
 use Rattle.machine.specs.Clauses.{did, acted, ran_as, stepping, Knowing, Left}
 use Rattle.machine.proofs.WordsFit.{workable_after}
 
 -- ---- a command's effect, by its outcome
 
 module _ (m m₁ : List ℕ) where
-  given_by : (t : Bool) (m' : List ℕ) → did Given m₁ ≡ did (pick t Given Move) m' → (t ≡ true) × (m' ≡ m₁)
+  given_by : (t : Bool) (m' : List ℕ) → did (Ok Given) m₁ ≡ did (Ok (pick t Given Move)) m' → (t ≡ true) × (m' ≡ m₁)
   unfolding pick
   given_by true m' h = (refl, cc)
   given_by false m' h = let z : ◌≡◌ {A = ℕ} 0 1 = cc in absurd (omega arith)
 
-  moved_by : (t : Bool) (m' : List ℕ) → did Move m₁ ≡ did (pick t Given Move) m' → (t ≡ false) × (m' ≡ m₁)
+  moved_by : (t : Bool) (m' : List ℕ) → did (Ok Move) m₁ ≡ did (Ok (pick t Given Move)) m' → (t ≡ false) × (m' ≡ m₁)
   unfolding pick
   moved_by true m' h = let z : ◌≡◌ {A = ℕ} 0 1 = cc in absurd (omega arith)
   moved_by false m' h = (refl, cc)
 
-  not_called : (t : Bool) (d : ℕ) (m' : List ℕ) → did (Call d) m₁ ≡ did (pick t Given Move) m' → ⊥
+  not_called : (t : Bool) (d : ℕ) (m' : List ℕ) → did (Ok (Call d)) m₁ ≡ did (Ok (pick t Given Move)) m' → ⊥
   unfolding pick
   not_called true d m' h = let z : ◌≡◌ {A = ℕ} 0 1 = cc in absurd (omega arith)
   not_called false d m' h = let z : ◌≡◌ {A = ℕ} 0 1 = cc in absurd (omega arith)
 
-  not_failed : (t : Bool) (v : Refusal) (m' : List ℕ) → did (Fail v) m₁ ≡ did (pick t Given Move) m' → ⊥
+  not_failed : (t : Bool) (v : Refusal) (m' : List ℕ) → did (Err v) m₁ ≡ did (Ok (pick t Given Move)) m' → ⊥
   unfolding pick
   not_failed true v m' h = let z : ◌≡◌ {A = ℕ} 0 1 = cc in absurd (omega arith)
   not_failed false v m' h = let z : ◌≡◌ {A = ℕ} 0 1 = cc in absurd (omega arith)
 
   module _ (c : Cmd) where
-    pub gave : (e : Eff) → did Given m₁ ≡ acted m c e → (takes_words c ≡ true) × (e ≡ move m₁)
+    pub gave : (e : Eff) → did (Ok Given) m₁ ≡ acted m c e → (takes_words c ≡ true) × (e ≡ move m₁)
     unfolding acted
     gave (move m') h = let g = given_by (takes_words c) m' h in (g.0, ap move g.1)
     gave (call m' d) h = let z : ◌≡◌ {A = ℕ} 0 1 = cc in absurd (omega arith)
     gave (fail v) h = let z : ◌≡◌ {A = ℕ} 0 1 = cc in absurd (omega arith)
 
-    pub moved : (e : Eff) → did Move m₁ ≡ acted m c e → (takes_words c ≡ false) × (e ≡ move m₁)
+    pub moved : (e : Eff) → did (Ok Move) m₁ ≡ acted m c e → (takes_words c ≡ false) × (e ≡ move m₁)
     unfolding acted
     moved (move m') h = let g = moved_by (takes_words c) m' h in (g.0, ap move g.1)
     moved (call m' d) h = let z : ◌≡◌ {A = ℕ} 0 1 = cc in absurd (omega arith)
     moved (fail v) h = let z : ◌≡◌ {A = ℕ} 0 1 = cc in absurd (omega arith)
 
-    pub called : (d : ℕ) (e : Eff) → did (Call d) m₁ ≡ acted m c e → e ≡ call m₁ d
+    pub called : (d : ℕ) (e : Eff) → did (Ok (Call d)) m₁ ≡ acted m c e → e ≡ call m₁ d
     unfolding acted
     called d (move m') h = absurd (not_called (takes_words c) d m' h)
     called d (call m' d') h = cc
     called d (fail v) h = let z : ◌≡◌ {A = ℕ} 0 1 = cc in absurd (omega arith)
 
-    pub failed : (v : Refusal) (e : Eff) → did (Fail v) m₁ ≡ acted m c e → (e ≡ fail v) × (m ≡ m₁)
+    pub failed : (v : Refusal) (e : Eff) → did (Err v) m₁ ≡ acted m c e → (e ≡ fail v) × (m ≡ m₁)
     unfolding acted
     failed v (move m') h = absurd (not_failed (takes_words c) v m' h)
     failed v (call m' d) h = let z : ◌≡◌ {A = ℕ} 0 1 = cc in absurd (omega arith)

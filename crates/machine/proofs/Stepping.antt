@@ -1,6 +1,6 @@
 -- R commands, one after the other, and the table of places beside them.
 -- Assumes nothing.
-use Rattle.std.specs.Prelude.{ℕ, zero, suc, ◌+◌, ◌-◌, ◌*◌, ◌≤◌, ◌<◌, ◌≡◌, refl, Bool, true, Ok, Err}
+use Rattle.std.specs.Prelude.{ℕ, zero, suc, ◌+◌, ◌-◌, ◌*◌, ◌≤◌, ◌<◌, ◌≡◌, refl, Bool, true, Result, Ok, Err}
 use Rattle.std.proofs.Common.{sym, ◌∙◌, ap, ⊎_elim}
 use Rattle.std.specs.Prelude.{false, List, length, set}
 use Rattle.std.proofs.Common.{arith}
@@ -18,7 +18,7 @@ use Rattle.remus.specs.Exec.{Eff, move, call, fail, exec, allocated, branched, c
 use Rattle.remus.specs.Run.{Ran, ran, stopped, entered, run_of}
 use Rattle.remus.specs.Steady.{Fits, Steady}
 use Rattle.machine.specs.declared.Outcome.{Outcome}
-use Rattle.machine.specs.declared.Outcome.TheVariants.{Given, Move, Call, Fail}
+use Rattle.machine.specs.declared.Outcome.TheVariants.{Given, Move, Call}
 use Rattle.machine.specs.Clauses.{did, doing, ran_as, Workable, stepping, Knowing, Left, PlacedTo}
 use Rattle.machine.proofs.WordsFit.{workable_opened}
 use Rattle.machine.proofs.Opening.{left_at}
@@ -137,7 +137,7 @@ module _ (p rd : List ℕ) (f h o : ℕ) (x : Ran) (r : ℕ) (m : List ℕ) (j :
     fits_here = rw set_here at knowing.fits
 
     -- by the code's outcome q, with the words m₁ then
-    module _ (q : Outcome) (m₁ : List ℕ) (code : did q m₁ ≡ doing p rd h m o i (cmd_of p r i)) where
+    module _ (q : Result Outcome Refusal) (m₁ : List ℕ) (code : did q m₁ ≡ doing p rd h m o i (cmd_of p r i)) where
       abbrev c : Cmd
       c = cmd_of p r i
 
@@ -147,27 +147,27 @@ module _ (p rd : List ℕ) (f h o : ℕ) (x : Ran) (r : ℕ) (m : List ℕ) (j :
       next : (m₂ : List ℕ) → stepping p rd f h o i m ≡ ran m₂ → Left p rd f h o x r rest (commands_d p r + (j + 1)) m₂
       next m₂ e = left_at p rd f h o refl (omega arith) (goes_on p rd f h o x r rest i m more m₂ e)
 
-      pub on_given : q ≡ Given → Left p rd f h o x r rest (commands_d p r + (j + 1)) m₁ ×
+      pub on_given : q ≡ Ok Given → Left p rd f h o x r rest (commands_d p r + (j + 1)) m₁ ×
           (results p r (j + 1) ≡ results p r j + 1)
       unfolding entered pick
       on_given e =
           let g = gave m m₁ c _ (rw e at code) in
           (next m₁ (stepped _ g.1), results_by p r j true g.0)
 
-      pub on_move : q ≡ Move → Left p rd f h o x r rest (commands_d p r + (j + 1)) m₁ ×
+      pub on_move : q ≡ Ok Move → Left p rd f h o x r rest (commands_d p r + (j + 1)) m₁ ×
           (results p r (j + 1) ≡ results p r j)
       unfolding entered pick
       on_move e =
           let g = moved m m₁ c _ (rw e at code) in
           (next m₁ (stepped _ g.1), results_by p r j false g.0 ∙ (omega arith))
 
-      pub on_fail : (w : Refusal) → q ≡ Fail w → x ≡ stopped w m₁
+      pub on_fail : (w : Refusal) → q ≡ Err w → x ≡ stopped w m₁
       unfolding entered
       on_fail w e =
           let g = failed m m₁ c w _ (rw e at code) in
           breaks_off p rd f h o x r rest i m more w m₁ (stepped _ g.0 ∙ ap (stopped w) g.1)
 
-      module _ (d : ℕ) (e : q ≡ Call d) where
+      module _ (d : ℕ) (e : q ≡ Ok (Call d)) where
         calling : exec p rd h m o i c ≡ call m₁ d
         calling = called m m₁ c d _ (rw e at code)
 

@@ -1,5 +1,5 @@
 -- What the contracts of a turn's code speak of beside the definitions.
-use Rattle.std.specs.Prelude.{ℕ, suc, ◌+◌, ◌*◌, ◌≤◌, ◌<◌, ◌≡◌, Bool, true, false, not, List, length, get_or}
+use Rattle.std.specs.Prelude.{ℕ, suc, ◌+◌, ◌*◌, ◌≤◌, ◌<◌, ◌≡◌, Bool, true, false, not, List, length, get_or, Result, Ok, Err}
 use Rattle.value.specs.Test.{pick, ◌<?◌, sweep}
 use Rattle.program.specs.Command.{Cmd, takes_words, Made, deployment, point, held, nought, made_by, cmd_of, cell, keep}
 use Rattle.program.specs.Command.{alloc_mono, make_poly, constant, global, supply, react, gives, consume, sink, alloc_poly}
@@ -13,7 +13,7 @@ use Rattle.remus.specs.Undo.{undo_of}
 use Rattle.answer.specs.Answer.{Ruling}
 use Rattle.std.specs.Prelude.{Ok, Err}
 use Rattle.machine.specs.declared.Outcome.{Outcome}
-use Rattle.machine.specs.declared.Outcome.TheVariants.{Given, Move, Call, Fail}
+use Rattle.machine.specs.declared.Outcome.TheVariants.{Given, Move, Call}
 use Rattle.program.specs.Bytes.{reactors, commands_d, commands_in, main_of, commands_r, commands_at}
 use Rattle.program.specs.Clauses.{Facts}
 use Rattle.remus.specs.Steady.{Through, Orderly, Steady}
@@ -28,21 +28,21 @@ use Rattle.answer.specs.Answer.{Answer}
 
 -- a command's outcome, and the words then
 pub data Acted : Type 0 where
-  did : Outcome → List ℕ → Acted
+  did : Result Outcome Refusal → List ℕ → Acted
 
 -- of a command's effect, m the words before it: a result is given by a command that has one, and a
 -- command that fails leaves the words
 unfoldable pub acted : List ℕ → Cmd → Eff → Acted
-acted m c (move m') = did (pick (takes_words c) Given Move) m'
-acted m c (call m' d) = did (Call d) m'
-acted m c (fail w) = did (Fail w) m
+acted m c (move m') = did (Ok (pick (takes_words c) Given Move)) m'
+acted m c (call m' d) = did (Ok (Call d)) m'
+acted m c (fail w) = did (Err w) m
 
 -- what a command comes to, as a function of the command
 abbrev pub doing : List ℕ → List ℕ → ℕ → List ℕ → ℕ → ℕ → Cmd → Acted
 doing p rd h m o i c = acted m c (exec p rd h m o i c)
 
 -- the outcome r and the words m' are what command c does, whatever the readings
-abbrev pub Acts : List ℕ → ℕ → List ℕ → ℕ → ℕ → Cmd → Outcome → List ℕ → Type 0
+abbrev pub Acts : List ℕ → ℕ → List ℕ → ℕ → ℕ → Cmd → Result Outcome Refusal → List ℕ → Type 0
 Acts p h m o i c r m' = (rd : List ℕ) → did r m' ≡ doing p rd h m o i c
 
 -- the words of command i of o begin there

@@ -1,7 +1,7 @@
 // The commands that allocate: AllocMono and AllocPoly. A new deployment stands one deeper than its
 // owner: past the limit of depths the turn ends with 15, and else, where it does not fit the words that
 // are left, with 14.
-ghost use Rattle.std.specs.Prelude.{ℕ, ◌+◌, ◌≤◌, ◌<◌, ◌≡◌, true, false, List, length, MatchOption};
+ghost use Rattle.std.specs.Prelude.{ℕ, ◌+◌, ◌≤◌, ◌<◌, ◌≡◌, true, false, List, length, MatchOption, Ok};
 ghost use Rattle.value.specs.Test.{◌≤?◌};
 ghost use Rattle.value.specs.Value as W;
 ghost use Rattle.program.specs.Bytes as B;
@@ -101,7 +101,7 @@ fn branch(memory: &mut [u32], here: usize, q: u32, b: usize, size: u32) -> Outco
     requires size_in_bounds { M.used memory.old + size ≤ length memory.old }
     ensures { let m = memory.old in
         ((p rd : List ℕ) (h o i j k : ℕ) → size ≡ L.size_of p q → Stands m o → b ≡ M.slot p m o k → Here p m o i here
-        → did result memory.new ≡ acted m (C.alloc_poly j k) (X.branched p rd h m o i false true q k)) }
+        → did (Ok result) memory.new ≡ acted m (C.alloc_poly j k) (X.branched p rd h m o i false true q k)) }
 {
     let u = used(memory);
     let head = word(memory, b + 1);
@@ -125,7 +125,14 @@ fn branch(memory: &mut [u32], here: usize, q: u32, b: usize, size: u32) -> Outco
 }
 
 // A deployment of reactor q on the branch point at b, where none is.
-fn make(facts: &[u64; 64], memory: &mut [u32], h: u8, here: usize, q: u32, b: usize) -> Outcome
+fn make(
+    facts: &[u64; 64],
+    memory: &mut [u32],
+    h: u8,
+    here: usize,
+    q: u32,
+    b: usize,
+) -> Result<Outcome, Refusal>
     requires here_in_bounds { here + 1 < length memory.old }
     requires b_le_here { b ≤ here }
     requires memory_len_bound { length memory.old ≤ M.most_words }
@@ -136,13 +143,13 @@ fn make(facts: &[u64; 64], memory: &mut [u32], h: u8, here: usize, q: u32, b: us
         → did result memory.new ≡ acted m (C.alloc_poly j k) (X.chosen p rd h m o i 0 q k)) }
 {
     if MOST_DEPTH <= h {
-        return Outcome::Fail(Refusal::TooDeep(q as usize));
+        return Err(Refusal::TooDeep(q as usize));
     }
     let size = fact(facts, q).size();
     if !room(memory, size) {
-        return Outcome::Fail(Refusal::NoRoom(q as usize));
+        return Err(Refusal::NoRoom(q as usize));
     }
-    branch(memory, here, q, b, size)
+    Ok(branch(memory, here, q, b, size))
 }
 
 // The deployment of reactor q on the branch point at b, made if missing.
@@ -154,7 +161,7 @@ fn choose(
     here: usize,
     q: u32,
     b: usize,
-) -> Outcome
+) -> Result<Outcome, Refusal>
     requires here_in_bounds { here + 1 < length memory.old }
     requires b_le_here { b ≤ here }
     requires memory_len_bound { length memory.old ≤ M.most_words }
@@ -166,14 +173,14 @@ fn choose(
     let newest = word(memory, b + 1);
     match find(program, memory, q, newest) {
         None => make(facts, memory, h, here, q, b),
-        Some(d) => give(
+        Some(d) => Ok(give(
             memory,
             here,
             Value {
                 mark: Value::DEPLOYMENT,
                 content: d,
             },
-        ),
+        )),
     }
 }
 
@@ -187,7 +194,7 @@ pub(crate) fn alloc_poly(
     here: usize,
     a: usize,
     b: usize,
-) -> Outcome
+) -> Result<Outcome, Refusal>
     requires here_in_bounds { here + 1 < length memory.old }
     requires a_le_here { (a ≤ here) × (b ≤ here) }
     requires memory_len_bound { length memory.old ≤ M.most_words }
@@ -199,7 +206,7 @@ pub(crate) fn alloc_poly(
 {
     let q = pair_within(memory, a);
     if q.mark == Value::BLANK {
-        return give(memory, here, Value::blank());
+        return Ok(give(memory, here, Value::blank()));
     }
     choose(program, facts, memory, h, here, q.content, b)
 }

@@ -1,6 +1,6 @@
 // 6.18 to 6.20 The commands of cells, one function each. What is kept waits in the Keep's own slot until
 // the turn completes: Fetch reads a cell as the turn found it, and a refused turn leaves every cell.
-ghost use Rattle.std.specs.Prelude.{ℕ, ◌+◌, ◌≤◌, ◌<◌, ◌≡◌, List, length};
+ghost use Rattle.std.specs.Prelude.{ℕ, ◌+◌, ◌≤◌, ◌<◌, ◌≡◌, List, length, Ok};
 ghost use Rattle.program.specs.Command as C;
 ghost use Rattle.image.specs.Memory as M;
 ghost use Rattle.remus.specs.Cells as Cells;
@@ -40,7 +40,7 @@ pub(crate) fn fetch(memory: &mut [u32], here: usize, b: usize) -> Outcome
     requires b_le_here { b ≤ here }
     ensures { let m = memory.old in
         ((p : List ℕ) (h o i k : ℕ) → b ≡ M.slot p m o k → Here p m o i here
-        → Acts p h m o i (C.gives (C.fetch k)) result memory.new) }
+        → Acts p h m o i (C.gives (C.fetch k)) (Ok result) memory.new) }
 {
     let v = pair_within(memory, b);
     give(memory, here, v)
@@ -52,7 +52,7 @@ pub(crate) fn keep(memory: &mut [u32], here: usize, a: usize) -> Outcome
     requires a_le_here { a ≤ here }
     ensures { let m = memory.old in
         ((p : List ℕ) (h o i j k : ℕ) → a ≡ M.slot p m o j → Here p m o i here
-        → Acts p h m o i (C.keep j k) result memory.new) }
+        → Acts p h m o i (C.keep j k) (Ok result) memory.new) }
 {
     let v = pair_within(memory, a);
     let waits = pending(v);

@@ -1,7 +1,7 @@
 // 2.32 The commands that neither allocate nor have to do with cells, one function each. They are given
 // the index of each slot's words: `here` is the command's own, a and b those of its operands. Where a
 // command has a result, its own words are in memory, and no operand's lie past them.
-ghost use Rattle.std.specs.Prelude.{ℕ, ◌+◌, ◌≤◌, ◌<◌, ◌≡◌, true, List, length};
+ghost use Rattle.std.specs.Prelude.{ℕ, ◌+◌, ◌≤◌, ◌<◌, ◌≡◌, true, List, length, Ok};
 ghost use Rattle.value.specs.Value as W;
 ghost use Rattle.program.specs.Bytes as B;
 ghost use Rattle.program.specs.Command as C;
@@ -29,7 +29,7 @@ pub(crate) fn give(memory: &mut [u32], here: usize, v: Value) -> Outcome
     requires { here + 1 < length memory.old }
     ensures { let m = memory.old in
         ((p : List ℕ) (o l : ℕ) → here ≡ M.slot p m o l
-        → did result memory.new ≡ did Given (M.store p m o l v)) }
+        → did (Ok result) memory.new ≡ did (Ok Given) (M.store p m o l v)) }
 {
     put_pair_within(memory, here, v);
     Outcome::Given
@@ -50,7 +50,7 @@ pub(crate) fn constant(memory: &mut [u32], here: usize, x: u8, v: u32) -> Outcom
     requires { here + 1 < length memory.old }
     ensures { let m = memory.old in
         ((p : List ℕ) (h o i : ℕ) → Here p m o i here
-        → Acts p h m o i (C.gives (C.constant x v)) result memory.new) }
+        → Acts p h m o i (C.gives (C.constant x v)) (Ok result) memory.new) }
 {
     let given = of_kind(x, v);
     give(memory, here, given)
@@ -84,7 +84,7 @@ pub(crate) fn global(readings: &[u32], memory: &mut [u32], here: usize, x: u8) -
     requires time_fits { TimeFits memory.old }
     ensures { let m = memory.old in let rd = readings.now in
         ((p : List ℕ) (h o i : ℕ) → Here p m o i here
-        → did result memory.new ≡ doing p rd h m o i (C.gives (C.global x))) }
+        → did (Ok result) memory.new ≡ doing p rd h m o i (C.gives (C.global x))) }
 {
     let v = global_value(readings, memory, x);
     give(memory, here, v)
@@ -97,7 +97,7 @@ pub(crate) fn supply(memory: &mut [u32], x: u8, a: usize, b: usize) -> Outcome
     ensures { let m = memory.old in
         ((p : List ℕ) (h o i j k : ℕ) → a ≡ M.slot p m o j → b ≡ M.slot p m o k
         → (X.there p m o k ≡ true → x < L.source_count p (M.reactor m (M.content p m o k)))
-        → Acts p h m o i (C.supply x j k) result memory.new) }
+        → Acts p h m o i (C.supply x j k) (Ok result) memory.new) }
 {
     let d = pair(memory, b);
     if d.mark != Value::DEPLOYMENT {
@@ -112,7 +112,7 @@ pub(crate) fn supply(memory: &mut [u32], x: u8, a: usize, b: usize) -> Outcome
 pub(crate) fn react(memory: &[u32], b: usize) -> Outcome
     requires { b < 8589934592 }
     ensures { let m = memory.now in
-        ((p : List ℕ) (h o i k : ℕ) → b ≡ M.slot p m o k → Acts p h m o i (C.react k) result m) }
+        ((p : List ℕ) (h o i k : ℕ) → b ≡ M.slot p m o k → Acts p h m o i (C.react k) (Ok result) m) }
 {
     let d = pair(memory, b);
     if d.mark != Value::DEPLOYMENT {
@@ -145,7 +145,7 @@ pub(crate) fn consume(
     ensures { let m = memory.old in
         ((p : List ℕ) (h o i k : ℕ) → Facts p facts.now → b ≡ M.slot p m o k → Here p m o i here
         → (X.there p m o k ≡ true → M.reactor m (M.content p m o k) < B.reactors p)
-        → Acts p h m o i (C.gives (C.consume x k)) result memory.new) }
+        → Acts p h m o i (C.gives (C.consume x k)) (Ok result) memory.new) }
 {
     let d = pair_within(memory, b);
     if d.mark != Value::DEPLOYMENT {
@@ -161,7 +161,7 @@ pub(crate) fn sink(facts: &[u64; 64], memory: &mut [u32], o: u32, x: u8, a: usiz
     requires { a < 8589934592 }
     ensures { let m = memory.old in
         ((p : List ℕ) (h i j : ℕ) → Facts p facts.now → M.reactor m o < B.reactors p
-        → a ≡ M.slot p m o j → Acts p h m o i (C.sink x j) result memory.new) }
+        → a ≡ M.slot p m o j → Acts p h m o i (C.sink x j) (Ok result) memory.new) }
 {
     let v = pair(memory, a);
     let i = sink_index(facts, memory, o, x);
@@ -196,7 +196,7 @@ pub(crate) fn primitive(
     requires a_le_here { (a ≤ here) × (b ≤ here) }
     ensures { let m = memory.old in let t = slots.now in
         ((p : List ℕ) (h i j k : ℕ) → a ≡ M.slot p m o j → b ≡ M.slot p m o k → Placed p (M.reactor m o) t l
-        → Here p m o i here → Acts p h m o i (C.gives (C.primitive x j k l)) result memory.new) }
+        → Here p m o i here → Acts p h m o i (C.gives (C.primitive x j k l)) (Ok result) memory.new) }
 {
     let first = pair_within(memory, a);
     let second = pair_within(memory, b);

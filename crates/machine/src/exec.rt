@@ -83,7 +83,7 @@ pub(crate) fn exec(
     o: u32,
     here: usize,
     at: usize,
-) -> Outcome
+) -> Result<Outcome, Refusal>
     requires at_in_bounds { at + 8 ≤ length program.now }
     requires reaches { Reaches slots.now o here (length memory.old) (C.decode (C.bytes_at program.now at)) }
     requires workable { Workable memory.old }
@@ -99,16 +99,16 @@ pub(crate) fn exec(
     let a = slot_index(slots, o, c.a);
     let b = slot_index(slots, o, c.b);
     match code {
-        Command::CONSTANT => constant(memory, here, c.x, c.v()),
-        Command::GLOBAL => global(readings, memory, here, c.x),
-        Command::SUPPLY => supply(memory, c.x, a, b),
-        Command::REACT => react(memory, b),
-        Command::CONSUME => consume(facts, memory, here, c.x, b),
-        Command::SINK => sink(facts, memory, o, c.x, a),
+        Command::CONSTANT => Ok(constant(memory, here, c.x, c.v())),
+        Command::GLOBAL => Ok(global(readings, memory, here, c.x)),
+        Command::SUPPLY => Ok(supply(memory, c.x, a, b)),
+        Command::REACT => Ok(react(memory, b)),
+        Command::CONSUME => Ok(consume(facts, memory, here, c.x, b)),
+        Command::SINK => Ok(sink(facts, memory, o, c.x, a)),
         Command::ALLOC_POLY => alloc_poly(program, facts, memory, h, here, a, b),
-        Command::PRIMITIVE => primitive(memory, slots, o, here, c.x, a, b, c.v0),
-        Command::FETCH => fetch(memory, here, b),
-        Command::KEEP => keep(memory, here, a),
-        _ => Outcome::Given,
+        Command::PRIMITIVE => Ok(primitive(memory, slots, o, here, c.x, a, b, c.v0)),
+        Command::FETCH => Ok(fetch(memory, here, b)),
+        Command::KEEP => Ok(keep(memory, here, a)),
+        _ => Ok(Outcome::Given),
     }
 }

@@ -29,12 +29,11 @@ pub use calls::{preview, turn};
 pub use image::start;
 pub use load::check;
 
-// What a command comes to: it has given its result, or has none, and the next one follows; first the
-// deployment named runs; or the turn ends.
+// What a command comes to, where it is not refused: it has given its result, or has none, and the next one follows; or
+// the deployment named runs first.
 #[derive(Clone, Copy)]
 pub enum Outcome {
     Given,
     Move,
     Call(u32),
-    Fail(Refusal),
 }

@@ -102,14 +102,13 @@ pub(crate) fn run(
         let here = after(o, n);
         let i = at + 8 * (j as usize);
         j += 1;
-        match exec(program, facts, readings, memory, slots, h, o, here, i) {
+        match exec(program, facts, readings, memory, slots, h, o, here, i)? {
             Outcome::Given => n += 1,
             Outcome::Move => {}
             Outcome::Call(d) => {
                 run(program, facts, readings, memory, slots, h + 1, d)?;
                 lay(program, slots, at, first, j)
             }
-            Outcome::Fail(w) => return Err(w),
         }
     }
     Ok(())

@@ -1,6 +1,6 @@
-use Rattle.std.specs.Prelude.{refl}
+use Rattle.std.specs.Prelude.{refl, Ok}
 use Rattle.answer.proofs.Handed.{handed_on}
-use Rattle.std.proofs.Common.{◌∙◌, arith}
+use Rattle.std.proofs.Common.{◌∙◌, ap, arith}
 use Rattle.machine.proofs.BeforeCommand.{begun, stopped_there, all_inside, counted, fits, found, goes}
 use Rattle.machine.proofs.BeforeCommand.{going_call, going_fail, going_given, going_move}
 use Rattle.machine.proofs.BeforeCommand.{begins_at, here_at, lay_at, nested, not_deep, noted_loc, own}
@@ -117,7 +117,7 @@ loop-j-preserved-in-Given t c = let at_exec = c.exec in
     let g = at_loop.invariant.2 in
     let in_loop = at_loop_test.true in
     let known = pre.loaded in
-    let code = at_exec.ensures _ _ known.facts g.legal (here_at _ _ _ _ _ _ _ _ _ known _ _ _ _ g)
+    let code = c.in_ok-exec.ensures _ _ known.facts g.legal (here_at _ _ _ _ _ _ _ _ _ known _ _ _ _ g)
     (omega arith)
     (fits _ _ _ _ _ _ _ _ _ known _ _ _ _ g in_loop) (own _ _ _ _ _ _ _ _ _ known _ _ _ _ g in_loop _
     at_after.ensures.is)
@@ -125,7 +125,7 @@ loop-j-preserved-in-Given t c = let at_exec = c.exec in
       at_exec.auto.memory ∙ at_loop.invariant.0,
       at_loop.invariant.1,
       going_given _ _ _ _ _ _ _ _ _ known _ _ _ _ g
-          in_loop _ _ _ code at_note.ensures c.in-Given.is,
+          in_loop _ _ _ code at_note.ensures (ap Ok c.in-Given.is),
     )
 
 pub loop-j-preserved-in-Move : goal.loop-j-preserved-in-Move
@@ -138,7 +138,7 @@ loop-j-preserved-in-Move t c = let at_exec = c.exec in
     let g = at_loop.invariant.2 in
     let in_loop = at_loop_test.true in
     let known = pre.loaded in
-    let code = at_exec.ensures _ _ known.facts g.legal (here_at _ _ _ _ _ _ _ _ _ known _ _ _ _ g)
+    let code = c.in_ok-exec.ensures _ _ known.facts g.legal (here_at _ _ _ _ _ _ _ _ _ known _ _ _ _ g)
     (omega arith)
     (fits _ _ _ _ _ _ _ _ _ known _ _ _ _ g in_loop) (own _ _ _ _ _ _ _ _ _ known _ _ _ _ g in_loop _
     at_after.ensures.is)
@@ -146,7 +146,7 @@ loop-j-preserved-in-Move t c = let at_exec = c.exec in
       at_exec.auto.memory ∙ at_loop.invariant.0,
       at_loop.invariant.1,
       going_move _ _ _ _ _ _ _ _ _ known _ _ _ _ g in_loop
-          _ _ _ code at_note.ensures c.in-Move.is,
+          _ _ _ code at_note.ensures (ap Ok c.in-Move.is),
     )
 
 pub run-requires : goal.run-requires
@@ -159,13 +159,13 @@ run-requires t c = let at_exec = c.exec in
     let g = at_loop.invariant.2 in
     let in_loop = at_loop_test.true in
     let known = pre.loaded in
-    let code = at_exec.ensures _ _ known.facts g.legal (here_at _ _ _ _ _ _ _ _ _ known _ _ _ _ g)
+    let code = c.in_ok-exec.ensures _ _ known.facts g.legal (here_at _ _ _ _ _ _ _ _ _ known _ _ _ _ g)
     (omega arith)
     (fits _ _ _ _ _ _ _ _ _ known _ _ _ _ g in_loop) (own _ _ _ _ _ _ _ _ _ known _ _ _ _ g in_loop _
     at_after.ensures.is)
     (rw at_note.ensures (noted_loc _ _ _ _ _ _ _ _ _ known _ _ _ _ g in_loop)) in
     let low = at_loop.invariant.1 in
-    let n = nested _ _ _ _ _ _ _ _ _ known _ _ _ _ g in_loop _ _ at_loop.slots code _ c.in-Call.is in
+    let n = nested _ _ _ _ _ _ _ _ _ known _ _ _ _ g in_loop _ _ at_loop.slots code _ (ap Ok c.in-Call.is) in
     (omega arith, (known, (n.1, (n.0, rw at_note.ensures (simp length-set g.table)))))
 
 pub lay-requires-in-Call : goal.lay-requires-in-Call
@@ -190,7 +190,7 @@ loop-j-preserved t c = let at_run = c.run in
     let g = at_loop.invariant.2 in
     let in_loop = at_loop_test.true in
     let known = pre.loaded in
-    let code = at_exec.ensures _ _ known.facts g.legal (here_at _ _ _ _ _ _ _ _ _ known _ _ _ _ g)
+    let code = c.in_ok-exec.ensures _ _ known.facts g.legal (here_at _ _ _ _ _ _ _ _ _ known _ _ _ _ g)
     (omega arith)
     (fits _ _ _ _ _ _ _ _ _ known _ _ _ _ g in_loop) (own _ _ _ _ _ _ _ _ _ known _ _ _ _ g in_loop _
     at_after.ensures.is)
@@ -199,7 +199,7 @@ loop-j-preserved t c = let at_run = c.run in
     (let e = g.is_end in omega arith) in (
       at_run.auto.memory ∙ at_exec.auto.memory ∙ at_loop.invariant.0,
       at_loop.invariant.1,
-      going_call _ _ _ _ _ _ _ _ _ known _ _ _ _ g in_loop _ _ at_loop.slots code _ c.in-Call.is _ _
+      going_call _ _ _ _ _ _ _ _ _ known _ _ _ _ g in_loop _ _ at_loop.slots code _ (ap Ok c.in-Call.is) _ _
           c.in_ok-run-in-Call.ensures.memory_after c.lay-in-Call.ensures.slots_len_2 placed,
     )
 
@@ -215,7 +215,7 @@ returns-in_err-run-in-Call t c = let at_run = c.run in
     let g = at_loop.invariant.2 in
     let in_loop = at_loop_test.true in
     let known = pre.loaded in
-    let code = at_exec.ensures _ _ known.facts g.legal (here_at _ _ _ _ _ _ _ _ _ known _ _ _ _ g)
+    let code = c.in_ok-exec.ensures _ _ known.facts g.legal (here_at _ _ _ _ _ _ _ _ _ known _ _ _ _ g)
     (omega arith)
     (fits _ _ _ _ _ _ _ _ _ known _ _ _ _ g in_loop) (own _ _ _ _ _ _ _ _ _ known _ _ _ _ g in_loop _
     at_after.ensures.is)
@@ -224,13 +224,13 @@ returns-in_err-run-in-Call t c = let at_run = c.run in
     in record {
       slots_len_2 = c.in_err-run-in-Call.ensures.slots_len_2;
       memory_after = rw (handed_on _ c.from_residual-in_err-run-in-Call.ensures.1)
-          (b.ends_stopped _ _ (stops _ _ _ _ _ _ _ _ _ known _ _ _ _ g in_loop _ _ at_loop.slots code _ c.in-Call.is
+          (b.ends_stopped _ _ (stops _ _ _ _ _ _ _ _ _ known _ _ _ _ g in_loop _ _ at_loop.slots code _ (ap Ok c.in-Call.is)
           _ _
           c.in_err-run-in-Call.ensures.memory_after));
     }
 
-pub returns-in-Fail : goal.returns-in-Fail
-returns-in-Fail t c = let at_exec = c.exec in
+pub returns-in_err-exec : goal.returns-in_err-exec
+returns-in_err-exec t c = let at_exec = c.exec in
     let at_after = c.after-here in
     let at_note = c.note in
     let at_loop_test = c.loop-j-test in
@@ -240,15 +240,15 @@ returns-in-Fail t c = let at_exec = c.exec in
     let g = at_loop.invariant.2 in
     let in_loop = at_loop_test.true in
     let known = pre.loaded in
-    let code = at_exec.ensures _ _ known.facts g.legal (here_at _ _ _ _ _ _ _ _ _ known _ _ _ _ g)
+    let code = c.in_err-exec.ensures _ _ known.facts g.legal (here_at _ _ _ _ _ _ _ _ _ known _ _ _ _ g)
     (omega arith)
     (fits _ _ _ _ _ _ _ _ _ known _ _ _ _ g in_loop) (own _ _ _ _ _ _ _ _ _ known _ _ _ _ g in_loop _
     at_after.ensures.is)
     (rw at_note.ensures (noted_loc _ _ _ _ _ _ _ _ _ known _ _ _ _ g in_loop)) in
     let b = begun _ _ _ _ _ _ _ _ known pre.workable pre.steady refl c.in_ok-enter.ensures in record {
       slots_len_2 = rw at_note.ensures (simp length-set g.table);
-      memory_after = b.ends_stopped _ _
-          (going_fail _ _ _ _ _ _ _ _ _ known _ _ _ _ g in_loop _ _ at_loop.slots code _ c.in-Fail.is);
+      memory_after = rw (handed_on _ c.from_residual-in_err-exec.ensures.1)
+          (b.ends_stopped _ _ (going_fail _ _ _ _ _ _ _ _ _ known _ _ _ _ g in_loop _ _ at_loop.slots code _ refl));
     }
 
 pub returns : goal.returns
@@ -267,8 +267,8 @@ shape_of-memory-in_err-run-in-Call t c = let at_run = c.run in
     let at_enter = c.enter in
     at_run.auto.memory ∙ at_exec.auto.memory ∙ at_loop.invariant.0 ∙ at_enter.auto.memory
 
-pub shape_of-memory-in-Fail : goal.shape_of-memory-in-Fail
-shape_of-memory-in-Fail t c = let at_exec = c.exec in
+pub shape_of-memory-in_err-exec : goal.shape_of-memory-in_err-exec
+shape_of-memory-in_err-exec t c = let at_exec = c.exec in
     let at_loop = c.loop-j in
     let at_enter = c.enter in
     at_exec.auto.memory ∙ at_loop.invariant.0 ∙ at_enter.auto.memory
