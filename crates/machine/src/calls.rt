@@ -18,6 +18,7 @@ ghost use Rattle.machine.specs.Clauses.{turned, previewed, ready_of, Ending, Saf
 
 use crate::asked::asked;
 use crate::finish::{finish, write_sinks};
+use crate::places::Slots;
 use crate::run::run;
 use crate::undo::undo;
 use answer::{Answer, Refusal};
@@ -69,7 +70,7 @@ fn run_main(
         turned result memory.new space.new ≡ T.by_run p m rd sk (R.main_run p rd m) }
 {
     let u = used(memory);
-    let mut slots = [0u8; 256];
+    let mut slots = Slots::new();
     match run(program, facts, readings, memory, &mut slots, 1, MAIN_AT) {
         Ok(()) => complete(program, facts, memory, space),
         Err(w) => give_back(program, facts, memory, u, w),

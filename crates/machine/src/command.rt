@@ -16,7 +16,7 @@ ghost use Rattle.machine.specs.Clauses.{did, doing, Acts, Here, Placed, TimeFits
 ghost use Rattle.machine.specs.declared.Outcome.TheVariants.{Given};
 
 use crate::Outcome;
-use crate::places::operand;
+use crate::places::Slots;
 use image::{SLOTS_AT, pair, pair_within, put_pair, put_pair_within, reactor, turns};
 use program::{fact, mark_of};
 use value::Value;
@@ -170,21 +170,21 @@ pub(crate) fn sink(facts: &[u64; 64], memory: &mut [u32], o: u32, x: u8, a: usiz
 }
 
 // The third operand of primitive x, which lies at location l; it is looked at where x takes it.
-fn third(memory: &[u32], slots: &[u8; 256], o: u32, x: u8, l: u8) -> Value
+fn third(memory: &[u32], slots: &Slots, o: u32, x: u8, l: u8) -> Value
     ensures { let m = memory.now in
-        ((p : List ℕ) (a b : Value) → Placed p (M.reactor m o) slots.now l
+        ((p : List ℕ) (a b : Value) → Placed p (M.reactor m o) slots.now.before l
         → Op.primitive x a b result ≡ Op.primitive x a b (M.value_at p m o l)) }
 {
     if x != CHOOSE {
         return Value::blank();
     }
-    operand(memory, slots, o, l)
+    slots.operand(memory, o, l)
 }
 
 // 10 Primitive: x of the operands a, b and the one at location l.
 pub(crate) fn primitive(
     memory: &mut [u32],
-    slots: &[u8; 256],
+    slots: &Slots,
     o: u32,
     here: usize,
     x: u8,
@@ -194,7 +194,7 @@ pub(crate) fn primitive(
 ) -> Outcome
     requires here_in_bounds { here + 1 < length memory.old }
     requires a_le_here { (a ≤ here) × (b ≤ here) }
-    ensures { let m = memory.old in let t = slots.now in
+    ensures { let m = memory.old in let t = slots.now.before in
         ((p : List ℕ) (h i j k : ℕ) → a ≡ M.slot p m o j → b ≡ M.slot p m o k → Placed p (M.reactor m o) t l
         → Here p m o i here → Acts p h m o i (C.gives (C.primitive x j k l)) (Ok result) memory.new) }
 {

@@ -12,7 +12,7 @@ use crate::Outcome;
 use crate::allocate::{alloc_mono, alloc_poly};
 use crate::cells::{fetch, keep};
 use crate::command::{constant, consume, global, of_kind, primitive, react, sink, supply};
-use crate::places::slot_index;
+use crate::places::Slots;
 use answer::Refusal;
 use image::put_pair;
 use program::{Command, bytes_within};
@@ -78,26 +78,26 @@ pub(crate) fn exec(
     facts: &[u64; 64],
     readings: &[u32],
     memory: &mut [u32],
-    slots: &[u8; 256],
+    slots: &Slots,
     h: u8,
     o: u32,
     here: usize,
     at: usize,
 ) -> Result<Outcome, Refusal>
     requires at_in_bounds { at + 8 ≤ length program.now }
-    requires reaches { Reaches slots.now o here (length memory.old) (C.decode (C.bytes_at program.now at)) }
+    requires reaches { Reaches slots.now.before o here (length memory.old) (C.decode (C.bytes_at program.now at)) }
     requires workable { Workable memory.old }
     ensures { let p = program.now in let m = memory.old in let rd = readings.now in
         ((r i : ℕ) → Facts p facts.now → r < B.reactors p
         → at ≡ B.command_at p r i
         → B.commands_d p r ≤ i → Fits p r m o i → Here p m o i here
-        → PlacedTo p r slots.now (L.command_loc p r i + 1)
+        → PlacedTo p r slots.now.before (L.command_loc p r i + 1)
         → did result memory.new ≡ doing p rd h m o i (C.cmd_of p r i)) }
 {
     let c = bytes_within(program, at);
     let code = c.code;
-    let a = slot_index(slots, o, c.a);
-    let b = slot_index(slots, o, c.b);
+    let a = slots.index(o, c.a);
+    let b = slots.index(o, c.b);
     match code {
         Command::CONSTANT => Ok(constant(memory, here, c.x, c.v())),
         Command::GLOBAL => Ok(global(readings, memory, here, c.x)),

@@ -1,6 +1,6 @@
 // 6.3 to 6.6 The run of a deployment. One that is not wired carries out D first; at a React a nested one
 // runs whole. The run calls itself for the nested one, and 64 less the depth falls.
-ghost use Rattle.std.specs.Prelude.{ℕ, suc, ◌+◌, ◌-◌, ◌<◌, ◌≡◌, List, length, Ok};
+ghost use Rattle.std.specs.Prelude.{ℕ, suc, ◌+◌, ◌-◌, ◌<◌, ◌≡◌, List, Ok};
 ghost use Rattle.program.specs.Bytes as B;
 ghost use Rattle.program.specs.Clauses.{Tells};
 ghost use Rattle.image.specs.Memory as M;
@@ -10,7 +10,7 @@ ghost use Rattle.machine.specs.Clauses.{ran_as, Workable, Declared, Opened, Load
 
 use crate::Outcome;
 use crate::exec::{declare, exec};
-use crate::places::{after, lay, note};
+use crate::places::{Slots, after};
 use answer::Refusal;
 use image::{reactor, set_wired, wired};
 use program::{Counts, bytes_within, fact};
@@ -77,16 +77,14 @@ pub(crate) fn run(
     facts: &[u64; 64],
     readings: &[u32],
     memory: &mut [u32],
-    slots: &mut [u8; 256],
+    slots: &mut Slots,
     h: u8,
     o: u32,
 ) -> Result<(), Refusal>
     requires loaded { Loaded program.now facts.now }
     requires workable { Workable memory.old }
     requires steady { Steady program.now readings.now (65 - h) h memory.old o }
-    requires slots_len { length slots.old ≡ 256 }
-    ensures slots_len_2 { length slots.new ≡ 256 }
-    ensures memory_after { let p = program.now in let m = memory.old in let rd = readings.now in
+    ensures { let p = program.now in let m = memory.old in let rd = readings.now in
         ran_as result memory.new ≡ R.run_of (65 - h) p rd h m o }
 {
     let counts = fact(facts, reactor(memory, o));
@@ -94,11 +92,11 @@ pub(crate) fn run(
     let first = counts.first() as u8;
     let at = counts.at() as usize + 8 * (counts.commands_d() as usize);
     let end = counts.commands_r();
-    lay(program, slots, at, first, 0);
+    slots.lay(program, at, first, 0);
     let mut n = first;
     let mut j: u8 = 0;
     while j < end {
-        note(slots, first + j, n);
+        slots.note(first + j, n);
         let here = after(o, n);
         let i = at + 8 * (j as usize);
         j += 1;
@@ -107,7 +105,7 @@ pub(crate) fn run(
             Outcome::Move => {}
             Outcome::Call(d) => {
                 run(program, facts, readings, memory, slots, h + 1, d)?;
-                lay(program, slots, at, first, j)
+                slots.lay(program, at, first, j)
             }
         }
     }

@@ -7,25 +7,25 @@ use Rattle.machine.proofs.calls.run_main.Goals as goal
 
 pub run-requires : goal.run-requires
 run-requires c = let pre = c.requires in
-    record { loaded = pre.loaded; workable = workable pre.safe pre.memory_bound; steady = pre.steady; slots_len = refl }
+    record { loaded = pre.loaded; workable = workable pre.safe pre.memory_bound; steady = pre.steady }
 
 pub complete-requires : goal.complete-requires
 complete-requires c = let at_run = c.run in
     let pre = c.requires in
-    let e = rw c.in-Ok.is at at_run.ensures.memory_after in record { loaded = pre.loaded; ending = pre.safe.ends _ (run_whole _ _ _ _ e); time_fits = clock_after _ _ _ _ (workable pre.safe pre.memory_bound) e; program_in_bounds = pre.program_in_bounds }
+    let e = rw c.in-Ok.is at at_run.ensures in record { loaded = pre.loaded; ending = pre.safe.ends _ (run_whole _ _ _ _ e); time_fits = clock_after _ _ _ _ (workable pre.safe pre.memory_bound) e; program_in_bounds = pre.program_in_bounds }
 
 pub give_back-requires : goal.give_back-requires
 give_back-requires c = let at_run = c.run in
     let at_used = c.used-u in
     let pre = c.requires in
-    let e = run_stopped _ _ _ _ _ (rw c.in-Err.is at at_run.ensures.memory_after) in
+    let e = run_stopped _ _ _ _ _ (rw c.in-Err.is at at_run.ensures) in
     record { loaded = pre.loaded; tiling = rw at_used.ensures (pre.safe.stops _ _ e) }
 
 pub returns-in-Ok : goal.returns-in-Ok
 unfolding by_run turned
 returns-in-Ok c = let at_complete = c.complete in
     let at_run = c.run in
-    let e = rw c.in-Ok.is at at_run.ensures.memory_after in
+    let e = rw c.in-Ok.is at at_run.ensures in
     rw (run_whole _ _ _ _ e) at_complete.ensures
 
 pub returns-in-Err : goal.returns-in-Err
@@ -34,6 +34,6 @@ returns-in-Err c = let at_give_back = c.give_back in
     let at_run = c.run in
     let at_used = c.used-u in
     let pre = c.requires in
-    let e = run_stopped _ _ _ _ _ (rw c.in-Err.is at at_run.ensures.memory_after) in
+    let e = run_stopped _ _ _ _ _ (rw c.in-Err.is at at_run.ensures) in
     rw e (same_turned _ at_give_back.ensures.is
     (at_give_back.ensures.words ∙ undone _ _ _ _ at_used.ensures (pre.safe.undoes _ _ e)))

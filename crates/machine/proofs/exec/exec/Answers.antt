@@ -33,7 +33,7 @@ consume-requires c = let at_bytes_within = c.bytes_within-c in
     let pre = c.requires in
     let r = reach _ _ _ _ (as_consume (λ (d : Cmd). d) _ c.in-7.is refl) at_bytes_within.ensures
     pre.reaches in
-    record { here_in_bounds = r.0; b_le_here = omega (arith, r.1, c.slot_index-b.ensures.at) }
+    record { here_in_bounds = r.0; b_le_here = omega (arith, r.1, c.index-b.ensures.at) }
 
 pub alloc_poly-requires : goal.alloc_poly-requires
 alloc_poly-requires c = let at_bytes_within = c.bytes_within-c in
@@ -41,11 +41,11 @@ alloc_poly-requires c = let at_bytes_within = c.bytes_within-c in
     let r = reach _ _ _ _ (as_poly (λ (d : Cmd). d) _ c.in-9.is refl) at_bytes_within.ensures pre.reaches in record {
       here_in_bounds = r.0;
       a_le_here = (
-        omega (arith, r.1, c.slot_index-a.ensures.at),
+        omega (arith, r.1, c.index-a.ensures.at),
         omega (
           arith,
           r.2,
-          c.slot_index-b.ensures.at,
+          c.index-b.ensures.at,
         ),
       );
       memory_len_bound = pre.workable.few;
@@ -58,11 +58,11 @@ primitive-requires c = let at_bytes_within = c.bytes_within-c in
     pre.reaches in record {
       here_in_bounds = r.0;
       a_le_here = (
-        omega (arith, r.1, c.slot_index-a.ensures.at),
+        omega (arith, r.1, c.index-a.ensures.at),
         omega (
           arith,
           r.2,
-          c.slot_index-b.ensures.at,
+          c.index-b.ensures.at,
         ),
       );
     }
@@ -71,13 +71,13 @@ pub fetch-requires : goal.fetch-requires
 fetch-requires c = let at_bytes_within = c.bytes_within-c in
     let pre = c.requires in
     let r = reach _ _ _ _ (as_fetch (λ (d : Cmd). d) _ c.in-12.is refl) at_bytes_within.ensures pre.reaches in
-    record { here_in_bounds = r.0; b_le_here = omega (arith, r.1, c.slot_index-b.ensures.at) }
+    record { here_in_bounds = r.0; b_le_here = omega (arith, r.1, c.index-b.ensures.at) }
 
 pub keep-requires : goal.keep-requires
 keep-requires c = let at_bytes_within = c.bytes_within-c in
     let pre = c.requires in
     let r = reach _ _ _ _ (as_keep (λ (d : Cmd). d) _ c.in-13.is refl) at_bytes_within.ensures pre.reaches in
-    record { here_in_bounds = r.0; a_le_here = omega (arith, r.1, c.slot_index-a.ensures.at) }
+    record { here_in_bounds = r.0; a_le_here = omega (arith, r.1, c.index-a.ensures.at) }
 
 pub returns-in-3 : goal.returns-in-3
 returns-in-3 c = let at_constant = c.constant in
@@ -98,67 +98,67 @@ returns-in-4 c = let at_global = c.global in
 
 pub returns-in-5 : goal.returns-in-5
 returns-in-5 c = let at_supply = c.supply in
-    let at_slot2 = c.slot_index-b in
-    let at_slot = c.slot_index-a in
+    let at_slot2 = c.index-b in
+    let at_slot = c.index-a in
     let at_bytes_within = c.bytes_within-c in
     let args = c.args in
     λ r i f lt at in_r fit here placed.
     let is = command_at_lem _ r i _ at_bytes_within.ensures at in
     let cmd = as_supply (λ (d : Cmd). d) _ c.in-5.is refl ∙ is in
-    let t = args.slots.now in
+    let t = args.slots.now.before in
     let up = subst (ReadsUpTo (command_loc _ r i)) (sym cmd) fit.reads in
     let a = at_slot.ensures.is _ _ (reads_at _ _ t _ r _ _ fit.same placed up.0) in
     let b = at_slot2.ensures.is _ _ (reads_at _ _ t _ r _ _ fit.same placed up.1) in
     rw (← cmd) (at_supply.ensures _ _ _ i _ _ a b (fit.supplies _ _ _ (sym cmd)) _)
 
 pub returns-in-6 : goal.returns-in-6
-returns-in-6 c = let at_slot2 = c.slot_index-b in
+returns-in-6 c = let at_slot2 = c.index-b in
     let at_bytes_within = c.bytes_within-c in
     let args = c.args in
     λ r i f lt at in_r fit here placed.
     let is = command_at_lem _ r i _ at_bytes_within.ensures at in
     let cmd = as_react (λ (d : Cmd). d) _ c.in-6.is refl ∙ is in
-    let t = args.slots.now in
+    let t = args.slots.now.before in
     let up = subst (ReadsUpTo (command_loc _ r i)) (sym cmd) fit.reads in
     let b = at_slot2.ensures.is _ _ (reads_at _ _ t _ r _ _ fit.same placed up) in
     rw (← cmd) (c.react.ensures _ _ _ i _ b _)
 
 pub returns-in-7 : goal.returns-in-7
 returns-in-7 c = let at_consume = c.consume in
-    let at_slot2 = c.slot_index-b in
+    let at_slot2 = c.index-b in
     let at_bytes_within = c.bytes_within-c in
     let args = c.args in
     λ r i f lt at in_r fit here placed.
     let is = command_at_lem _ r i _ at_bytes_within.ensures at in
     let cmd = as_consume (λ (d : Cmd). d) _ c.in-7.is refl ∙ is in
-    let t = args.slots.now in
+    let t = args.slots.now.before in
     let up = subst (ReadsUpTo (command_loc _ r i)) (sym cmd) fit.reads in
     let b = at_slot2.ensures.is _ _ (reads_at _ _ t _ r _ _ fit.same placed up) in
     rw (← cmd) (at_consume.ensures _ _ _ i _ f b here (fit.consumes _ _ (sym cmd)) _)
 
 pub returns-in-8 : goal.returns-in-8
 returns-in-8 c = let at_sink = c.sink in
-    let at_slot = c.slot_index-a in
+    let at_slot = c.index-a in
     let at_bytes_within = c.bytes_within-c in
     let args = c.args in
     λ r i f lt at in_r fit here placed.
     let is = command_at_lem _ r i _ at_bytes_within.ensures at in
     let cmd = as_sink (λ (d : Cmd). d) _ c.in-8.is refl ∙ is in
-    let t = args.slots.now in
+    let t = args.slots.now.before in
     let up = subst (ReadsUpTo (command_loc _ r i)) (sym cmd) fit.reads in
     let a = at_slot.ensures.is _ _ (reads_at _ _ t _ r _ _ fit.same placed up) in
     rw (← cmd) (at_sink.ensures _ _ i _ f (omega (arith, fit.same, lt)) a _)
 
 pub returns-in-9 : goal.returns-in-9
 returns-in-9 c = let at_alloc_poly = c.alloc_poly in
-    let at_slot2 = c.slot_index-b in
-    let at_slot = c.slot_index-a in
+    let at_slot2 = c.index-b in
+    let at_slot = c.index-a in
     let at_bytes_within = c.bytes_within-c in
     let args = c.args in
     λ r i f lt at in_r fit here placed.
     let is = command_at_lem _ r i _ at_bytes_within.ensures at in
     let cmd = as_poly (λ (d : Cmd). d) _ c.in-9.is refl ∙ is in
-    let t = args.slots.now in
+    let t = args.slots.now.before in
     let up = subst (ReadsUpTo (command_loc _ r i)) (sym cmd) fit.reads in
     let a = at_slot.ensures.is _ _ (reads_at _ _ t _ r _ _ fit.same placed up.0) in
     let b = at_slot2.ensures.is _ _ (reads_at _ _ t _ r _ _ fit.same placed up.1) in
@@ -167,14 +167,14 @@ returns-in-9 c = let at_alloc_poly = c.alloc_poly in
 
 pub returns-in-10 : goal.returns-in-10
 returns-in-10 c = let at_primitive = c.primitive in
-    let at_slot2 = c.slot_index-b in
-    let at_slot = c.slot_index-a in
+    let at_slot2 = c.index-b in
+    let at_slot = c.index-a in
     let at_bytes_within = c.bytes_within-c in
     let args = c.args in
     λ r i f lt at in_r fit here placed.
     let is = command_at_lem _ r i _ at_bytes_within.ensures at in
     let cmd = as_primitive (λ (d : Cmd). d) _ c.in-10.is refl ∙ is in
-    let t = args.slots.now in
+    let t = args.slots.now.before in
     let up = subst (ReadsUpTo (command_loc _ r i)) (sym cmd) fit.reads in
     let a = at_slot.ensures.is _ _ (reads_at _ _ t _ r _ _ fit.same placed up.0) in
     let b = at_slot2.ensures.is _ _ (reads_at _ _ t _ r _ _ fit.same placed up.1) in
@@ -183,26 +183,26 @@ returns-in-10 c = let at_primitive = c.primitive in
 
 pub returns-in-12 : goal.returns-in-12
 returns-in-12 c = let at_fetch = c.fetch in
-    let at_slot2 = c.slot_index-b in
+    let at_slot2 = c.index-b in
     let at_bytes_within = c.bytes_within-c in
     let args = c.args in
     λ r i f lt at in_r fit here placed.
     let is = command_at_lem _ r i _ at_bytes_within.ensures at in
     let cmd = as_fetch (λ (d : Cmd). d) _ c.in-12.is refl ∙ is in
-    let t = args.slots.now in
+    let t = args.slots.now.before in
     let up = subst (ReadsUpTo (command_loc _ r i)) (sym cmd) fit.reads in
     let b = at_slot2.ensures.is _ _ (reads_at _ _ t _ r _ _ fit.same placed up) in
     rw (← cmd) (at_fetch.ensures _ _ _ i _ b here _)
 
 pub returns-in-13 : goal.returns-in-13
 returns-in-13 c = let at_keep = c.keep in
-    let at_slot = c.slot_index-a in
+    let at_slot = c.index-a in
     let at_bytes_within = c.bytes_within-c in
     let args = c.args in
     λ r i f lt at in_r fit here placed.
     let is = command_at_lem _ r i _ at_bytes_within.ensures at in
     let cmd = as_keep (λ (d : Cmd). d) _ c.in-13.is refl ∙ is in
-    let t = args.slots.now in
+    let t = args.slots.now.before in
     let up = subst (ReadsUpTo (command_loc _ r i)) (sym cmd) fit.reads in
     let a = at_slot.ensures.is _ _ (reads_at _ _ t _ r _ _ fit.same placed up.0) in
     rw (← cmd) (at_keep.ensures _ _ _ i _ _ a here _)

@@ -19,10 +19,8 @@ enter-requires t c = let at_reactor = c.reactor in
     record { loaded = pre.loaded; o_bound = low; tells = told pre.loaded at_reactor.ensures low c.fact-counts.ensures.known; workable = pre.workable }
 
 pub returns-in_err-enter : goal.returns-in_err-enter
-returns-in_err-enter t c = let pre = c.requires in record {
-  slots_len_2 = pre.slots_len;
-  memory_after = rw (handed_on _ c.from_residual.ensures.1) (stopped_there _ _ _ _ _ _ _ _ pre.steady refl c.in_err-enter.ensures);
-}
+returns-in_err-enter t c =
+    rw (handed_on _ c.from_residual.ensures.1) (stopped_there _ _ _ _ _ _ _ _ c.requires.steady refl c.in_err-enter.ensures)
 
 pub overflow_cast-first : goal.overflow_cast-first
 unfolding commands_in
@@ -52,7 +50,7 @@ lay-requires t c = let at_declared = c.commands_d in
     let declared = at_declared.ensures _ _ tells in
     let most = pre.loaded.short _ b.legal in
     let inside = pre.loaded.inside _ b.legal in
-    record { n_in_bounds = omega arith; n_bound = omega arith; slots_len = pre.slots_len }
+    record { n_in_bounds = omega arith; n_bound = omega arith }
 
 pub loop-j-init : goal.loop-j-init
 loop-j-init t c = let at_running = c.commands_r-end in
@@ -73,7 +71,7 @@ loop-j-init t c = let at_running = c.commands_r-end in
       b.deep,
       goes _ _ _ _ _ _ _ _ _ _ _ (rw b.same b.legal) (rw b.same first) (rw b.same (omega arith))
           (rw b.same end)
-          c.lay.ensures.slots_len_2 (rw b.same (c.lay.ensures.fact _ (lay_at _ _ _ _ at declared) first (omega arith)))
+          c.lay.new.self.whole (rw b.same (c.lay.ensures _ (lay_at _ _ _ _ at declared) first (omega arith)))
           b.left b.wired,
     )
 
@@ -165,8 +163,8 @@ run-requires t c = let at_exec = c.exec in
     at_after.ensures.is)
     (rw at_note.ensures (noted_loc _ _ _ _ _ _ _ _ _ known _ _ _ _ g in_loop)) in
     let low = at_loop.invariant.1 in
-    let n = nested _ _ _ _ _ _ _ _ _ known _ _ _ _ g in_loop _ _ at_loop.slots code _ (ap Ok c.in-Call.is) in
-    (omega arith, (known, (n.1, (n.0, rw at_note.ensures (simp length-set g.table)))))
+    let n = nested _ _ _ _ _ _ _ _ _ known _ _ _ _ g in_loop _ _ at_loop.slots.before code _ (ap Ok c.in-Call.is) in
+    (omega arith, (known, (n.1, n.0)))
 
 pub lay-requires-in-Call : goal.lay-requires-in-Call
 lay-requires-in-Call t c = let at_run = c.run in
@@ -177,7 +175,7 @@ lay-requires-in-Call t c = let at_run = c.run in
     let inside = all_inside _ _ _ _ _ _ _ _ _ pre.loaded _ _ _ _ g in
     let most = short _ _ _ _ _ _ _ _ _ pre.loaded _ _ _ _ g in
     let in_loop = at_loop_test.true in
-    record { n_in_bounds = omega arith; n_bound = omega arith; slots_len = c.in_ok-run-in-Call.ensures.slots_len_2 }
+    record { n_in_bounds = omega arith; n_bound = omega arith }
 
 pub loop-j-preserved : goal.loop-j-preserved
 loop-j-preserved t c = let at_run = c.run in
@@ -195,12 +193,12 @@ loop-j-preserved t c = let at_run = c.run in
     (fits _ _ _ _ _ _ _ _ _ known _ _ _ _ g in_loop) (own _ _ _ _ _ _ _ _ _ known _ _ _ _ g in_loop _
     at_after.ensures.is)
     (rw at_note.ensures (noted_loc _ _ _ _ _ _ _ _ _ known _ _ _ _ g in_loop)) in
-    let placed = c.lay-in-Call.ensures.fact _ (begins_at _ _ _ _ _ _ _ _ _ known _ _ _ _ g) g.is_first
+    let placed = c.lay-in-Call.ensures _ (begins_at _ _ _ _ _ _ _ _ _ known _ _ _ _ g) g.is_first
     (let e = g.is_end in omega arith) in (
       at_run.auto.memory ∙ at_exec.auto.memory ∙ at_loop.invariant.0,
       at_loop.invariant.1,
-      going_call _ _ _ _ _ _ _ _ _ known _ _ _ _ g in_loop _ _ at_loop.slots code _ (ap Ok c.in-Call.is) _ _
-          c.in_ok-run-in-Call.ensures.memory_after c.lay-in-Call.ensures.slots_len_2 placed,
+      going_call _ _ _ _ _ _ _ _ _ known _ _ _ _ g in_loop _ _ at_loop.slots.before code _ (ap Ok c.in-Call.is) _ _
+          c.in_ok-run-in-Call.ensures c.lay-in-Call.new.self.whole placed,
     )
 
 pub returns-in_err-run-in-Call : goal.returns-in_err-run-in-Call
@@ -220,14 +218,10 @@ returns-in_err-run-in-Call t c = let at_run = c.run in
     (fits _ _ _ _ _ _ _ _ _ known _ _ _ _ g in_loop) (own _ _ _ _ _ _ _ _ _ known _ _ _ _ g in_loop _
     at_after.ensures.is)
     (rw at_note.ensures (noted_loc _ _ _ _ _ _ _ _ _ known _ _ _ _ g in_loop)) in
-    let b = begun _ _ _ _ _ _ _ _ known pre.workable pre.steady refl c.in_ok-enter.ensures
-    in record {
-      slots_len_2 = c.in_err-run-in-Call.ensures.slots_len_2;
-      memory_after = rw (handed_on _ c.from_residual-in_err-run-in-Call.ensures.1)
-          (b.ends_stopped _ _ (stops _ _ _ _ _ _ _ _ _ known _ _ _ _ g in_loop _ _ at_loop.slots code _ (ap Ok c.in-Call.is)
-          _ _
-          c.in_err-run-in-Call.ensures.memory_after));
-    }
+    let b = begun _ _ _ _ _ _ _ _ known pre.workable pre.steady refl c.in_ok-enter.ensures in
+    rw (handed_on _ c.from_residual-in_err-run-in-Call.ensures.1)
+    (b.ends_stopped _ _ (stops _ _ _ _ _ _ _ _ _ known _ _ _ _ g in_loop _ _ at_loop.slots.before code _ (ap Ok c.in-Call.is)
+    _ _ c.in_err-run-in-Call.ensures))
 
 pub returns-in_err-exec : goal.returns-in_err-exec
 returns-in_err-exec t c = let at_exec = c.exec in
@@ -245,11 +239,9 @@ returns-in_err-exec t c = let at_exec = c.exec in
     (fits _ _ _ _ _ _ _ _ _ known _ _ _ _ g in_loop) (own _ _ _ _ _ _ _ _ _ known _ _ _ _ g in_loop _
     at_after.ensures.is)
     (rw at_note.ensures (noted_loc _ _ _ _ _ _ _ _ _ known _ _ _ _ g in_loop)) in
-    let b = begun _ _ _ _ _ _ _ _ known pre.workable pre.steady refl c.in_ok-enter.ensures in record {
-      slots_len_2 = rw at_note.ensures (simp length-set g.table);
-      memory_after = rw (handed_on _ c.from_residual-in_err-exec.ensures.1)
-          (b.ends_stopped _ _ (going_fail _ _ _ _ _ _ _ _ _ known _ _ _ _ g in_loop _ _ at_loop.slots code _ refl));
-    }
+    let b = begun _ _ _ _ _ _ _ _ known pre.workable pre.steady refl c.in_ok-enter.ensures in
+    rw (handed_on _ c.from_residual-in_err-exec.ensures.1)
+    (b.ends_stopped _ _ (going_fail _ _ _ _ _ _ _ _ _ known _ _ _ _ g in_loop _ _ at_loop.slots.before code _ refl))
 
 pub returns : goal.returns
 returns t c = let at_enter = c.enter in
@@ -258,7 +250,7 @@ returns t c = let at_enter = c.enter in
     let g = c.loop-j.invariant.2 in
     let past = c.loop-j-test.false in
     let upto = g.upto in
-    record { slots_len_2 = g.table; memory_after = b.ends_whole _ (whole _ _ _ _ _ _ _ _ _ pre.loaded _ _ _ _ g (omega arith)) }
+    b.ends_whole _ (whole _ _ _ _ _ _ _ _ _ pre.loaded _ _ _ _ g (omega arith))
 
 pub shape_of-memory-in_err-run-in-Call : goal.shape_of-memory-in_err-run-in-Call
 shape_of-memory-in_err-run-in-Call t c = let at_run = c.run in

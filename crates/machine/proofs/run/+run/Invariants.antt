@@ -4,7 +4,7 @@ use Rattle.machine.proofs.run.+run.Given as goal
 
 abbrev pub invariant-loop-j : goal.invariant-loop-j
 invariant-loop-j l =
-    (length l.memory ≡ length l.initial.memory) × (l.h ≤ 64) × Going l.program l.facts l.readings l.h l.o l.initial.memory l.first l.at l.end l.memory l.slots l.n l.j
+    (length l.memory ≡ length l.initial.memory) × (l.h ≤ 64) × Going l.program l.facts l.readings l.h l.o l.initial.memory l.first l.at l.end l.memory l.slots.before l.n l.j
 
 abbrev pub decreases-loop-j : goal.decreases-loop-j
 decreases-loop-j l = l.end - l.j

@@ -1,6 +1,0 @@
-use Rattle.image.specs.Memory.{content, mark, value_at}
-use Rattle.machine.proofs.places.operand.Goals as goal
-
-pub returns : goal.returns
-unfolding value_at mark content
-returns c = λ p e. rw (← c.slot_index-i.ensures.is p _ e) c.pair.ensures
