@@ -10,8 +10,8 @@ ghost use Rattle.machine.specs.Clauses.{Loaded};
 
 use crate::clear::Clear;
 use crate::passes::Change;
-use image::{next, put_pair, reactor, word};
-use program::{Command, byte, fact, reactors};
+use image::{counts_at, next, put_pair, word};
+use program::{Command, byte, reactors};
 use value::Value;
 
 // The first of the chain from `head` that lies below u.
@@ -65,7 +65,7 @@ fn slots_back(program: &[u8], facts: &[u64; 64], memory: &mut [u32], u: u32, o: 
     ensures { let p = program.now in let m = memory.old in
         memory.new ≡ U.slots_back p u (B.commands_d p (M.reactor m o)) 0 m o }
 {
-    let counts = fact(facts, reactor(memory, o));
+    let counts = counts_at(facts, memory, o);
     let at = counts.at() as usize;
     let first = o as usize + counts.slots_d() as usize;
     for j in 0..counts.commands_d() as usize {

@@ -7,8 +7,7 @@ ghost use Rattle.remus.specs.Clear as E;
 ghost use Rattle.machine.specs.Clauses.{Loaded};
 
 use crate::passes::Change;
-use image::{SLOTS_AT, reactor, wipe};
-use program::fact;
+use image::{SLOTS_AT, counts_at, wipe};
 
 // Zeroes all slots but D slots of one deployment's words; D slots begin at `first` and end before `end`.
 fn clear_words(words: &mut [u32], first: usize, end: usize)
@@ -31,7 +30,7 @@ impl Change for Clear {
     ghost makes = { λ self p m o. E.clear_one p m o };
 
     fn change(&self, _program: &[u8], facts: &[u64; 64], memory: &mut [u32], o: u32) {
-        let counts = fact(facts, reactor(memory, o));
+        let counts = counts_at(facts, memory, o);
         let first = counts.slots_d() as usize;
         let end = counts.slots_r() as usize;
         let from = o as usize;

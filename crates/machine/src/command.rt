@@ -17,8 +17,8 @@ ghost use Rattle.machine.specs.declared.Outcome.TheVariants.{Given};
 
 use crate::Outcome;
 use crate::places::Slots;
-use image::{SLOTS_AT, pair, pair_within, put_pair, put_pair_within, reactor, turns};
-use program::{fact, mark_of};
+use image::{SLOTS_AT, counts_at, pair, pair_within, put_pair, put_pair_within, turns};
+use program::mark_of;
 use value::Value;
 
 // The primitive that takes a third operand.
@@ -128,8 +128,7 @@ pub(crate) fn sink_index(facts: &[u64; 64], memory: &[u32], d: u32, x: u8) -> us
         → result ≡ M.slot p m d (L.sink_loc p (M.reactor m d) x)) }
     ensures small { result < 8589934592 }
 {
-    let r = reactor(memory, d);
-    d as usize + fact(facts, r).sink_at(x) as usize
+    d as usize + counts_at(facts, memory, d).sink_at(x) as usize
 }
 
 // 7 Consume: sink x of the deployment at b, blank where there is none.

@@ -10,7 +10,7 @@ ghost use Rattle.machine.specs.Clauses.{has_cell, has_cells, Remembering, Loaded
 
 use crate::cells::kept;
 use crate::passes::Change;
-use image::{SLOTS_AT, pair, put_pair, reactor};
+use image::{SLOTS_AT, counts_at, pair, put_pair};
 use program::{Command, Counts, byte, bytes_within, fact, reactors, result_of};
 use value::Value;
 
@@ -86,7 +86,7 @@ impl Change for Keep {
     ghost makes = { λ self p m o. Cells.keep_one p m o };
 
     fn change(&self, program: &[u8], facts: &[u64; 64], memory: &mut [u32], o: u32) {
-        let counts = fact(facts, reactor(memory, o));
+        let counts = counts_at(facts, memory, o);
         if has_cell(program, counts) {
             keep_each(program, memory, counts, o);
         }

@@ -6,8 +6,7 @@ ghost use Rattle.image.specs.Passes as P;
 ghost use Rattle.image.specs.Clauses.{Tiling};
 ghost use Rattle.machine.specs.Clauses.{Loaded, Local};
 
-use image::{MAIN_AT, reactor};
-use program::fact;
+use image::{MAIN_AT, counts_at};
 
 // What a pass does to each deployment.
 pub(crate) trait Change {
@@ -26,7 +25,8 @@ pub(crate) trait Change {
         ensures local { Local program.now memory.old o memory.new };
 }
 
-// The change of all of them.
+// The change of all of them. Each kind has a loop of its own, which stays out of the turn's other code.
+#[inline(never)]
 pub(crate) fn pass_over<C: Change>(
     change: &C,
     program: &[u8],
@@ -43,7 +43,7 @@ pub(crate) fn pass_over<C: Change>(
     let mut a = MAIN_AT;
     while a < u {
         let o = a;
-        a = o + fact(facts, reactor(memory, o)).size();
+        a = o + counts_at(facts, memory, o).size();
         change.change(program, facts, memory, o);
     }
 }

@@ -2,7 +2,7 @@ use Rattle.std.specs.Prelude.{◌-◌, ◌≡◌, refl}
 use Rattle.std.proofs.Common.{◌∙◌, arith}
 use Rattle.image.specs.Memory.{reactor}
 use Rattle.machine.proofs.Passing.{slots_done, slots_next}
-use Rattle.machine.proofs.FactLaws.{code_at, slot_row, told}
+use Rattle.machine.proofs.FactLaws.{code_at, slot_row}
 use Rattle.program.specs.Bytes.{commands_d}
 use Rattle.program.specs.Command.{bytes_of, cmd_of}
 use Rattle.program.specs.Location.{command_loc}
@@ -10,11 +10,9 @@ use Rattle.machine.proofs.back.slots_back.Goals as goal
 
 pub loop-j-init : goal.loop-j-init
 loop-j-init c = let pre = c.requires in
-    let at_reactor = c.reactor in
-    let at_fact = c.fact-counts in
     let at_declared = c.commands_d-j-end in
     let args = c.args in
-    let known = told pre.loaded at_reactor.ensures pre.o_bound at_fact.ensures.known in
+    let known = c.counts_at-counts.ensures.known _ pre.loaded.facts pre.o_bound in
     let e : at_declared.result - 0 ≡ commands_d args.program.now (reactor args.memory.now args.o) = omega
     (arith, at_declared.ensures _ _ known) in
     (refl, refl, rw e)
@@ -22,8 +20,6 @@ loop-j-init c = let pre = c.requires in
 pub loop-j-preserved : goal.loop-j-preserved
 unfolding cmd_of
 loop-j-preserved c = let pre = c.requires in
-    let at_reactor = c.reactor in
-    let at_fact = c.fact-counts in
     let at_declared = c.commands_d-j-end in
     let at_loop = c.loop-j in
     let args = c.args in
@@ -32,7 +28,7 @@ loop-j-preserved c = let pre = c.requires in
     let at_byte = c.byte in
     let at_slot_back = c.slot_back in
     let at_loop_test = c.loop-j-test in
-    let known = told pre.loaded at_reactor.ensures pre.o_bound at_fact.ensures.known in
+    let known = c.counts_at-counts.ensures.known _ pre.loaded.facts pre.o_bound in
     let n = at_declared.ensures _ _ known in
     let same = at_loop.invariant.1 in
     let r = reactor args.memory.now args.o in

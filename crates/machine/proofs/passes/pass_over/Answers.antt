@@ -2,7 +2,6 @@ use Rattle.std.specs.Prelude.{refl}
 use Rattle.std.proofs.Common.{◌∙◌, arith}
 use Rattle.image.specs.Memory.{size_at, starts_below}
 use Rattle.machine.proofs.Passing.{pass_done, pass_inside, pass_legal, pass_next, pass_rises, pass_within}
-use Rattle.machine.proofs.FactLaws.{told}
 use Rattle.machine.proofs.passes.pass_over.Goals as goal
 
 pub loop-a-init : goal.loop-a-init
@@ -15,12 +14,10 @@ overflow_add-a g c = let at_loop = c.loop-a in
     let at_loop_test = c.loop-a-test in
     let at_size = c.size in
     let pre = c.requires in
-    let at_reactor = c.reactor in
-    let at_fact = c.fact in
     let tiling = at_loop.invariant.1 in
     let in_loop = at_loop_test.true in
     let legal = pass_legal _ _ _ _ tiling in_loop in
-    let size = at_size.ensures.is _ _ (told pre.loaded at_reactor.ensures legal at_fact.ensures.known) in
+    let size = at_size.ensures.is _ _ (c.counts_at.ensures.known _ pre.loaded.facts legal) in
     omega (arith, pass_within _ _ _ _ tiling in_loop _ size)
 
 pub change-requires : goal.change-requires
@@ -37,12 +34,10 @@ loop-a-smaller g c = let at_loop = c.loop-a in
     let at_loop_test = c.loop-a-test in
     let at_size = c.size in
     let pre = c.requires in
-    let at_reactor = c.reactor in
-    let at_fact = c.fact in
     let tiling = at_loop.invariant.1 in
     let in_loop = at_loop_test.true in
     let legal = pass_legal _ _ _ _ tiling in_loop in
-    let size = at_size.ensures.is _ _ (told pre.loaded at_reactor.ensures legal at_fact.ensures.known) in
+    let size = at_size.ensures.is _ _ (c.counts_at.ensures.known _ pre.loaded.facts legal) in
     pass_rises _ _ _ _ tiling in_loop _ size
 
 pub loop-a-preserved : goal.loop-a-preserved
@@ -51,14 +46,12 @@ loop-a-preserved g c = let at_loop = c.loop-a in
     let at_loop_test = c.loop-a-test in
     let at_size = c.size in
     let pre = c.requires in
-    let at_reactor = c.reactor in
-    let at_fact = c.fact in
     let args = c.args in
     let at_change = c.change in
     let tiling = at_loop.invariant.1 in
     let in_loop = at_loop_test.true in
     let legal = pass_legal _ _ _ _ tiling in_loop in
-    let size = at_size.ensures.is _ _ (told pre.loaded at_reactor.ensures legal at_fact.ensures.known) in
+    let size = at_size.ensures.is _ _ (c.counts_at.ensures.known _ pre.loaded.facts legal) in
     pass_next _ _ _ _ tiling in_loop _ size (g.C.Change.makes args.change.now args.program.now) _ _ _
     at_change.ensures.is (rw at_change.ensures.is at at_change.ensures.local) at_loop.invariant.0 at_loop.invariant.2
 
