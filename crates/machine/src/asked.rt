@@ -1,5 +1,5 @@
 // 10 to 13: what one turn brings, and the clock.
-ghost use Rattle.std.specs.Prelude.{◌+◌, ◌<◌, ◌≡◌};
+ghost use Rattle.std.specs.Prelude.{◌+◌, ◌<◌, ◌≡◌, MatchOption};
 ghost use Rattle.program.specs.Bytes as B;
 ghost use Rattle.program.specs.Kind as K;
 ghost use Rattle.remus.specs.Turn as T;
@@ -19,19 +19,17 @@ fn reading_legal(program: &[u8], readings: &[u32], k: u8) -> bool
     legal(program, kind, reading_at(readings, k))
 }
 
-// The first reading that is not legal; if all are, how many there are.
-fn bad_reading(program: &[u8], readings: &[u32]) -> u8
-    ensures { result ≡ T.bad_reading program.now readings.now }
+// The first reading that is not legal.
+fn bad_reading(program: &[u8], readings: &[u32]) -> Option<u8>
+    ensures { let first = T.bad_reading program.now readings.now in let n = B.globals program.now in
+        MatchOption result (first ≡ n) (λ k. (first ≡ k) × (k < n)) }
 {
-    let n = globals(program);
-    let mut k: u8 = 0;
-    while k < n {
+    for k in 0..globals(program) {
         if !reading_legal(program, readings, k) {
-            return k;
+            return Some(k);
         }
-        k = k + 1;
     }
-    k
+    None
 }
 
 // The first question that is not answered well.
@@ -49,8 +47,7 @@ pub(crate) fn asked(
     if readings.len() != 2 * (g as usize) {
         return Err(Refusal::ReadingsLength(readings.len()));
     }
-    let k = bad_reading(program, readings);
-    if k != g {
+    if let Some(k) = bad_reading(program, readings) {
         return Err(Refusal::Reading(k as usize));
     }
     let need = 2 * (sink_count(program, main_of(program) as u32) as usize);

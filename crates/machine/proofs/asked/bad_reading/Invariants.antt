@@ -1,4 +1,4 @@
-use Rattle.std.specs.Prelude.{ℕ, ◌+◌, ◌-◌, ◌≤◌, ◌≡◌}
+use Rattle.std.specs.Prelude.{ℕ, ◌+◌, ◌-◌, ◌≡◌}
 use Rattle.program.specs.Bytes.{global_kind}
 use Rattle.program.specs.Kind.{legal}
 use Rattle.remus.specs.Turn.{bad_reading, reading_at}
@@ -7,9 +7,5 @@ use Rattle.machine.proofs.asked.bad_reading.Given as goal
 
 abbrev pub invariant-loop-k : goal.invariant-loop-k
 invariant-loop-k l =
-    (sweep (λ (i : ℕ). legal l.program (global_kind l.program (i + 1)) (reading_at l.readings i)) l.k (l.n - l.k)
-    ≡ bad_reading l.program l.readings)
-    × (l.k ≤ l.n)
-
-abbrev pub decreases-loop-k : goal.decreases-loop-k
-decreases-loop-k l = l.n - l.k
+    sweep (λ (i : ℕ). legal l.program (global_kind l.program (i + 1)) (reading_at l.readings i)) l.k (l.k-end - l.k)
+    ≡ bad_reading l.program l.readings
