@@ -126,19 +126,6 @@ pub fn turn(program: &[u8], memory: &mut [u32], readings: &[u32], sinks: &mut [u
     turn_accepted(program, &facts, memory, readings, sinks)
 }
 
-// The words of `from` into `to`, which is as long.
-fn copy_words(from: &[u32], to: &mut [u32])
-    requires { length to.old ≡ length from.now }
-    ensures { to.new ≡ from.now }
-{
-    let n = to.len();
-    let mut i = 0;
-    while i < n {
-        to[i] = from[i];
-        i += 1;
-    }
-}
-
 // A preview with an accepted program: 8, 22 and what follows. Work memory is written only once the turn may run.
 fn preview_accepted(
     program: &[u8],
@@ -163,7 +150,7 @@ fn preview_accepted(
         return Err(Refusal::WorkLength(k));
     }
     ready(program, facts, memory, readings, space)?;
-    copy_words(memory, work);
+    work.copy_from_slice(memory);
     run_main(program, facts, work, readings, space)
 }
 
