@@ -66,13 +66,14 @@ fn keep_each(program: &[u8], memory: &mut [u32], counts: Counts, o: u32)
     ensures { memory.new ≡ Cells.keep_one program.now memory.old o }
 {
     let at = counts.at() as usize + 8 * (counts.commands_d() as usize);
-    let mut here = o as usize + counts.slots_r() as usize;
+    let mut next = o as usize + counts.slots_r() as usize;
     for j in 0..counts.commands_r() as usize {
         let c = bytes_within(program, at + 8 * j);
+        let here = next;
+        next += 2 * (result_of(c.code) as usize);
         if c.code == Command::KEEP {
             fill(memory, here, o as usize + SLOTS_AT + 2 * (c.b as usize));
         }
-        here += 2 * (result_of(c.code) as usize);
     }
 }
 

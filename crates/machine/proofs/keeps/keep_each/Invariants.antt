@@ -8,7 +8,7 @@ use Rattle.machine.proofs.keeps.keep_each.Given as goal
 abbrev pub invariant-loop-j : goal.invariant-loop-j
 invariant-loop-j l =
     (length l.memory ≡ length l.initial.memory) × (reactor l.memory l.o ≡ reactor l.initial.memory l.o)
-    × (l.here ≡ l.o + slot_at l.program (reactor l.initial.memory l.o)
+    × (l.next ≡ l.o + slot_at l.program (reactor l.initial.memory l.o)
     (source_count l.program (reactor l.initial.memory l.o) + commands_d l.program (reactor l.initial.memory l.o) + l.j))
-    × (l.here ≤ l.o + 1024 + 2 * l.j)
+    × (l.next ≤ l.o + 1024 + 2 * l.j)
     × (keep_from l.program (l.j-end - l.j) (commands_d l.program (reactor l.initial.memory l.o) + l.j) l.memory l.o ≡ keep_one l.program l.initial.memory l.o)
