@@ -14,7 +14,7 @@ use image::{counts_at, next, put_pair, word};
 use program::{Command, byte, reactors};
 use value::Value;
 
-// The first of the chain from `head` that lies below u.
+// The first of the chain from `head` that lies below u. It is stored as the new head, so none is 0, as in memory.
 fn first_below(program: &[u8], memory: &[u32], u: u32, head: u32) -> u32
     ensures { result ≡ U.below (B.reactors program.now + 1) memory.now u head }
 {

@@ -72,7 +72,8 @@ pub(crate) fn declare(
     }
 }
 
-// Carries out the R command at byte `at`, of the deployment at o; its own words lie at `here`.
+// Carries out the R command at byte `at`, of the deployment at o; its own words lie at `here`. Each command is handed
+// what it needs of the deployment, one by one: none needs h, o and `here`, and memory alone bounds `here`.
 pub(crate) fn exec(
     program: &[u8],
     facts: &[u64; 64],
