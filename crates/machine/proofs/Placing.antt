@@ -4,7 +4,6 @@ use Rattle.std.specs.Prelude.{ℕ, suc, ◌+◌, ◌*◌, ◌≤◌, ◌<◌, �
 use Rattle.std.proofs.Common.{sym, ◌∙◌, ap, subst, ⊎_elim}
 use Rattle.std.specs.Prelude.{set}
 use Rattle.std.proofs.Common.{arith}
-use lib.ListN.{length-set}
 use lib.Seq.{get_or-set_same, get_or-set_other}
 use Rattle.value.specs.Test.{pick}
 use Rattle.value.proofs.Tests.{below}
@@ -20,9 +19,6 @@ use Rattle.remus.specs.Steady.{ReadsUpTo}
 use Rattle.machine.specs.Clauses.{Placed, PlacedTo, UpTo, Reaches}
 
 -- the table t₁ is t with entry l
-pub long_next : (t t₁ : List ℕ) (l n k : ℕ) → length t ≡ k → t₁ ≡ set t l n → length t₁ ≡ k
-long_next t t₁ l n k h e = ap length e ∙ length-set t l n ∙ h
-
 pub placed_next : (p t t₁ : List ℕ) (r l n : ℕ) → l < length t → t₁ ≡ set t l n → PlacedTo p r t l
     → 3 + 2 * n ≡ slot_at p r l → PlacedTo p r t₁ (l + 1)
 placed_next p t t₁ r l n h e f g k q =

@@ -11,7 +11,6 @@ use Rattle.remus.specs.Run.{Ran, ran, stopped, entered, commands, step_of, run_o
 use Rattle.remus.specs.Cells.{keep_of}
 use Rattle.remus.specs.Undo.{undo_of}
 use Rattle.answer.specs.Answer.{Ruling}
-use Rattle.std.specs.Prelude.{Ok, Err}
 use Rattle.machine.specs.declared.Outcome.{Outcome}
 use Rattle.machine.specs.declared.Outcome.TheVariants.{Given, Move, Call}
 use Rattle.program.specs.Bytes.{reactors, commands_d, commands_in, main_of, commands_r, commands_at}

@@ -1,7 +1,6 @@
 use Rattle.machine.proofs.Acting.{content_at}
 use Rattle.machine.proofs.Allocating.{found}
 use Rattle.remus.specs.Exec.{operated}
-use Rattle.std.proofs.Common.{sym}
 use Rattle.machine.proofs.allocate.choose.Goals as goal
 
 pub returns-in-None : goal.returns-in-None

@@ -1,7 +1,6 @@
 use Rattle.machine.proofs.Turning.{clock_after, run_stopped, run_whole, same_turned, undone, workable}
 use Rattle.machine.specs.Clauses.{turned}
 use Rattle.remus.specs.Turn.{by_run, turn_refused}
-use Rattle.std.specs.Prelude.{refl}
 use Rattle.std.proofs.Common.{◌∙◌}
 use Rattle.machine.proofs.calls.run_main.Goals as goal
 

@@ -1,5 +1,3 @@
-use Rattle.std.specs.Prelude.{ℕ, ◌≡◌}
-use Rattle.std.proofs.Common.{arith}
 use Rattle.remus.specs.Clear.{clear_of, closed}
 use Rattle.machine.proofs.finish.close.Goals as goal
 

@@ -8,7 +8,6 @@ use Rattle.machine.proofs.BeforeCommand.{short, steady_below, stops, whole}
 use Rattle.machine.proofs.Opening.{legal}
 use Rattle.machine.proofs.FactLaws.{told}
 use Rattle.program.specs.Bytes.{commands_in}
-use lib.ListN.{length-set}
 use Rattle.machine.proofs.run.+run.Goals as goal
 
 pub enter-requires : goal.enter-requires

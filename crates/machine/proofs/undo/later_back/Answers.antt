@@ -1,5 +1,3 @@
-use Rattle.std.specs.Prelude.{ℕ, ◌≡◌}
-use Rattle.std.proofs.Common.{arith}
 use Rattle.remus.specs.Undo.{back, zero_from}
 use Rattle.machine.proofs.undo.later_back.Goals as goal
 

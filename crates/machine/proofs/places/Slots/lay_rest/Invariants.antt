@@ -1,4 +1,4 @@
-use Rattle.std.specs.Prelude.{ℕ, ◌+◌, ◌-◌, ◌≤◌, ◌≡◌}
+use Rattle.std.specs.Prelude.{ℕ, ◌+◌, ◌≤◌, ◌≡◌}
 use Rattle.machine.specs.Clauses.{PlacedTo}
 use Rattle.program.proofs.Slots.{first_r}
 use Rattle.program.specs.Bytes.{command_at, commands_d, commands_r}
