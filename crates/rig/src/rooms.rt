@@ -71,9 +71,10 @@ fn call_in(
     a
 }
 
-// The call in the room's first words.
-fn call_within(
-    room: &mut [u32],
+// The call in the first words of a room of WORDS words. It stays a function of its own: merged into its caller, all
+// six rooms would stand in one frame.
+#[inline(never)]
+fn in_room<const WORDS: usize>(
     what: Call,
     program: &[u8],
     source: &[u8],
@@ -81,13 +82,15 @@ fn call_within(
     readings: &[u32],
     sinks: &mut [u32],
 ) -> u64
-    requires memory_in_bounds { length memory.old / 4 ≤ length room.old }
+    requires room_enough { length memory.old / 4 ≤ WORDS }
+    requires room_few { WORDS ≤ MOST_WORDS }
     requires level { Level what source.now memory.old }
     ensures { let p = program.now in let src = source.now in
         let t = call_held what p src memory.old readings.now sinks.old in
         faced result memory.new sinks.new ≡ t }
 {
     let n = memory.len() / 4;
+    let mut room = [0u32; WORDS];
     call_in(
         &mut room[..n],
         what,
@@ -99,117 +102,8 @@ fn call_within(
     )
 }
 
-fn in_64(
-    what: Call,
-    program: &[u8],
-    source: &[u8],
-    memory: &mut [u8],
-    readings: &[u32],
-    sinks: &mut [u32],
-) -> u64
-    requires memory_len_bound { length memory.old / 4 ≤ 64 }
-    requires level { Level what source.now memory.old }
-    ensures { let p = program.now in let src = source.now in
-        let t = call_held what p src memory.old readings.now sinks.old in
-        faced result memory.new sinks.new ≡ t }
-{
-    let mut room = [0u32; 64];
-    call_within(&mut room, what, program, source, memory, readings, sinks)
-}
-
-fn in_256(
-    what: Call,
-    program: &[u8],
-    source: &[u8],
-    memory: &mut [u8],
-    readings: &[u32],
-    sinks: &mut [u32],
-) -> u64
-    requires memory_len_bound { length memory.old / 4 ≤ 256 }
-    requires level { Level what source.now memory.old }
-    ensures { let p = program.now in let src = source.now in
-        let t = call_held what p src memory.old readings.now sinks.old in
-        faced result memory.new sinks.new ≡ t }
-{
-    let mut room = [0u32; 256];
-    call_within(&mut room, what, program, source, memory, readings, sinks)
-}
-
-fn in_1024(
-    what: Call,
-    program: &[u8],
-    source: &[u8],
-    memory: &mut [u8],
-    readings: &[u32],
-    sinks: &mut [u32],
-) -> u64
-    requires memory_len_bound { length memory.old / 4 ≤ 1024 }
-    requires level { Level what source.now memory.old }
-    ensures { let p = program.now in let src = source.now in
-        let t = call_held what p src memory.old readings.now sinks.old in
-        faced result memory.new sinks.new ≡ t }
-{
-    let mut room = [0u32; 1024];
-    call_within(&mut room, what, program, source, memory, readings, sinks)
-}
-
-fn in_4096(
-    what: Call,
-    program: &[u8],
-    source: &[u8],
-    memory: &mut [u8],
-    readings: &[u32],
-    sinks: &mut [u32],
-) -> u64
-    requires memory_len_bound { length memory.old / 4 ≤ 4096 }
-    requires level { Level what source.now memory.old }
-    ensures { let p = program.now in let src = source.now in
-        let t = call_held what p src memory.old readings.now sinks.old in
-        faced result memory.new sinks.new ≡ t }
-{
-    let mut room = [0u32; 4096];
-    call_within(&mut room, what, program, source, memory, readings, sinks)
-}
-
-fn in_8192(
-    what: Call,
-    program: &[u8],
-    source: &[u8],
-    memory: &mut [u8],
-    readings: &[u32],
-    sinks: &mut [u32],
-) -> u64
-    requires memory_len_bound { length memory.old / 4 ≤ 8192 }
-    requires level { Level what source.now memory.old }
-    ensures { let p = program.now in let src = source.now in
-        let t = call_held what p src memory.old readings.now sinks.old in
-        faced result memory.new sinks.new ≡ t }
-{
-    let mut room = [0u32; 8192];
-    call_within(&mut room, what, program, source, memory, readings, sinks)
-}
-
-fn in_16384(
-    what: Call,
-    program: &[u8],
-    source: &[u8],
-    memory: &mut [u8],
-    readings: &[u32],
-    sinks: &mut [u32],
-) -> u64
-    requires memory_len_bound { length memory.old / 4 ≤ 16384 }
-    requires level { Level what source.now memory.old }
-    ensures { let p = program.now in let src = source.now in
-        let t = call_held what p src memory.old readings.now sinks.old in
-        faced result memory.new sinks.new ≡ t }
-{
-    let mut room = [0u32; 16384];
-    call_within(&mut room, what, program, source, memory, readings, sinks)
-}
-
 // The call in the smallest room that will do. More words than any room has are refused as none are, but
-// for 8's place. That it calls itself keeps the compiler from merging the functions above into it:
-// their rooms would then all stand in its frame.
+// for 8's place.
 pub(crate) fn call_sized(
     what: Call,
     program: &[u8],
@@ -235,20 +129,12 @@ pub(crate) fn call_sized(
         );
         return with_place(a, 8, n);
     }
-    if n <= 64 {
-        return in_64(what, program, source, memory, readings, sinks);
+    match n {
+        0..=64 => in_room::<64>(what, program, source, memory, readings, sinks),
+        65..=256 => in_room::<256>(what, program, source, memory, readings, sinks),
+        257..=1024 => in_room::<1024>(what, program, source, memory, readings, sinks),
+        1025..=4096 => in_room::<4096>(what, program, source, memory, readings, sinks),
+        4097..=8192 => in_room::<8192>(what, program, source, memory, readings, sinks),
+        _ => in_room::<MOST_WORDS>(what, program, source, memory, readings, sinks),
     }
-    if n <= 256 {
-        return in_256(what, program, source, memory, readings, sinks);
-    }
-    if n <= 1024 {
-        return in_1024(what, program, source, memory, readings, sinks);
-    }
-    if n <= 4096 {
-        return in_4096(what, program, source, memory, readings, sinks);
-    }
-    if n <= 8192 {
-        return in_8192(what, program, source, memory, readings, sinks);
-    }
-    in_16384(what, program, source, memory, readings, sinks)
 }

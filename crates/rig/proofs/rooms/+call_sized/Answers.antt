@@ -12,21 +12,3 @@ pub returns-then-n-gt-MOST_WORDS : goal.returns-then-n-gt-MOST_WORDS
 returns-then-n-gt-MOST_WORDS t c = let m = c.args.memory.now in
     too_many _ _ _ m _ _ _ _ _ c.requires (λ i. omega (arith, c.slice_known-1.given i)) c.if-n-gt-MOST_WORDS.true
     refl _ _ c.call_sized-a.ensures c.with_place.ensures
-
-pub in_64-requires : goal.in_64-requires
-in_64-requires t c = record { memory_len_bound = omega arith; level = search rules }
-
-pub in_256-requires : goal.in_256-requires
-in_256-requires t c = record { memory_len_bound = omega arith; level = search rules }
-
-pub in_1024-requires : goal.in_1024-requires
-in_1024-requires t c = record { memory_len_bound = omega arith; level = search rules }
-
-pub in_4096-requires : goal.in_4096-requires
-in_4096-requires t c = record { memory_len_bound = omega arith; level = search rules }
-
-pub in_8192-requires : goal.in_8192-requires
-in_8192-requires t c = record { memory_len_bound = omega arith; level = search rules }
-
-pub in_16384-requires : goal.in_16384-requires
-in_16384-requires t c = record { memory_len_bound = omega arith; level = search rules }
