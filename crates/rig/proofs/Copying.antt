@@ -1,15 +1,16 @@
 -- The loops that copy: after k steps, k of one list and the rest of the other.
 -- Assumes nothing.
-use Rattle.std.specs.Prelude.{ℕ, zero, suc, ◌+◌, ◌*◌, ◌/◌, ◌%◌, ◌≤◌, ◌<◌, ◌≡◌, refl, List, [], ◌∷◌}
+use Rattle.std.specs.Prelude.{ℕ, zero, suc, ◌+◌, ◌-◌, ◌*◌, ◌/◌, ◌%◌, ◌≤◌, ◌<◌, ◌≡◌, refl, List, [], ◌∷◌}
 use Rattle.std.proofs.Common.{sym, ◌∙◌, ap}
 use Rattle.std.specs.Prelude.{◌++◌, length, get_or, set, take, drop}
 use Rattle.std.proofs.Common.{arith}
 use native.Mathlib.Nat.{not-suc-le-zero, le_of_suc-le-suc}
 use native.Mathlib.Numerals.{add-one}
-use lib.ListN.{length-set}
-use lib.Seq.{take-length}
+use lib.Seq.{length-take-le, take-append_seam, drop-append_seam}
+use Rattle.std.proofs.Common.{append_assoc}
+use Rattle.std.proofs.lemmas.List.{take_more, drop-drop}
+use borrow.Rule.Slice.PartMut.{put_mid}
 use Rattle.rig.specs.Words.{word, words_of, bytes_of, holding}
-use Rattle.rig.specs.Clauses.{put_at}
 
 copy_suc : (k : ℕ) (xs d : List ℕ) → k < length xs → k < length d
     → set (take k xs ++ drop k d) k (get_or xs k 0) ≡ take (suc k) xs ++ drop (suc k) d
@@ -75,60 +76,31 @@ unfolding bytes_of
 bytes_length [] = refl
 bytes_length (x ∷ w) = let h = bytes_length w in omega (arith, h)
 
--- the four bytes of word k
-pub record Four (w : List ℕ) (k : ℕ) : Type 0 where
-  pub first : get_or w k 0 % 256 ≡ get_or (bytes_of w) (k * 4 + 0) 0
-  pub second : get_or w k 0 / 256 % 256 ≡ get_or (bytes_of w) (k * 4 + 1) 0
-  pub third : get_or w k 0 / 65536 % 256 ≡ get_or (bytes_of w) (k * 4 + 2) 0
-  pub fourth : get_or w k 0 / 16777216 % 256 ≡ get_or (bytes_of w) (k * 4 + 3) 0
+-- the four bytes of x before others
+abbrev pub four : ℕ → List ℕ → List ℕ
+four x s = x % 256 ∷ x / 256 % 256 ∷ x / 65536 % 256 ∷ x / 16777216 % 256 ∷ s
 
-bytes_at_lem : (k : ℕ) (w : List ℕ) → k < length w → Four w k
+bytes_more : (ws : List ℕ) (x : ℕ) → bytes_of (ws ++ (x ∷ [])) ≡ bytes_of ws ++ four x []
 unfolding bytes_of
-bytes_at_lem k [] h = absurd (not-suc-le-zero h)
-bytes_at_lem zero (x ∷ w) h = record { first = refl; second = refl; third = refl; fourth = refl }
-bytes_at_lem (suc k) (x ∷ w) h =
-    let f = bytes_at_lem k w (le_of_suc-le-suc h) in
-    let at = past (x % 256) (x / 256 % 256) (x / 65536 % 256) (x / 16777216 % 256) (bytes_of w) k in
-    record {
-      first = f.first ∙ sym (at 0 (suc k * 4 + 0) (omega arith));
-      second = f.second ∙ sym (at 1 (suc k * 4 + 1) (omega arith));
-      third = f.third ∙ sym (at 2 (suc k * 4 + 2) (omega arith));
-      fourth = f.fourth ∙ sym (at 3 (suc k * 4 + 3) (omega arith));
-    }
+bytes_more [] x = refl
+bytes_more (w ∷ ws) x = ap (four w) (bytes_more ws x)
 
--- some of b and the rest of s
-abbrev pub mixed : ℕ → List ℕ → List ℕ → List ℕ
-mixed j b s = take j b ++ drop j s
-
--- one step of `save`
-pub save_more : (k : ℕ) (w s : List ℕ) → k < length w → length w * 4 ≤ length s
-    → put_at (mixed (k * 4) (bytes_of w) s) (k * 4) (get_or w k 0) ≡ mixed ((k + 1) * 4) (bytes_of w) s
-save_more k w s h l =
-    let f = bytes_at_lem k w h in
-    let n = bytes_length w in
-    let b = bytes_of w in
-    let j = k * 4 in
-    let v = get_or w k 0 in
-    let z : k * 4 + 0 ≡ k * 4 = omega arith in
-    let first = copy_more j (j + 1) b s (v % 256) refl (rw z at f.first) (omega (arith, n)) (omega arith) in
-    let two = v / 256 % 256 in
-    let three = v / 65536 % 256 in
-    let second = copy_more (j + 1) (j + 2) b s two (omega arith) f.second (omega (arith, n)) (omega arith) in
-    let third = copy_more (j + 2) (j + 3) b s three (omega arith) f.third (omega (arith, n)) (omega arith) in
-    let last = v / 16777216 % 256 in
-    ap (λ (t : List ℕ). set (set (set t (j + 1) two) (j + 2) three) (j + 3) last) first
-    ∙ ap (λ (t : List ℕ). set (set t (j + 2) three) (j + 3) last) second
-    ∙ ap (λ (t : List ℕ). set t (j + 3) last) third
-    ∙ copy_more (j + 3) ((k + 1) * 4) b s last (omega arith) f.fourth (omega (arith, n)) (omega arith)
-
-pub save_all : (k : ℕ) (w s : List ℕ) → k ≡ length w → mixed (k * 4) (bytes_of w) s ≡ holding s w
+-- one step of `save`: from the first k of the words ws to one more, the four bytes b written at j
+pub save_more : (s ws b : List ℕ) (k j : ℕ) → k < length ws → j ≡ k * 4 → b ≡ four (get_or ws k 0) []
+    → put_mid j (j + 4 - j) (holding s (take k ws)) b ≡ holding s (take (k + 1) ws)
 unfolding holding
-save_all k w s e =
-    let n : k * 4 ≡ length (bytes_of w) = omega (arith, bytes_length w, e) in
-    let m : k * 4 ≡ 4 * length w = omega (arith, e) in
-    ap (λ (i : ℕ). take i (bytes_of w) ++ drop (k * 4) s) n
-    ∙ ap (λ (l : List ℕ). l ++ drop (k * 4) s) (take-length (bytes_of w))
-    ∙ ap (λ (i : ℕ). bytes_of w ++ drop i s) m
-
-pub put_length : (s : List ℕ) (j v : ℕ) → length (put_at s j v) ≡ length s
-put_length s j v = simp length-set
+save_more s ws b k j h e f =
+    let x = get_or ws k 0 in
+    let done = bytes_of (take k ws) in
+    let rest = drop (4 * length (take k ws)) s in
+    let l = length-take-le k ws (omega arith) in
+    let n : j ≡ length done = omega (arith, bytes_length (take k ws), l, e) in
+    let head : take j (done ++ rest) ≡ done = ap (λ (i : ℕ). take i (done ++ rest)) n ∙ take-append_seam done rest in
+    let past : drop j (done ++ rest) ≡ rest = ap (λ (i : ℕ). drop i (done ++ rest)) n ∙ drop-append_seam done rest in
+    let m : 4 * length (take k ws) + (j + 4 - j) ≡ 4 * length (take (k + 1) ws) =
+    omega (arith, l, length-take-le (k + 1) ws (omega arith)) in
+    let tail : drop (j + 4 - j) rest ≡ drop (4 * length (take (k + 1) ws)) s =
+    drop-drop (j + 4 - j) (4 * length (take k ws)) s ∙ ap (λ (i : ℕ). drop i s) m in
+    let four_more : bytes_of (take (k + 1) ws) ≡ done ++ four x [] =
+    ap bytes_of (take_more ws k 0 h) ∙ bytes_more (take k ws) x in
+    rw (head, past, tail, f, four_more) (sym (append_assoc done (four x []) (drop (4 * length (take (k + 1) ws)) s)))

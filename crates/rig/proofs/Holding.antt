@@ -7,11 +7,7 @@ use Rattle.std.proofs.Common.{arith}
 use lib.Seq.{take-length}
 use Rattle.rig.specs.Words.{word, words_of, bytes_of, holding}
 use Rattle.rig.specs.Laws.{Bytes, HeldSame}
-use Rattle.rig.proofs.Copying.{words_count}
-
--- the four bytes of x before others
-abbrev pub four : ℕ → List ℕ → List ℕ
-four x s = x % 256 ∷ x / 256 % 256 ∷ x / 65536 % 256 ∷ x / 16777216 % 256 ∷ s
+use Rattle.rig.proofs.Copying.{words_count, four}
 
 -- words are given one by one
 pub hold_more : (x : ℕ) (xs : List ℕ) (a b c d : ℕ) (s : List ℕ)

@@ -1,5 +1,5 @@
 -- What the contracts of the code speak of beside the definitions: what it answers and stores on the way.
-use Rattle.std.specs.Prelude.{ℕ, ◌+◌, ◌/◌, ◌%◌, ◌≤◌, ◌≡◌, Bool, true, List, length, set, Ok, Err}
+use Rattle.std.specs.Prelude.{ℕ, ◌/◌, ◌≤◌, ◌≡◌, Bool, true, List, length, Ok, Err}
 use Rattle.value.specs.Test.{pick, ◌=?◌}
 use Rattle.answer.specs.Answer.{Answer}
 use Rattle.answer.specs.declared.Refusal.TheVariants.{MemoryLength, WorkLength}
@@ -11,11 +11,6 @@ use Rattle.rig.specs.Words.{words_of, holding, packed}
 use Rattle.rig.specs.Face.{one_number, Faced, faced, turn_faced}
 use Rattle.rig.specs.declared.Call.{Call}
 use Rattle.rig.specs.declared.Call.TheVariants as C
-
--- the four bytes of v at j
-abbrev pub put_at : List ℕ → ℕ → ℕ → List ℕ
-put_at s j v =
-    set (set (set (set s j (v % 256)) (j + 1) (v / 256 % 256)) (j + 2) (v / 65536 % 256)) (j + 3) (v / 16777216 % 256)
 
 -- an answer, where its number is k with n as its place
 unfoldable pub placed_at : ℕ → ℕ → ℕ → ℕ

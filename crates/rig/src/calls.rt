@@ -11,7 +11,7 @@ ghost use Rattle.haai.specs.Compile.{compile_of};
 use crate::Call;
 use crate::pack::pack;
 use crate::rooms::call_sized;
-use crate::sinks::{SINK_WORDS, least, sink_in};
+use crate::sinks::{SINK_WORDS, sink_in};
 use figure::figure;
 use haai::compile;
 use image::words_legal;
@@ -68,7 +68,7 @@ pub extern "C" fn remus_turn(
         let rd = readings.now in let sk = sinks.old in
         faced result memory.new sinks.new ≡ turn_faced (turn_bytes p m rd sk) }
 {
-    let n = least(sinks.len() / 4, SINK_WORDS);
+    let n = (sinks.len() / 4).min(SINK_WORDS);
     let mut room = [0u32; SINK_WORDS];
     sink_in(
         &mut room[..n],
@@ -111,7 +111,7 @@ pub extern "C" fn remus_preview(
         let a = unfit(program, n, k);
         return pack(number(a), place(a));
     }
-    let j = least(sinks.len() / 4, SINK_WORDS);
+    let j = (sinks.len() / 4).min(SINK_WORDS);
     let mut room = [0u32; SINK_WORDS];
     sink_in(
         &mut room[..j],

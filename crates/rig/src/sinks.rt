@@ -11,12 +11,6 @@ use crate::readings::call_read;
 // A pair for each sink that a main can have.
 pub(crate) const SINK_WORDS: usize = 14;
 
-pub(crate) fn least(a: usize, b: usize) -> usize
-    ensures { result ≡ min a b }
-{
-    if a < b { a } else { b }
-}
-
 // With the first words of the sink space, all that there are or 14.
 pub(crate) fn sink_in(
     room: &mut [u32],

@@ -1,24 +1,20 @@
-use Rattle.std.specs.Prelude.{◌*◌, refl, length, get_or}
+use Rattle.std.specs.Prelude.{◌≡◌, length, take, refl}
 use Rattle.std.proofs.Common.{◌∙◌, ap, arith}
-use Rattle.rig.proofs.Copying.{save_more, save_all, put_length}
+use lib.Seq.{take-length}
+use Rattle.rig.specs.Words.{bytes_of, holding}
+use Rattle.rig.proofs.Copying.{save_more}
 use Rattle.rig.proofs.bytes.save.Goals as goal
 
 pub loop-k-init : goal.loop-k-init
-loop-k-init c = (omega arith, refl, refl)
+unfolding holding bytes_of
+loop-k-init c = refl
 
 pub loop-k-preserved : goal.loop-k-preserved
-loop-k-preserved c = let put = c.put_at.ensures in
-    let l = c.loop-k in
-    let a = c.args in
-    let w = a.w.now in (
-      omega arith,
-      put ∙ rw l.invariant.1 (save_more l.k w a.s.now (omega arith) (omega arith)),
-      ap length put ∙ put_length l.s (l.k * 4) (get_or w l.k 0) ∙ l.invariant.2,
-    )
-
-pub shape_of-s : goal.shape_of-s
-shape_of-s c = c.loop-k.invariant.2
+loop-k-preserved c = let l = c.loop-k in
+    rw (l.invariant, c.copy_from_slice.ensures.after)
+    (save_more c.args.s.now c.args.w.now _ l.k _ (omega arith) refl c.to_le_bytes.ensures)
 
 pub returns : goal.returns
-returns c = let a = c.args in
-    c.loop-k.invariant.1 ∙ save_all c.loop-k.k a.w.now a.s.now (omega arith)
+returns c = let w = c.args.w.now in
+    let e : c.loop-k.k ≡ length w = omega arith in
+    c.loop-k.invariant ∙ ap (holding c.args.s.now) (ap (λ k. take k w) e ∙ take-length w)

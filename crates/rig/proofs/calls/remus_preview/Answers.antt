@@ -22,7 +22,7 @@ pub slice_bounds-sink_in-end : goal.slice_bounds-sink_in-end
 slice_bounds-sink_in-end c = sym (length-take-le _ _ (omega arith))
 
 pub sink_in-requires : goal.sink_in-requires
-sink_in-requires c = let fit = same_and (same_eq refl refl) c.words_legal.ensures in record { room_len = length-take-le _ _ (omega arith) ∙ c.least-j.ensures; runs = tt; level = level c.args.memory.now c.args.work.now (passed fit (ap not c.if-not-k-n.false)) }
+sink_in-requires c = let fit = same_and (same_eq refl refl) c.words_legal.ensures in record { room_len = length-take-le _ _ (omega arith) ∙ c.min-j.ensures; runs = tt; level = level c.args.memory.now c.args.work.now (passed fit (ap not c.if-not-k-n.false)) }
 
 pub returns : goal.returns
 returns c = let fit = same_and (same_eq refl refl) c.words_legal.ensures in

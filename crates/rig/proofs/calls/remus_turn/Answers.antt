@@ -7,7 +7,7 @@ pub slice_bounds-sink_in-end : goal.slice_bounds-sink_in-end
 slice_bounds-sink_in-end c = sym (length-take-le _ _ (omega arith))
 
 pub sink_in-requires : goal.sink_in-requires
-sink_in-requires c = record { room_len = length-take-le _ _ (omega arith) ∙ c.least-n.ensures; runs = tt; level = tt }
+sink_in-requires c = record { room_len = length-take-le _ _ (omega arith) ∙ c.min-n.ensures; runs = tt; level = tt }
 
 pub returns : goal.returns
 returns c = c.sink_in.ensures ∙ turn_told _ _ _ _ _
