@@ -1,6 +1,6 @@
 // 4.31 Bounds of reactors. A sum that passes 16,384 stays at 16,385: a bound may have a hundred digits, and
 // no memory has more words.
-ghost use Rattle.std.specs.Prelude.{ℕ, ◌+◌, ◌<◌, ◌≡◌, true, List, get_or};
+ghost use Rattle.std.specs.Prelude.{ℕ, ◌+◌, ◌≡◌, List};
 ghost use Rattle.program.specs.Bytes as B;
 ghost use Rattle.program.specs.Clauses.{Facts, Tells};
 ghost use Rattle.image.specs.Clauses.{made_of};
@@ -16,12 +16,7 @@ const BEYOND: u16 = 16385;
 fn add(a: u16, b: u16) -> u16
     ensures { result ≡ capped (a + b) }
 {
-    let sum = a as u32 + b as u32;
-    if sum < BEYOND as u32 {
-        sum as u16
-    } else {
-        BEYOND
-    }
+    a.saturating_add(b).min(BEYOND)
 }
 
 // For each shape the bounds of its reactors together.
@@ -31,11 +26,9 @@ fn shape_sums(program: &[u8], bounds: &[u16; 256], n: u8) -> [u16; 256]
         ((b : ℕ → ℕ) → Capped bounds.now b → Capped result (D.shape_sum p b)) }
 {
     let mut sums = [0u16; 256];
-    let mut q: u8 = 0;
-    while q < n {
+    for q in 0..n {
         let s = shape_of(program, q as u32) as usize;
         sums[s] = add(sums[s], bounds[q as usize]);
-        q = q + 1;
     }
     sums
 }
@@ -62,14 +55,10 @@ fn bound_by(program: &[u8], k: Counts, bounds: &[u16; 256], sums: &[u16; 256]) -
     let at = k.at() as usize;
     let n = k.commands_d();
     let mut sum = k.size() as u16;
-    let mut j: u8 = 0;
-    while j < n {
-        let i = at + 8 * (j as usize);
-        sum = add(
-            sum,
-            share(byte(program, i), byte(program, i + 1), bounds, sums),
-        );
-        j = j + 1;
+    for j in 0..n {
+        let i = at + 8 * j as usize;
+        let more = share(byte(program, i), byte(program, i + 1), bounds, sums);
+        sum = add(sum, more);
     }
     sum
 }
@@ -83,27 +72,10 @@ fn next_bounds(program: &[u8], facts: &[u64; 64], bounds: &[u16; 256], n: u8) ->
 {
     let sums = shape_sums(program, bounds, n);
     let mut next = [0u16; 256];
-    let mut r: u8 = 0;
-    while r < n {
+    for r in 0..n {
         next[r as usize] = bound_by(program, fact(facts, r as u32), bounds, &sums);
-        r = r + 1;
     }
     next
-}
-
-// Whether two tables have the same first n.
-fn same(a: &[u16; 256], b: &[u16; 256], n: u8) -> bool
-    ensures { let s = a.now in let u = b.now in
-        (result ≡ true → (q : ℕ) → q < n → get_or s q 0 ≡ get_or u q 0) }
-{
-    let mut q: u8 = 0;
-    while q < n {
-        if a[q as usize] != b[q as usize] {
-            return false;
-        }
-        q = q + 1;
-    }
-    true
 }
 
 // The bounds after as many rounds as there are reactors. Once a round changes nothing, no later one does.
@@ -113,14 +85,12 @@ pub(crate) fn bounds(program: &[u8], facts: &[u64; 64], n: u8) -> [u16; 256]
     ensures { Capped result (D.bound_of program.now) }
 {
     let mut t = [0u16; 256];
-    let mut k: u8 = 0;
-    while k < n {
+    for _k in 0..n {
         let next = next_bounds(program, facts, &t, n);
-        if same(&t, &next, n) {
+        if t[..n as usize] == next[..n as usize] {
             return t;
         }
         t = next;
-        k = k + 1;
     }
     t
 }

@@ -17,12 +17,10 @@ fn join_row(table: &mut [u8; TABLE_BYTES], r: u8, k: u8, n: u8)
 {
     let to = 64 * (r as usize);
     let from = 64 * (k as usize);
-    let mut q: u8 = 0;
-    while q < n {
+    for q in 0..n {
         if table[from + q as usize] == 1 {
             table[to + q as usize] = 1;
         }
-        q = q + 1;
     }
 }
 
@@ -34,12 +32,10 @@ fn join_at(table: &mut [u8; TABLE_BYTES], k: u8, n: u8)
     ensures joined { let t = table.old in let t₁ = table.new in
         ((f : ℕ → ℕ → Bool) → Table t n f → Table t₁ n (through_at k f)) }
 {
-    let mut r: u8 = 0;
-    while r < n {
+    for r in 0..n {
         if table[64 * (r as usize) + k as usize] == 1 {
             join_row(table, r, k, n);
         }
-        r = r + 1;
     }
 }
 
@@ -50,10 +46,8 @@ pub(crate) fn close(table: &mut [u8; TABLE_BYTES], n: u8)
     ensures { let t = table.old in let t₁ = table.new in
         ((p : List ℕ) → n ≡ B.reactors p → Table t n (N.leads p) → Table t₁ n (N.found (N.reached p))) }
 {
-    let mut k: u8 = 0;
-    while k < n {
+    for k in 0..n {
         join_at(table, k, n);
-        k = k + 1;
     }
 }
 
@@ -73,12 +67,10 @@ pub(crate) fn lowest(table: &[u8; TABLE_BYTES], main: u8, n: u8) -> u8
     ensures { (p : List ℕ) → n ≡ B.reactors p → main ≡ B.main_of p → Table table.now n (N.found (N.reached p))
         → result ≡ lowest_circular p (N.reached p) }
 {
-    let mut r: u8 = 0;
-    while r < n {
+    for r in 0..n {
         if circular(table, main, n, r) {
             return r;
         }
-        r = r + 1;
     }
     n
 }

@@ -30,11 +30,9 @@ fn leads(program: &[u8], k: Counts, q: u8) -> bool
     let at = k.at() as usize;
     let n = k.commands_d();
     let mut some = false;
-    let mut j: u8 = 0;
-    while j < n {
-        let i = at + 8 * (j as usize);
-        some = some | goes_to(program, byte(program, i), byte(program, i + 1), q);
-        j = j + 1;
+    for j in 0..n {
+        let i = at + 8 * j as usize;
+        some |= goes_to(program, byte(program, i), byte(program, i + 1), q);
     }
     some
 }
@@ -55,10 +53,8 @@ fn fill_row(program: &[u8], k: Counts, table: &mut [u8; TABLE_BYTES], r: u8, n: 
         Changed t table.new n r (λ q. flag_of (N.leads p r q)) }
 {
     let first = 64 * (r as usize);
-    let mut q: u8 = 0;
-    while q < n {
+    for q in 0..n {
         table[first + q as usize] = flag(leads(program, k, q));
-        q = q + 1;
     }
 }
 
@@ -69,9 +65,7 @@ pub(crate) fn fill_steps(program: &[u8], facts: &[u64; 64], table: &mut [u8; TAB
     requires long { length table.old ≡ table_bytes }
     ensures { Table table.new n (N.leads program.now) }
 {
-    let mut r: u8 = 0;
-    while r < n {
+    for r in 0..n {
         fill_row(program, fact(facts, r as u32), table, r, n);
-        r = r + 1;
     }
 }

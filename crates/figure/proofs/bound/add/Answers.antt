@@ -1,9 +1,9 @@
-use Rattle.std.proofs.Common.{arith}
+use Rattle.std.specs.Prelude.{◌+◌, ◌<◌, ◌≤◌}
+use Rattle.std.proofs.Common.{⊎_elim, arith}
+use Rattle.value.proofs.Tests.{below}
 use Rattle.figure.proofs.Capping.{capped_low, capped_high}
 use Rattle.figure.proofs.bound.add.Goals as goal
 
-pub returns-then-sum : goal.returns-then-sum
-returns-then-sum c = capped_low (omega arith)
-
-pub returns-else-sum : goal.returns-else-sum
-returns-else-sum c = capped_high (omega arith)
+pub returns : goal.returns
+returns c = let n = c.args.a + c.args.b in
+    ⊎_elim (λ (l : n < 16385). omega (arith, capped_low l)) (λ (l : 16385 ≤ n). omega (arith, capped_high l)) (below n 16385)

@@ -13,7 +13,7 @@ use Rattle.figure.proofs.bound.bound_by.Goals as goal
 pub loop-j-init : goal.loop-j-init
 unfolding sum_below
 loop-j-init c = let small = c.size-sum.ensures.small in
-    (omega arith, λ r b e t s. capped_low (omega arith) ∙ ap capped (omega arith))
+    λ r b e t s. capped_low (omega arith) ∙ ap capped (omega arith)
 
 -- one command more
 one_more : (p : List ℕ) (b : ℕ → ℕ) (r at j code x first m n : ℕ) → at ≡ commands_at p r → code ≡ byte p (at + 8 * j)
@@ -24,11 +24,9 @@ one_more p b r at j code x first m n e f g h k =
     ∙ ap capped (omega (arith, sum_next (adds p b r) j))
 
 pub loop-j-preserved : goal.loop-j-preserved
-loop-j-preserved c = let inv = c.loop-j.invariant in (
-  omega arith,
-  λ r b e t s. c.add-sum.ensures ∙ one_more _ b r _ _ _ _ _ _ _ e c.byte.ensures
-      c.byte-in-loop-j.ensures (inv.1 r b e t s) (c.share.ensures _ b t s),
-)
+loop-j-preserved c = λ r b e t s.
+    c.add-sum.ensures ∙ one_more _ b r _ _ _ _ _ _ _ e c.byte.ensures
+    c.byte-in-loop-j.ensures (c.loop-j.invariant r b e t s) (c.share-more.ensures _ b t s)
 
 pub returns : goal.returns
 unfolding bound_by
@@ -37,7 +35,7 @@ returns c = λ r b k t s.
     let count = c.commands_d-n.ensures _ r k in
     let p = c.args.program.now in
     let all : c.loop-j.j ≡ commands_d p r = omega arith in
-    c.loop-j.invariant.1 r b (c.at-at.ensures.is _ r k) t s
+    c.loop-j.invariant r b (c.at-at.ensures.is _ r k) t s
     ∙ ap₂ (λ m j. capped (m + sum_below (adds p b r) j)) size all
 
 pub overflow_cast-sum : goal.overflow_cast-sum

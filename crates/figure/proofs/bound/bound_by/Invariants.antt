@@ -1,4 +1,4 @@
-use Rattle.std.specs.Prelude.{ℕ, ◌+◌, ◌-◌, ◌≤◌, ◌≡◌, List}
+use Rattle.std.specs.Prelude.{ℕ, ◌+◌, ◌≡◌, List}
 use Rattle.program.specs.Bytes.{commands_at}
 use Rattle.program.specs.Command.{made_by, cmd_of}
 use Rattle.figure.specs.Bound.{sum_below, shape_sum, share}
@@ -11,8 +11,5 @@ adds p b r i = share p b (made_by (cmd_of p r i))
 
 abbrev pub invariant-loop-j : goal.invariant-loop-j
 invariant-loop-j l =
-    (l.j ≤ l.n) × ((r : ℕ) (b : ℕ → ℕ) → l.at ≡ commands_at l.program r → Capped l.bounds b → Capped l.sums (shape_sum l.program b)
-    → l.sum ≡ capped (l.initial.sum + sum_below (adds l.program b r) l.j))
-
-abbrev pub decreases-loop-j : goal.decreases-loop-j
-decreases-loop-j l = l.n - l.j
+    (r : ℕ) (b : ℕ → ℕ) → l.at ≡ commands_at l.program r → Capped l.bounds b → Capped l.sums (shape_sum l.program b)
+    → l.sum ≡ capped (l.initial.sum + sum_below (adds l.program b r) l.j)

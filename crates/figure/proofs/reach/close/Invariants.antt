@@ -1,4 +1,4 @@
-use Rattle.std.specs.Prelude.{ℕ, ◌-◌, ◌≤◌, ◌≡◌, List, length}
+use Rattle.std.specs.Prelude.{ℕ, ◌≡◌, List, length}
 use Rattle.program.specs.Bytes.{reactors}
 use Rattle.figure.specs.Steps.{leads, found, reached_below}
 use Rattle.figure.specs.Clauses.{table_bytes, Table}
@@ -6,8 +6,5 @@ use Rattle.figure.proofs.reach.close.Given as goal
 
 abbrev pub invariant-loop-k : goal.invariant-loop-k
 invariant-loop-k l =
-    (l.k ≤ l.n) × (length l.table ≡ table_bytes)
+    (length l.table ≡ table_bytes)
     × ((p : List ℕ) → l.n ≡ reactors p → Table l.initial.table l.n (leads p) → Table l.table l.n (found (reached_below l.k p)))
-
-abbrev pub decreases-loop-k : goal.decreases-loop-k
-decreases-loop-k l = l.n - l.k

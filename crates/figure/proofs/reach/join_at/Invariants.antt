@@ -1,12 +1,9 @@
-use Rattle.std.specs.Prelude.{ℕ, ◌-◌, ◌≤◌, ◌≡◌, Bool, length}
+use Rattle.std.specs.Prelude.{ℕ, ◌≡◌, Bool, length}
 use Rattle.value.specs.Test.{pick, ◌<?◌}
 use Rattle.figure.specs.Clauses.{table_bytes, Table, through_at}
 use Rattle.figure.proofs.reach.join_at.Given as goal
 
 abbrev pub invariant-loop-r : goal.invariant-loop-r
 invariant-loop-r l =
-    (l.r ≤ l.n) × (length l.table ≡ table_bytes)
+    (length l.table ≡ table_bytes)
     × ((f : ℕ → ℕ → Bool) → Table l.initial.table l.n f → Table l.table l.n (λ a b. pick (a <? l.r) (through_at l.k f a b) (f a b)))
-
-abbrev pub decreases-loop-r : goal.decreases-loop-r
-decreases-loop-r l = l.n - l.r

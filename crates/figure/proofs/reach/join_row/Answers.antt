@@ -8,7 +8,7 @@ use Rattle.figure.proofs.reach.join_row.Goals as goal
 use Rattle.figure.proofs.reach.join_row.Goals.{then-table-from-eq1, else-table-from-eq1}
 
 pub loop-q-init : goal.loop-q-init
-loop-q-init c = (omega arith, unchanged _ c.requires.long)
+loop-q-init c = unchanged _ c.requires.long
 
 -- what is read of row k has not changed, even if k is r
 module _ (k : ℕ) {t t₁ : List ℕ} {q r : ℕ} (c : Changed t t₁ q r (joined_at t r k)) (low : r < 64) (few : q < 64) where
@@ -24,16 +24,14 @@ module _ (k : ℕ) {t t₁ : List ℕ} {q r : ℕ} (c : Changed t t₁ q r (join
 pub loop-q-preserved : goal.loop-q-preserved
 unfolding cell
 loop-q-preserved c = let loop = c.loop-q in
-    let low = c.requires.low in (
-      omega arith,
-      elim c.if-table-from-eq1.branch [
-        | then-table-from-eq1 g ↦ rw g.table-is (marked _ loop.invariant.1 (omega arith) (omega arith) g.if-table-from-eq1.true)
-        | else-table-from-eq1 g ↦ rw g.table-is (left _ loop.invariant.1 (omega arith) (omega arith) g.if-table-from-eq1.false)
-      ],
-    )
+    let low = c.requires.low in
+    elim c.if-table-from-eq1.branch [
+      | then-table-from-eq1 g ↦ rw g.table-is (marked _ loop.invariant (omega arith) (omega arith) g.if-table-from-eq1.true)
+      | else-table-from-eq1 g ↦ rw g.table-is (left _ loop.invariant (omega arith) (omega arith) g.if-table-from-eq1.false)
+    ]
 
 pub returns : goal.returns
-returns c = changed_all c.loop-q.invariant.1 (omega arith)
+returns c = changed_all c.loop-q.invariant (omega arith)
 
 pub bounds-table-from : goal.bounds-table-from
 bounds-table-from c = omega (arith, c.requires.low)

@@ -8,24 +8,21 @@ use Rattle.figure.proofs.reach.lowest.Goals as goal
 
 pub loop-r-init : goal.loop-r-init
 unfolding lowest_circular
-loop-r-init c = (omega arith, λ p e f t. ap (sweep (straight p) 0) (omega arith))
+loop-r-init c = λ p e f t. ap (sweep (straight p) 0) (omega arith)
 
 pub returns-then-circular : goal.returns-then-circular
 returns-then-circular c = λ p e f t.
     let on = c.circular.ensures p f t in
     sweep_found (straight p) _ _ (omega arith) (ap not (sym on ∙ c.if-circular.true))
-    ∙ c.loop-r.invariant.1 p e f t
+    ∙ c.loop-r.invariant p e f t
 
 pub loop-r-preserved : goal.loop-r-preserved
-loop-r-preserved c = (
-  omega arith,
-  λ p e f t.
-      let on = c.circular.ensures p f t in
-      sym (sweep_next (straight p) _ _ (omega arith) (ap not (sym on ∙ c.if-circular.false)))
-      ∙ c.loop-r.invariant.1 p e f t,
-)
+loop-r-preserved c = λ p e f t.
+    let on = c.circular.ensures p f t in
+    sym (sweep_next (straight p) _ _ (omega arith) (ap not (sym on ∙ c.if-circular.false)))
+    ∙ c.loop-r.invariant p e f t
 
 pub returns : goal.returns
 returns c = λ p e f t.
     let all : c.args.n ≡ c.loop-r.r = omega arith in
-    all ∙ sweep_done (straight p) _ _ (omega arith) ∙ c.loop-r.invariant.1 p e f t
+    all ∙ sweep_done (straight p) _ _ (omega arith) ∙ c.loop-r.invariant p e f t

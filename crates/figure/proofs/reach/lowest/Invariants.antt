@@ -1,4 +1,4 @@
-use Rattle.std.specs.Prelude.{ℕ, ◌-◌, ◌≤◌, ◌≡◌, not, Bool, List}
+use Rattle.std.specs.Prelude.{ℕ, ◌-◌, ◌≡◌, not, Bool, List}
 use Rattle.value.specs.Test.{sweep}
 use Rattle.program.specs.Bytes.{reactors, main_of}
 use Rattle.figure.specs.Steps.{found, reached, circular}
@@ -12,8 +12,5 @@ straight p r = not (circular p (reached p) r)
 
 abbrev pub invariant-loop-r : goal.invariant-loop-r
 invariant-loop-r l =
-    (l.r ≤ l.n) × ((p : List ℕ) → l.n ≡ reactors p → l.main ≡ main_of p → Table l.table l.n (found (reached p))
-    → sweep (straight p) l.r (l.n - l.r) ≡ lowest_circular p (reached p))
-
-abbrev pub decreases-loop-r : goal.decreases-loop-r
-decreases-loop-r l = l.n - l.r
+    (p : List ℕ) → l.n ≡ reactors p → l.main ≡ main_of p → Table l.table l.n (found (reached p))
+    → sweep (straight p) l.r (l.n - l.r) ≡ lowest_circular p (reached p)

@@ -1,12 +1,9 @@
-use Rattle.std.specs.Prelude.{ℕ, ◌-◌, ◌≤◌, ◌<◌, ◌≡◌, length}
+use Rattle.std.specs.Prelude.{ℕ, ◌<◌, ◌≡◌, length}
 use Rattle.figure.specs.Steps.{leads}
 use Rattle.figure.specs.Clauses.{table_bytes, cell, flag_of}
 use Rattle.figure.proofs.steps.fill_steps.Given as goal
 
 abbrev pub invariant-loop-r : goal.invariant-loop-r
 invariant-loop-r l =
-    (l.r ≤ l.n) × (length l.table ≡ table_bytes)
+    (length l.table ≡ table_bytes)
     × ((a q : ℕ) → a < l.r → q < l.n → cell l.table a q ≡ flag_of (leads l.program a q))
-
-abbrev pub decreases-loop-r : goal.decreases-loop-r
-decreases-loop-r l = l.n - l.r

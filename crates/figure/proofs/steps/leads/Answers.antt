@@ -11,7 +11,7 @@ use Rattle.figure.proofs.steps.leads.Goals as goal
 
 pub loop-j-init : goal.loop-j-init
 unfolding anywhere
-loop-j-init c = (omega arith, λ r e. refl)
+loop-j-init c = λ r e. refl
 
 -- one command more
 one_more : (p : List ℕ) (r q at j code x : ℕ) (s t : Bool) → at ≡ commands_at p r → code ≡ byte p (at + 8 * j)
@@ -23,14 +23,11 @@ one_more p r q at j code x s t e f g h k =
     ∙ anywhere_next (λ i. goes_to p q (made_by (cmd_of p r i))) j
 
 pub loop-j-preserved : goal.loop-j-preserved
-loop-j-preserved c = let inv = c.loop-j.invariant in (
-  omega arith,
-  λ r e. one_more _ r _ _ _ _ _ _ _ e c.byte.ensures c.byte-in-loop-j.ensures
-      c.goes_to-some.ensures (inv.1 r e),
-)
+loop-j-preserved c = λ r e.
+    one_more _ r _ _ _ _ _ _ _ e c.byte.ensures c.byte-in-loop-j.ensures c.goes_to-some.ensures (c.loop-j.invariant r e)
 
 pub returns : goal.returns
 unfolding leads
 returns c = λ r t.
     let e = c.commands_d-n.ensures _ r t in
-    c.loop-j.invariant.1 r (c.at-at.ensures.is _ r t) ∙ ap (anywhere _) (omega arith)
+    c.loop-j.invariant r (c.at-at.ensures.is _ r t) ∙ ap (anywhere _) (omega arith)

@@ -1,4 +1,4 @@
-use Rattle.std.specs.Prelude.{ℕ, ◌-◌, ◌≤◌, ◌≡◌}
+use Rattle.std.specs.Prelude.{ℕ, ◌≡◌}
 use Rattle.program.specs.Bytes.{commands_at}
 use Rattle.program.specs.Command.{made_by, cmd_of}
 use Rattle.figure.specs.Steps.{anywhere, goes_to}
@@ -6,8 +6,5 @@ use Rattle.figure.proofs.steps.leads.Given as goal
 
 abbrev pub invariant-loop-j : goal.invariant-loop-j
 invariant-loop-j l =
-    (l.j ≤ l.n) × ((r : ℕ) → l.at ≡ commands_at l.program r
-    → l.some ≡ anywhere (λ i. goes_to l.program l.q (made_by (cmd_of l.program r i))) l.j)
-
-abbrev pub decreases-loop-j : goal.decreases-loop-j
-decreases-loop-j l = l.n - l.j
+    (r : ℕ) → l.at ≡ commands_at l.program r
+    → l.some ≡ anywhere (λ i. goes_to l.program l.q (made_by (cmd_of l.program r i))) l.j
