@@ -269,7 +269,7 @@ module _ (t : List ℕ) (a : ℕ) (k : Known) (x : Kept) (g : Agree t k x) where
   operand_fits : fits_operand t w x ≡ fit_operand k w
   unfolding fits_operand fit_operand sources_in
   operand_fits =
-      let time = same_word (get_or taken_words time_word []) w in
+      let time = same_word time_word w in
       let sources = names_at t x.places 0 v.sources in
       ap (λ (b : Bool). b or (among sources w or time)) parameter_same
       ∙ ap (λ (y : List (List ℕ)). among k.parameters w or (among y w or time)) g.named.sources

@@ -2,6 +2,8 @@
 use Rattle.std.specs.Prelude.{ℕ, ◌+◌, ◌≤◌, ◌≡◌, length}
 use Rattle.value.specs.Test.{◌<?◌, ◌≤?◌, ◌=?◌, ◌and◌}
 use Rattle.value.proofs.Tests.{pick_any}
+use Rattle.haai.specs.Grammar.{Step}
+use Rattle.std.specs.Prelude.{Some, None}
 use Rattle.haai.specs.Word.{defr_word, out_word, source_word}
 use Rattle.haai.specs.Grammar.{is_open, is_shut, named, operates, is_taken, expression, step_at, step_of}
 use Rattle.haai.specs.Syntax.{count_of}
@@ -15,8 +17,6 @@ use Rattle.haai.specs.declared.Reading.{Reading}
 use Rattle.haai.specs.declared.Role.{Role}
 use Rattle.haai.specs.declared.Role.TheVariants.{Source, Reactor, Parameter, Operand, Constant}
 use Rattle.haai.specs.declared.Role.TheVariants.{Operator as AnOperator, Apply, Define, Fixed}
-use Rattle.haai.specs.declared.Step.{Step}
-use Rattle.haai.specs.declared.Step.TheVariants.{Takes, Refuses}
 use Rattle.haai.proofs.Counting.{Counted, Phased}
 use Rattle.haai.proofs.Paired.{Paired}
 
@@ -43,8 +43,8 @@ Apt k Define = Bodily k
 Apt k Fixed = Unit {0}
 
 abbrev pub AptStep : Known → Step → Type 0
-AptStep k (Takes r s) = Apt k r
-AptStep k Refuses = Unit {0}
+AptStep k (Some (r, s)) = Apt k r
+AptStep k None = Unit {0}
 
 module _ (n : ℕ) (s : Reading) (k : Known) where
   abbrev Good : Step → Type 0

@@ -1,44 +1,44 @@
 -- The call by what is found of a text: the ladder of its answers, and that tables and code are the whole.
-use Rattle.std.specs.Prelude.{ℕ, ◌+◌, ◌*◌, ◌≤◌, ◌<◌, ◌≡◌, refl, true, false, List, ◌++◌, length, Ok, Err}
+use Rattle.std.specs.Prelude.{ℕ, ◌+◌, ◌*◌, ◌≤◌, ◌<◌, ◌≡◌, refl, true, false, List, ◌++◌, length}
 use Rattle.std.proofs.Common.{sym, ◌∙◌, ap, arith}
 use Rattle.value.proofs.Tests.{goes, stops, eq!, eq×, le!, le×}
 use lib.ListN.{length-append}
 use Rattle.image.specs.Memory.{patch}
 use Rattle.image.proofs.Memory.Patch.{patch-length}
+use Rattle.std.specs.Prelude.{Ok, Err}
 use Rattle.answer.specs.declared.Refusal.TheVariants.{TextForm, TextName, OutputSpace}
 use Rattle.haai.specs.Grammar.{Formed, items, fault, form_of}
 use Rattle.haai.specs.Names.{Known, fault_of, text_of}
 use Rattle.haai.specs.Syntax.{Text}
 use Rattle.haai.specs.Emit.{code_of, program_of, within_limits}
 use Rattle.haai.specs.Compile.{refused, written, by_names, by_form, compile_of}
-use Rattle.haai.specs.Clauses.{check_of, compiled}
+use Rattle.haai.specs.Clauses.{check_of, compiled, right}
 use Rattle.haai.specs.Tables.{items_of, known_by, rows_fit, rows_length}
 use Rattle.haai.specs.Writing.{tables_of, Clean, Writable}
 use Rattle.haai.specs.declared.Found.{Found}
-use Rattle.haai.specs.declared.FormCheck.TheVariants.{Right, Wrong}
 use Rattle.haai.proofs.Sizes.{fits_limits, length_is_code}
 use Rattle.haai.proofs.Tabling.{length_tables, tables_code, program_put}
 
 -- ---- 16
 
 module _ (t out : List ℕ) where
-  form_is_right : (f : Formed) → check_of f ≡ Right
+  form_is_right : (f : Formed) → check_of f ≡ right
       → by_form (length t) out f ≡ by_names (length t) out (known_by (length t) f)
   unfolding check_of by_form known_by items_of
   form_is_right (items is) e = refl
   form_is_right (fault q) e = let z : ◌≡◌ {A = ℕ} 0 1 = cc in absurd (omega arith)
 
-  form_is_wrong : (f : Formed) (q : ℕ) → check_of f ≡ Wrong q
+  form_is_wrong : (f : Formed) (q : ℕ) → check_of f ≡ Err q
       → by_form (length t) out f ≡ compiled (Err (TextForm q)) out
   unfolding check_of by_form refused compiled
   form_is_wrong (items is) q e = let z : ◌≡◌ {A = ℕ} 0 1 = cc in absurd (omega arith)
   form_is_wrong (fault p) q e = let z : p ≡ q = cc in ap (λ (x : ℕ). compiled (Err (TextForm x)) out) z
 
-  pub right_goes : check_of (form_of t) ≡ Right → by_names (length t) out (known_by (length t) (form_of t)) ≡ compile_of t out
+  pub right_goes : check_of (form_of t) ≡ right → by_names (length t) out (known_by (length t) (form_of t)) ≡ compile_of t out
   unfolding compile_of
   right_goes e = sym (form_is_right (form_of t) e)
 
-  pub wrong_stops : (q : ℕ) → check_of (form_of t) ≡ Wrong q → compiled (Err (TextForm q)) out ≡ compile_of t out
+  pub wrong_stops : (q : ℕ) → check_of (form_of t) ≡ Err q → compiled (Err (TextForm q)) out ≡ compile_of t out
   unfolding compile_of
   wrong_stops q e = sym (form_is_wrong (form_of t) q e)
 

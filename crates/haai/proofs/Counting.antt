@@ -7,6 +7,8 @@ use Rattle.std.proofs.Common.{arith}
 use lib.ListN.{length-append}
 use Rattle.value.specs.Test.{◌<?◌, ◌≤?◌, ◌=?◌, ◌and◌}
 use Rattle.value.proofs.Tests.{lt?, lt×?, le?, eq?, both?, pick_any, below}
+use Rattle.haai.specs.Grammar.{Step}
+use Rattle.std.specs.Prelude.{Some, None}
 use Rattle.haai.specs.Word.{defr_word, out_word, source_word}
 use Rattle.haai.specs.Grammar.{is_open, is_shut, named, operates, is_taken, on_to, counting, deepened, sourced}
 use Rattle.haai.specs.Grammar.{defined, after_expression, expression, step_at}
@@ -21,8 +23,6 @@ use Rattle.haai.specs.declared.Phase.TheVariants.{Top, Form, SourceName, SourceE
 use Rattle.haai.specs.declared.Phase.TheVariants.{Parameters, Body, First, Out, Operator, Operands, End}
 use Rattle.haai.specs.declared.Reading.{Reading}
 use Rattle.haai.specs.declared.Role.TheVariants.{Operator as AnOperator}
-use Rattle.haai.specs.declared.Step.{Step}
-use Rattle.haai.specs.declared.Step.TheVariants.{Takes, Refuses}
 use Rattle.haai.proofs.Lists.{snoc_less, snoc_last}
 use Rattle.haai.proofs.Formed.{nth}
 use Rattle.haai.proofs.Fitting.{RoleOk}
@@ -127,8 +127,8 @@ module _ (n : ℕ) where
   ClassOk Other = Unit {0}
 
   abbrev pub StepGood : Known → ℕ → List ℕ → Step → Type 0
-  StepGood k q w (Takes r s) = RoleOk r × Counted s (learn k q w r)
-  StepGood k q w Refuses = Unit {0}
+  StepGood k q w (Some (r, s)) = RoleOk r × Counted s (learn k q w r)
+  StepGood k q w None = Unit {0}
 
   module _ (s : Reading) (k : Known) (q : ℕ) (w : List ℕ) (h : q < n) (fs : length k.sources ≤ 31)
       (sm : s.definitions ≡ length k.definitions) (fw : length k.definitions ≤ 32)

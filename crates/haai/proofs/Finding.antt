@@ -2,6 +2,7 @@
 use Rattle.std.specs.Prelude.{ℕ, ◌-◌, ◌≤◌, ◌<◌, ◌≡◌, List, length}
 use Rattle.std.proofs.Common.{sym, ◌∙◌, ap, subst, arith}
 use Rattle.value.specs.Test.{◌=?◌}
+use Rattle.haai.specs.Grammar.{takes, refuses}
 use Rattle.haai.specs.Word.{word_start, word_end, bytes_of, class_of}
 use Rattle.haai.specs.Grammar.{step_of, form_of}
 use Rattle.haai.specs.Names.{Known, unless, fault_of}
@@ -10,7 +11,6 @@ use Rattle.haai.specs.Tables.{Kept, learnt, known_by, found_of, FoundIs}
 use Rattle.haai.specs.declared.Found.{Found}
 use Rattle.haai.specs.declared.Reading.{Reading}
 use Rattle.haai.specs.declared.Role.{Role}
-use Rattle.haai.specs.declared.Step.TheVariants.{Takes, Refuses}
 use Rattle.haai.specs.declared.Tally.{Tally}
 use Rattle.haai.proofs.Placed.{length_names}
 use Rattle.haai.proofs.Imaged.{Named}
@@ -21,12 +21,12 @@ module _ (t : List ℕ) (s : Reading) (a : ℕ) (x : Kept) (h : Gathering t s a 
     pub gather_further : (b : ℕ) → b ≡ word_start t e → a < b
     gather_further b p = gather_on t s a x h l b (p ∙ ap (word_start t) q)
 
-    pub gather_stops : {C : Type 0} → step_of s (class_of (bytes_of t a e)) ≡ Refuses → C
+    pub gather_stops : {C : Type 0} → step_of s (class_of (bytes_of t a e)) ≡ refuses → C
     gather_stops p =
         absurd (gather_refused t s a x h l (ap (λ (n : ℕ). step_of s (class_of (bytes_of t a n))) (sym q) ∙ p))
 
     pub gather_goes : (b : ℕ) (r : Role) (s₂ : Reading) (y : Kept) → b ≡ word_start t e
-        → step_of s (class_of (bytes_of t a e)) ≡ Takes r s₂
+        → step_of s (class_of (bytes_of t a e)) ≡ takes r s₂
         → y ≡ learnt t a (bytes_of t a e) x r
         → Gathering t s₂ b y
     unfolding word_of

@@ -11,6 +11,8 @@ use Rattle.value.specs.Test.{◌<?◌, ◌≤?◌, ◌=?◌, ◌and◌}
 use Rattle.value.specs.Primitive.{in32}
 use Rattle.value.proofs.Integers.{in32_fits}
 use Rattle.value.proofs.Tests.{not_false, lt?, le?, eq?, both?, pick_any}
+use Rattle.haai.specs.Grammar.{Step}
+use Rattle.std.specs.Prelude.{Some, None}
 use Rattle.haai.specs.Word.{Word, word_start, word_end, words_from, words_of, is_number, integer_of, class_of}
 use Rattle.haai.specs.Grammar.{begin, step_of, whole, is_top, Item, Formed, items, fault, with_item, taken, form_from}
 use Rattle.haai.specs.Grammar.{form_of}
@@ -22,8 +24,6 @@ use Rattle.haai.specs.declared.Phase.{Phase}
 use Rattle.haai.specs.declared.Phase.TheVariants.{Top, Form, SourceName, SourceEnd, Head, ReactorName}
 use Rattle.haai.specs.declared.Phase.TheVariants.{Parameters, Body, First, Out, Operator, Operands, End}
 use Rattle.haai.specs.declared.Reading.{Reading}
-use Rattle.haai.specs.declared.Step.{Step}
-use Rattle.haai.specs.declared.Step.TheVariants.{Takes, Refuses}
 use Rattle.haai.proofs.Formed.{nth, WellFormed, Bounded}
 use Rattle.haai.proofs.Fitting.{ItemsOk, learn_all_sane, nothing_sane, guard_any, unless_clean}
 use Rattle.haai.proofs.Counting.{Counted, Phased, ClassOk, StepGood, step_good}
@@ -92,8 +92,8 @@ formed n (w ∷ ws) s k is low c e =
   where
     step : ((r : Reading) (k₂ : Known) (js : List Item) → Counted n r k₂ → form_from n ws r ≡ items js → Ended n k₂ js)
         → (x : Step) → StepGood n k w.at w.bytes x → taken (form_from n ws) w x ≡ items is → Ended n k is
-    step rest Refuses g z = let y : ◌≡◌ {A = ℕ} 0 1 = cc in absurd (omega arith)
-    step rest (Takes r s₂) g z = by (form_from n ws s₂) refl z
+    step rest None g z = let y : ◌≡◌ {A = ℕ} 0 1 = cc in absurd (omega arith)
+    step rest (Some (r, s₂)) g z = by (form_from n ws s₂) refl z
       where
         by : (x : Formed) → form_from n ws s₂ ≡ x → with_item (record { role = r; word = w }) x ≡ items is → Ended n k is
         by (fault q) e₂ z₂ = let y : ◌≡◌ {A = ℕ} 0 1 = cc in absurd (omega arith)

@@ -5,18 +5,16 @@ use Rattle.std.proofs.Common.{sym, ◌∙◌, ap, subst}
 use Rattle.std.specs.Prelude.{length}
 use Rattle.std.proofs.Common.{arith}
 use Rattle.value.proofs.Tests.{both?, pick_any}
+use Rattle.haai.specs.Grammar.{Step, takes, refuses}
 use Rattle.haai.specs.Word.{Word, word_start, word_end, bytes_of, class_of}
 use Rattle.haai.specs.Grammar.{begin, step_of, whole, Item, Formed, items, fault, with_item, taken, form_from}
 use Rattle.haai.specs.Grammar.{form_of}
-use Rattle.haai.specs.Clauses.{Room, check_of}
+use Rattle.haai.specs.Clauses.{Room, check_of, right as right_form}
 use Rattle.haai.specs.Names.{Known, nothing, learn, learn_all}
 use Rattle.haai.specs.Places.{word_of, Fits}
 use Rattle.haai.specs.Tables.{Kept, first_tally, first_tree, learnt, items_of, known_by}
-use Rattle.haai.specs.declared.FormCheck.TheVariants.{Right}
 use Rattle.haai.specs.declared.Reading.{Reading}
 use Rattle.haai.specs.declared.Role.{Role}
-use Rattle.haai.specs.declared.Step.{Step}
-use Rattle.haai.specs.declared.Step.TheVariants.{Takes, Refuses}
 use Rattle.haai.proofs.Ahead.{Ahead, ahead, at_first, first_words, at_last, word_at, onward, words_ahead}
 use Rattle.haai.proofs.Ahead.{word_past, further, end_to}
 use Rattle.haai.proofs.Small.{Small, small_begin, room, SmallStep, step_small, check_item, form_word}
@@ -32,30 +30,30 @@ nothing_more : (k : Known) → learn_all k (items_of (items [])) ≡ k
 unfolding items_of learn_all
 nothing_more k = refl
 
-not_right : (q : ℕ) → check_of (fault q) ≡ Right → ⊥
+not_right : (q : ℕ) → check_of (fault q) ≡ right_form → ⊥
 unfolding check_of
 not_right q e = let z : ◌≡◌ {A = ℕ} 0 1 = cc in omega arith
 
-items_after : (k : Known) (i : Item) (x : Formed) → check_of x ≡ Right
+items_after : (k : Known) (i : Item) (x : Formed) → check_of x ≡ right_form
     → learn_all k (items_of (with_item i x)) ≡ learn_all (learn k i.word.at i.word.bytes i.role) (items_of x)
 unfolding check_of with_item items_of learn_all
 items_after k i (items is) e = refl
 items_after k i (fault q) e = absurd (not_right q e)
 
 -- the form of no words, if it is right
-last_form : (n : ℕ) (s : Reading) (k : Known) → check_of (form_from n [] s) ≡ Right
+last_form : (n : ℕ) (s : Reading) (k : Known) → check_of (form_from n [] s) ≡ right_form
     → (whole s ≡ true) × (learn_all k (items_of (form_from n [] s)) ≡ k)
 unfolding form_from
 last_form n s k r =
-    pick_any (λ (y : Formed). check_of y ≡ Right → (whole s ≡ true) × (learn_all k (items_of y) ≡ k)) (whole s)
+    pick_any (λ (y : Formed). check_of y ≡ right_form → (whole s ≡ true) × (learn_all k (items_of y) ≡ k)) (whole s)
     right
     wrong
     r
   where
-    right : whole s ≡ true → check_of (items []) ≡ Right → (whole s ≡ true) × (learn_all k (items_of (items [])) ≡ k)
+    right : whole s ≡ true → check_of (items []) ≡ right_form → (whole s ≡ true) × (learn_all k (items_of (items [])) ≡ k)
     right e q = (e, nothing_more k)
 
-    wrong : whole s ≡ false → check_of (fault n) ≡ Right → (whole s ≡ true) × (learn_all k (items_of (fault n)) ≡ k)
+    wrong : whole s ≡ false → check_of (fault n) ≡ right_form → (whole s ≡ true) × (learn_all k (items_of (fault n)) ≡ k)
     wrong e q = absurd (not_right n q)
 
 module _ (t : List ℕ) where
@@ -64,7 +62,7 @@ module _ (t : List ℕ) where
     pub known : Known
     pub words : Ahead t a
     pub same : known_by (length t) (form_of t) ≡ learn_all known (items_of (form_from (length t) (ahead t words) s))
-    pub right : check_of (form_from (length t) (ahead t words) s) ≡ Right
+    pub right : check_of (form_from (length t) (ahead t words) s) ≡ right_form
     pub counted : Counted (length t) s known
     pub paired : Paired s.phase known
     pub small : Small s
@@ -72,7 +70,7 @@ module _ (t : List ℕ) where
     pub named : Named t known x.tally x.places
     pub grown : Grown known x.tree x.table x.pile
 
-  pub gather_begins : (s : Reading) (a : ℕ) (x : Kept) → s ≡ begin → a ≡ word_start t 0 → check_of (form_of t) ≡ Right
+  pub gather_begins : (s : Reading) (a : ℕ) (x : Kept) → s ≡ begin → a ≡ word_start t 0 → check_of (form_of t) ≡ right_form
       → x.tally ≡ first_tally (length t)
       → x.tree ≡ first_tree
       → length x.places ≡ 287
@@ -100,7 +98,7 @@ module _ (t : List ℕ) where
       }
 
   pub begins_known : (s : Reading) (a : ℕ) (x : Kept) (e : s ≡ begin) (f : a ≡ word_start t 0)
-      (r : check_of (form_of t) ≡ Right) (v : x.tally ≡ first_tally (length t)) (u : x.tree ≡ first_tree)
+      (r : check_of (form_of t) ≡ right_form) (v : x.tally ≡ first_tally (length t)) (u : x.tree ≡ first_tree)
       (ps : length x.places ≡ 287) (tb : length x.table ≡ 128) (pl : length x.pile ≡ 48)
       → (gather_begins s a x e f r v u ps tb pl).known ≡ nothing (length t)
   unfolding gather_begins
@@ -160,7 +158,7 @@ module _ (t : List ℕ) where
           ap (λ (ws : List Word). form_from (length t) ws s) (words_ahead t h.words l b e)
           ∙ form_word (length t) (word_at t a) (ahead t (onward t h.words l b e)) s
 
-      pub gather_refused : step ≡ Refuses → ⊥
+      pub gather_refused : step ≡ refuses → ⊥
       unfolding taken
       gather_refused q =
           let b = word_start t (word_end t a) in
@@ -168,7 +166,7 @@ module _ (t : List ℕ) where
           let f = turn b refl ∙ ap (λ (y : Step). taken rest (word_at t a) y) q in
           not_right a (ap check_of (sym f) ∙ h.right)
 
-      ready : (r : Role) (s₂ : Reading) → step ≡ Takes r s₂
+      ready : (r : Role) (s₂ : Reading) → step ≡ takes r s₂
           → Ready h.known r × Shallow s₂ (learn h.known a (word_of t a) r)
       unfolding word_of
       ready r s₂ q =
@@ -176,10 +174,10 @@ module _ (t : List ℕ) where
           subst (ReadyStep h.known a w) q
           (step_ready (length t) s h.known a w h.shallow h.counted h.paired (class_of w))
 
-      pub gather_ready : (r : Role) (s₂ : Reading) → step ≡ Takes r s₂ → Ready h.known r
+      pub gather_ready : (r : Role) (s₂ : Reading) → step ≡ takes r s₂ → Ready h.known r
       gather_ready r s₂ q = (ready r s₂ q).0
 
-      pub gather_taken : (b : ℕ) (r : Role) (s₂ : Reading) → b ≡ word_start t (word_end t a) → step ≡ Takes r s₂
+      pub gather_taken : (b : ℕ) (r : Role) (s₂ : Reading) → b ≡ word_start t (word_end t a) → step ≡ takes r s₂
           → Gathering s₂ b (learnt t a (word_of t a) x r)
       unfolding taken word_of step_of
       gather_taken b r s₂ e q =
@@ -211,7 +209,7 @@ module _ (t : List ℕ) where
             grown = after.grown;
           }
 
-      pub taken_known : (b : ℕ) (r : Role) (s₂ : Reading) (e : b ≡ word_start t (word_end t a)) (q : step ≡ Takes r s₂)
+      pub taken_known : (b : ℕ) (r : Role) (s₂ : Reading) (e : b ≡ word_start t (word_end t a)) (q : step ≡ takes r s₂)
           → (gather_taken b r s₂ e q).known ≡ learn h.known a (word_of t a) r
       unfolding gather_taken word_of
       taken_known b r s₂ e q = refl

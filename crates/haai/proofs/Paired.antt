@@ -5,6 +5,8 @@ use Rattle.std.proofs.Common.{arith}
 use lib.ListN.{length-append}
 use Rattle.value.specs.Test.{◌<?◌, ◌≤?◌, ◌=?◌, ◌and◌}
 use Rattle.value.proofs.Tests.{pick_any}
+use Rattle.haai.specs.Grammar.{Step}
+use Rattle.std.specs.Prelude.{Some, None}
 use Rattle.haai.specs.Word.{defr_word, out_word, source_word}
 use Rattle.haai.specs.Grammar.{is_open, is_shut, named, operates, is_taken, on_to, counting, deepened, sourced}
 use Rattle.haai.specs.Grammar.{defined, after_expression, expression, step_at, step_of}
@@ -17,8 +19,6 @@ use Rattle.haai.specs.declared.Phase.{Phase}
 use Rattle.haai.specs.declared.Phase.TheVariants.{Top, Form, SourceName, SourceEnd, Head, ReactorName}
 use Rattle.haai.specs.declared.Phase.TheVariants.{Parameters, Body, First, Out, Operator, Operands, End}
 use Rattle.haai.specs.declared.Reading.{Reading}
-use Rattle.haai.specs.declared.Step.{Step}
-use Rattle.haai.specs.declared.Step.TheVariants.{Takes, Refuses}
 use Rattle.haai.proofs.Counting.{Counted, Phased}
 
 -- between definitions, and inside one
@@ -46,8 +46,8 @@ Paired Operands k = Within k
 Paired End k = Within k
 
 abbrev pub PairedStep : Known → ℕ → List ℕ → Step → Type 0
-PairedStep k q w (Takes r s) = Paired s.phase (learn k q w r)
-PairedStep k q w Refuses = Unit {0}
+PairedStep k q w (Some (r, s)) = Paired s.phase (learn k q w r)
+PairedStep k q w None = Unit {0}
 
 pub paired_nothing : (n : ℕ) → Paired Top (nothing n)
 unfolding nothing

@@ -5,19 +5,18 @@ use Rattle.std.proofs.Common.{sym, ◌∙◌, ap, subst, arith}
 use Rattle.value.specs.Test.{◌=?◌}
 use Rattle.value.proofs.Tests.{both?, le?}
 use Rattle.image.specs.Memory.{patch}
+use Rattle.haai.specs.Grammar.{takes}
 use Rattle.haai.specs.Word.{word_start, word_end, bytes_of, class_of}
 use Rattle.haai.specs.Grammar.{begin, step_of, whole, form_of}
-use Rattle.haai.specs.Clauses.{check_of}
+use Rattle.haai.specs.Clauses.{check_of, right as right_form}
 use Rattle.haai.specs.Names.{Known, nothing, fault_of, learn}
 use Rattle.haai.specs.Emit.{code_of, declared, running}
 use Rattle.haai.specs.Places.{word_of}
 use Rattle.haai.specs.Tables.{Kept, first_tally, first_tree, learnt, known_by}
 use Rattle.haai.specs.Writing.{first_at, cursor_of, Added, added, adds, Writable}
 use Rattle.haai.specs.declared.Cursor.{Cursor}
-use Rattle.haai.specs.declared.FormCheck.TheVariants.{Right}
 use Rattle.haai.specs.declared.Reading.{Reading}
 use Rattle.haai.specs.declared.Role.{Role}
-use Rattle.haai.specs.declared.Step.TheVariants.{Takes}
 use Rattle.haai.proofs.Formed.{nth}
 use Rattle.haai.proofs.Fitting.{Sane, learn_sane, nothing_sane, unless_clean}
 use Rattle.haai.proofs.Counting.{Counted, Phased, StepGood, step_good}
@@ -62,7 +61,7 @@ module _ (t sizes : List ℕ) (end : ℕ) (old : List ℕ) where
       }
 
   pub pass_begins : (s : Reading) (a : ℕ) (x : Kept) (ls : List ℕ) → s ≡ begin → a ≡ word_start t 0
-      → check_of (form_of t) ≡ Right → x.tally ≡ first_tally (length t) → x.tree ≡ first_tree
+      → check_of (form_of t) ≡ right_form → x.tally ≡ first_tally (length t) → x.tree ≡ first_tree
       → length x.places ≡ 287 → length x.table ≡ 128 → length x.pile ≡ 48 → length ls ≡ 119
       → Passing s a x ls old
   pass_begins s a x ls e f r v u ps tb pl l =
@@ -100,7 +99,7 @@ module _ (t sizes : List ℕ) (end : ℕ) (old : List ℕ) where
       cursor = cursor_of sizes (first_at sizes end x.tree.definitions) x.tally x.tree
 
       module _ (l : a < length t) where
-        module _ (r : Role) (s₂ : Reading) (step : step_of s (class_of (word_of t a)) ≡ Takes r s₂) where
+        module _ (r : Role) (s₂ : Reading) (step : step_of s (class_of (word_of t a)) ≡ takes r s₂) where
           abbrev k : Known
           k = h.gathering.known
 
@@ -160,7 +159,7 @@ module _ (t sizes : List ℕ) (end : ℕ) (old : List ℕ) where
 
         -- the word ends before e, as the code has it
         pub pass_goes : (e : ℕ) → e ≡ word_end t a → (b : ℕ) (r : Role) (s₂ : Reading) (y : Kept)
-            (ls₂ out₂ : List ℕ) → b ≡ word_start t e → step_of s (class_of (bytes_of t a e)) ≡ Takes r s₂
+            (ls₂ out₂ : List ℕ) → b ≡ word_start t e → step_of s (class_of (bytes_of t a e)) ≡ takes r s₂
             → y ≡ learnt t a (bytes_of t a e) x r
             → added out₂ ls₂ ≡ adds t (bytes_of t a e) x.tally x.tree x.places x.pile cursor ls out r
             → Passing s₂ b y ls₂ out₂

@@ -4,6 +4,8 @@ use Rattle.std.specs.Prelude.{ℕ, ◌-◌, ◌≤◌, ◌<◌, ◌≡◌, refl,
 use Rattle.std.proofs.Common.{arith}
 use Rattle.value.specs.Test.{◌<?◌, ◌≤?◌, ◌=?◌, ◌and◌}
 use Rattle.value.proofs.Tests.{lt?, both?, pick_any, not_false}
+use Rattle.haai.specs.Grammar.{Step, takes}
+use Rattle.std.specs.Prelude.{Some, None}
 use Rattle.haai.specs.Word.{position, among, signs, defr_word, out_word, source_word}
 use Rattle.haai.specs.Grammar.{is_open, is_shut, named, operates, is_taken, begin, on_to, counting, deepened}
 use Rattle.haai.specs.Grammar.{sourced, defined, after_expression, expression, step_at, step_of}
@@ -20,8 +22,6 @@ use Rattle.haai.specs.declared.Reading.{Reading}
 use Rattle.haai.specs.declared.Role.{Role}
 use Rattle.haai.specs.declared.Role.TheVariants.{Source, Reactor, Parameter, Operand, Constant}
 use Rattle.haai.specs.declared.Role.TheVariants.{Operator as AnOperator, Apply, Define, Fixed}
-use Rattle.haai.specs.declared.Step.{Step}
-use Rattle.haai.specs.declared.Step.TheVariants.{Takes, Refuses}
 use Rattle.haai.proofs.Fitting.{guard_any}
 use Rattle.haai.proofs.Counting.{Counted, Phased}
 use Rattle.haai.proofs.Paired.{Paired}
@@ -79,8 +79,8 @@ Ready k Define =
 Ready k Fixed = Unit {0}
 
 abbrev pub ReadyStep : Known → ℕ → List ℕ → Step → Type 0
-ReadyStep k q w (Takes r s) = Ready k r × Shallow s (learn k q w r)
-ReadyStep k q w Refuses = Unit {0}
+ReadyStep k q w (Some (r, s)) = Ready k r × Shallow s (learn k q w r)
+ReadyStep k q w None = Unit {0}
 
 -- ---- one word
 
@@ -135,7 +135,7 @@ module _ (n : ℕ) (s : Reading) (k : Known) (q : ℕ) (w : List ℕ) (h : Shall
       (l, after_shallow s _ s.depth h.deep (signs_expr k _ k.pile _ h.signs_fit))
   expression_ready l Other = tt
 
-  operator_ready : length k.pile < 16 → Good (Takes AnOperator (on_to Operands s))
+  operator_ready : length k.pile < 16 → Good (takes AnOperator (on_to Operands s))
   unfolding learn add_operator with_pile on_to
   operator_ready l = (l, record { deep = h.deep; signs_fit = (operator_sign k w, h.signs_fit); flat = tt })
 

@@ -6,21 +6,20 @@ use Rattle.std.specs.Prelude.{[], ◌∷◌, length}
 use Rattle.std.proofs.Common.{arith}
 use Rattle.value.specs.Test.{pick, ◌<?◌, ◌≤?◌, ◌=?◌, ◌and◌}
 use Rattle.value.proofs.Tests.{lt?, both?, pick_any}
+use Rattle.haai.specs.Grammar.{Step, takes, refuses}
+use Rattle.std.specs.Prelude.{Some, None, Err}
 use Rattle.haai.specs.Word.{Word, word_start, word_end, bytes_of, class_of, defr_word, out_word, source_word}
 use Rattle.haai.specs.Grammar.{is_open, is_shut, named, operates, is_taken, begin, on_to, counting, deepened, sourced}
 use Rattle.haai.specs.Grammar.{defined, after_expression, expression, step_at, step_of, whole, Item, Formed, items}
 use Rattle.haai.specs.Grammar.{fault, with_item, taken, form_from, form_of}
-use Rattle.haai.specs.Clauses.{Room, check_of, check_end}
+use Rattle.haai.specs.Clauses.{Room, check_of, right}
 use Rattle.haai.specs.declared.Class.{Class}
 use Rattle.haai.specs.declared.Class.TheVariants.{Open, Shut, Sign, Number, Taken, Name, Other}
-use Rattle.haai.specs.declared.FormCheck.TheVariants.{Right, Wrong}
 use Rattle.haai.specs.declared.Phase.{Phase}
 use Rattle.haai.specs.declared.Phase.TheVariants.{Top, Form, SourceName, SourceEnd, Head, ReactorName}
 use Rattle.haai.specs.declared.Phase.TheVariants.{Parameters, Body, First, Out, Operator, Operands, End}
 use Rattle.haai.specs.declared.Reading.{Reading}
 use Rattle.haai.specs.declared.Role.{Role}
-use Rattle.haai.specs.declared.Step.{Step}
-use Rattle.haai.specs.declared.Step.TheVariants.{Takes, Refuses}
 use Rattle.haai.proofs.Ahead.{Ahead, ahead, at_first, first_words, at_last, word_at, onward, words_ahead, further}
 use Rattle.haai.proofs.Ahead.{end_in}
 
@@ -57,8 +56,8 @@ room s h =
     let a = h.few_sources in let b = h.few_definitions in let c = h.few in (omega arith, (omega arith, omega arith))
 
 abbrev pub SmallStep : Step → Type 0
-SmallStep (Takes r s) = Small s
-SmallStep Refuses = Unit {0}
+SmallStep (Some (r, s)) = Small s
+SmallStep None = Unit {0}
 
 small : {s : Reading} → s.sources ≤ 31 → s.definitions ≤ 32 → s.count ≤ 7
     → Phased s.phase s.sources s.definitions s.count s.many → Small s
@@ -132,7 +131,7 @@ unfolding check_of with_item
 check_item i (items is) = refl
 check_item i (fault q) = refl
 
-check_pick : (n : ℕ) (b : Bool) → pick b Right (Wrong n) ≡ check_of (pick b (items []) (fault n))
+check_pick : (n : ℕ) (b : Bool) → pick b right (Err n) ≡ check_of (pick b (items []) (fault n))
 unfolding check_of pick
 check_pick n true = refl
 check_pick n false = refl
@@ -160,12 +159,12 @@ module _ (t : List ℕ) where
         small = subst Small (sym e) small_begin;
       }
 
-  ends : (s : Reading) → check_end (length t) s ≡ check_of (form_from (length t) [] s)
-  unfolding check_end form_from
+  ends : (s : Reading) → pick (whole s) right (Err (length t)) ≡ check_of (form_from (length t) [] s)
+  unfolding form_from
   ends s = check_pick (length t) (whole s)
 
   module _ (s : Reading) (a : ℕ) (h : Checking s a) where
-    pub check_ends : length t ≤ a → check_end (length t) s ≡ check_of (form_of t)
+    pub check_ends : length t ≤ a → pick (whole s) right (Err (length t)) ≡ check_of (form_of t)
     check_ends l =
         ends s ∙ sym (h.same ∙ ap (λ (ws : List Word). check_of (form_from (length t) ws s)) (at_last t h.words l))
 
@@ -191,11 +190,11 @@ module _ (t : List ℕ) where
           ∙ ap (λ (ws : List Word). check_of (form_from (length t) ws s)) (words_ahead t h.words l b e)
           ∙ ap check_of (form_word (length t) (word_at t a) (ahead t (onward t h.words l b e)) s)
 
-      pub check_refused : (b : ℕ) → b ≡ word_start t (word_end t a) → step ≡ Refuses → Wrong a ≡ check_of (form_of t)
+      pub check_refused : (b : ℕ) → b ≡ word_start t (word_end t a) → step ≡ refuses → Err a ≡ check_of (form_of t)
       unfolding check_of taken
       check_refused b e q = sym (turn b e ∙ ap (λ (x : Step). check_of (taken (later b e) (word_at t a) x)) q)
 
-      pub check_taken : (b : ℕ) (r : Role) (s₂ : Reading) → b ≡ word_start t (word_end t a) → step ≡ Takes r s₂
+      pub check_taken : (b : ℕ) (r : Role) (s₂ : Reading) → b ≡ word_start t (word_end t a) → step ≡ takes r s₂
           → Checking s₂ b
       unfolding taken
       check_taken b r s₂ e q =

@@ -9,13 +9,20 @@ use lib.IntN.{ℤ, pos, neg_ℤ}
 use lib.Dec.{ltb}
 use mir.Syntax.{w32}
 use mir.Val.{of_z}
-use Rattle.value.specs.Test.{guard, ◌<?◌, ◌≤?◌, ◌=?◌}
+use Rattle.value.specs.Test.{guard, ◌<?◌, ◌≤?◌, ◌=?◌, ◌and◌}
 use Rattle.value.specs.Primitive.{in32}
-use Rattle.value.proofs.Tests.{cases, goes, stops, yes, no, eq!, eq×, lt!, lt×, lt?, lt×?, le?, le!, le×, both?}
+use Rattle.value.proofs.Tests.{cases, goes, stops, yes, no, eq!, eq×, lt!, lt×, lt?, lt×?, le!, le×, both?, both! }
+use Rattle.value.proofs.Tests.{le?, left×, right×, true_and}
 use Rattle.value.proofs.Tests.{same_test}
 use Rattle.program.specs.Bytes.{byte}
-use Rattle.haai.specs.Word.{same_word, position, every, decimal, has_minus, digits, integer_of, is_number}
-use Rattle.haai.specs.Clauses.{most, capped, first_digit}
+use Rattle.haai.specs.Word.{signs, sign_at, among}
+use Rattle.haai.specs.Word.{same_word, position, every, is_digit, decimal, has_minus, digits, integer_of, is_number}
+use Rattle.std.specs.List.{list_all}
+use Rattle.std.specs.Cmp.Lexicographic.{pointwise}
+use Rattle.std.specs.Prelude.{Some, None, take, ◌%◌}
+use lib.Dec.{eqb}
+use Rattle.haai.specs.Clauses.{most, capped, magnitude_of, number_of, sign_of}
+use Rattle.haai.specs.declared.Sign.{Sign}
 
 -- ---- a word from byte i on
 
@@ -29,48 +36,25 @@ every_of : (ok : ℕ → Bool) (x : ℕ) (xs : List ℕ) → every ok (x ∷ xs)
 unfolding every
 every_of ok x xs = refl
 
-module _ (ok : ℕ → Bool) (w : List ℕ) (i : ℕ) where
-  turn : i < length w → every ok (drop i w) ≡ guard (ok (byte w i)) false (λ _. every ok (drop (i + 1) w))
-  turn h = ap (every ok) (drop_next w i h) ∙ every_of ok (byte w i) (drop (i + 1) w)
-
-  pub every_found : i < length w → ok (byte w i) ≡ false → false ≡ every ok (drop i w)
-  every_found h e = stops _ e refl ∙ sym (turn h)
-
-  pub every_next : i < length w → ok (byte w i) ≡ true → every ok (drop i w) ≡ every ok (drop (i + 1) w)
-  every_next h e = turn h ∙ sym (goes _ _ e refl)
-
-  pub every_done : length w ≤ i → true ≡ every ok (drop i w)
-  unfolding every
-  every_done h = rw (drop_of_length-le w {i = i} h)
+pub every_is : (ok : ℕ → Bool) (xs : List ℕ) → list_all ok xs ≡ every ok xs
+unfolding every
+every_is ok [] = refl
+every_is ok (x ∷ xs) =
+    cases (ok x)
+    (λ e. goes _ _ e (rw e (every_is ok xs)))
+    (λ e. stops _ e (rw e refl))
 
 -- ---- two words
 
-pub other_lengths : (a b : List ℕ) → (length a ≡ length b → ⊥) → false ≡ same_word a b
-unfolding same_word
-other_lengths [] [] h = absurd (h refl)
-other_lengths [] (y ∷ ys) h = refl
-other_lengths (x ∷ xs) [] h = refl
-other_lengths (x ∷ xs) (y ∷ ys) h =
-    cases (x =? y) (λ e. goes _ _ e (other_lengths xs ys (λ q. h (omega arith)))) (λ e. stops _ e refl)
-
-module _ (a b : List ℕ) (i : ℕ) where
-  pair : i < length a → i < length b
-      → same_word (drop i a) (drop i b)
-      ≡ guard (byte a i =? byte b i) false (λ _. same_word (drop (i + 1) a) (drop (i + 1) b))
-  unfolding same_word
-  pair h k = rw (drop_next a i h, drop_next b i k)
-
-  pub same_found : i < length a → length a ≡ length b → (byte a i ≡ byte b i → ⊥)
-      → false ≡ same_word (drop i a) (drop i b)
-  same_found h k d = stops _ (eq× d) refl ∙ sym (pair h (omega arith))
-
-  pub same_next : i < length a → length a ≡ length b → byte a i ≡ byte b i
-      → same_word (drop i a) (drop i b) ≡ same_word (drop (i + 1) a) (drop (i + 1) b)
-  same_next h k e = pair h (omega arith) ∙ sym (goes _ _ (eq! e) refl)
-
-  pub same_done : length a ≤ i → length a ≡ length b → true ≡ same_word (drop i a) (drop i b)
-  unfolding same_word
-  same_done h k = rw (drop_of_length-le a {i = i} h, drop_of_length-le b {i = i} (omega arith))
+pub same_is : (a b : List ℕ) → pointwise eqb a b ≡ same_word a b
+unfolding same_word ◌=?◌
+same_is [] [] = refl
+same_is [] (y ∷ ys) = refl
+same_is (x ∷ xs) [] = refl
+same_is (x ∷ xs) (y ∷ ys) =
+    cases (x =? y)
+    (λ e. goes _ _ e (rw e (same_is xs ys)))
+    (λ e. stops _ e (rw e refl))
 
 -- ---- decimal digits, capped
 
@@ -176,82 +160,126 @@ in32_below (suc n) =
     ∙ same_test (n ≤? 2147483647) (suc n ≤? 2147483648) (λ e. le! (let l : n ≤ 2147483647 = le? e in omega arith))
     (λ e. le! (let l : suc n ≤ 2147483648 = le? e in omega arith))
 
-capped_test : (n m : ℕ) → m < most → (capped n ≤? m) ≡ (n ≤? m)
-capped_test n m h =
-    cases (n <? most)
-    (λ e. ap (λ (k : ℕ). k ≤? m) (sym (capped_is n (lt? e))))
-    (λ e. let l : most ≤ n = lt×? e in ap (λ (k : ℕ). k ≤? m) (sym (capped-most n l)) ∙ le× h ∙ sym (le× (omega arith)))
+-- a number that is capped is exact below the cap, and no larger than what it caps
+capped_exact : (n m : ℕ) → m ≡ capped n → m < most → m ≡ n
+capped_exact n m e l =
+    cases (n <? most) (λ q. e ∙ sym (capped_is n (lt? q)))
+    (λ q. let k = capped-most n (lt×? q) in absurd (omega arith))
+
+capped_below : (n m k : ℕ) → m ≡ capped n → k ≤ m → k ≤ n
+capped_below n m k e l =
+    cases (n <? most) (λ q. let z = capped_is n (lt? q) in omega arith)
+    (λ q. let z = capped-most n (lt×? q) in let y : most ≤ n = lt×? q in omega arith)
+
+minus_is : (w : List ℕ) → pointwise eqb (take 1 w) (45 ∷ []) ≡ has_minus w
+unfolding has_minus byte ◌=?◌
+minus_is [] = refl
+minus_is (x ∷ xs) = and_true (eqb x 45)
+
+pub with_minus : (w d : List ℕ) → pointwise eqb (take 1 w) (45 ∷ []) ≡ true → d ≡ drop 1 w
+    → (has_minus w ≡ true) × (d ≡ digits w)
+unfolding digits
+with_minus w d e f = let h = sym (minus_is w) ∙ e in (h, f ∙ yes _ h refl)
+
+pub no_minus : (w : List ℕ) → pointwise eqb (take 1 w) (45 ∷ []) ≡ false → (has_minus w ≡ false) × (w ≡ digits w)
+unfolding digits
+no_minus w e = let h = sym (minus_is w) ∙ e in (h, no _ h refl)
+
+-- two's complement
+minus : (n : ℕ) → 4294967296 - suc n ≡ of_z w32 (neg_ℤ (pos (suc n)))
+minus n = omega arith
+
+minus_value : (n x : ℕ) → n ≤ 2147483648 → x < 4294967296 → (x + n) % 4294967296 ≡ 0 → x ≡ of_z w32 (neg_ℤ (pos n))
+minus_value zero x l h e = let z : x ≡ 0 = omega arith in z
+minus_value (suc n) x l h e = let z : x ≡ 4294967296 - suc n = omega arith in z ∙ minus n
 
 module _ (w : List ℕ) where
-  pub first_digits : (f : ℕ) → f ≡ first_digit w → drop f w ≡ digits w
-  unfolding first_digit digits
-  first_digits f e =
-      cases (has_minus w)
-      (λ q. let z : f ≡ 1 = e ∙ sym (yes _ q refl) in ap (λ (k : ℕ). drop k w) z ∙ yes _ q refl)
-      (λ q. let z : f ≡ 0 = e ∙ sym (no _ q refl) in ap (λ (k : ℕ). drop k w) z ∙ no _ q refl)
+  abbrev of_digits : Bool
+  of_digits = (0 <? length (digits w)) and every is_digit (digits w)
 
-  by_digits : (f m : ℕ) → f ≡ first_digit w → m ≡ capped (decimal 0 (drop f w)) → m ≡ capped (decimal 0 (digits w))
-  by_digits f m e h = h ∙ ap (λ (l : List ℕ). capped (decimal 0 l)) (first_digits f e)
+  abbrev worth : ℕ
+  worth = decimal 0 (digits w)
 
-  -- the test of the code: 2147483647 above zero, one more below
-  pub in_range : (f m : ℕ) → f ≡ first_digit w → m ≡ capped (decimal 0 (drop f w))
-      → (m ≤? 2147483647 + f) ≡ in32 (integer_of w)
-  unfolding first_digit integer_of
-  in_range f m e h =
-      let n = decimal 0 (digits w) in
-      let g = by_digits f m e h in
-      cases (has_minus w)
-      (λ q.
-      let z : f ≡ 1 = e ∙ sym (yes _ q refl) in
-      rw (g, z) (capped_test n 2147483648 (omega arith) ∙ sym (in32_below n) ∙ ap in32 (yes _ q refl)))
-      (λ q.
-      let z : f ≡ 0 = e ∙ sym (no _ q refl) in
-      rw (g, z) (capped_test n 2147483647 (omega arith) ∙ sym (in32_above n) ∙ ap in32 (no _ q refl)))
+  fits : of_digits ≡ true → in32 (integer_of w) ≡ true → is_number w ≡ true
+  unfolding is_number
+  fits e f = let b = both? e in both! b.0 (both! b.1 f)
 
-  module _ (f m : ℕ) (e : f ≡ first_digit w) (h : m ≡ capped (decimal 0 (drop f w))) (ok : is_number w ≡ true) where
-    small : m ≤ 2147483647 + f
-    unfolding is_number
-    small = le? (in_range f m e h ∙ (both? (both? ok).1).1)
+  fits_not : in32 (integer_of w) ≡ false → is_number w ≡ false
+  unfolding is_number
+  fits_not f = right× _ (right× _ f)
 
-    exact : f ≤ 1 → m ≡ decimal 0 (digits w)
-    exact l =
-        let g = by_digits f m e h in
-        let s = small in
-        cases (decimal 0 (digits w) <? most) (λ q. g ∙ sym (capped_is _ (lt? q)))
-        (λ q. let k = capped-most (decimal 0 (digits w)) (lt×? q) in absurd (omega arith))
+  no_digits : of_digits ≡ false → is_number w ≡ false
+  unfolding is_number
+  no_digits e =
+      cases (0 <? length (digits w)) (λ q. right× _ (left× _ (sym (true_and _ q) ∙ e))) (λ q. left× _ q)
 
-    pub number_above : f ≡ 0 → m ≡ of_z w32 (integer_of w)
-    unfolding integer_of first_digit
-    number_above z =
-        cases (has_minus w)
-        (λ q. absurd (let y : f ≡ 1 = e ∙ sym (yes _ q refl) in omega arith))
-        (λ q. exact (omega arith) ∙ ap (λ (y : ℤ). of_z w32 y) (no _ q refl))
+  pub number_none : None ≡ magnitude_of (digits w) → None ≡ number_of w
+  unfolding magnitude_of number_of
+  number_none e =
+      cases of_digits
+      (λ q. let z : None ≡ Some (capped worth) = e ∙ sym (yes _ q refl) in absurd (cc))
+      (λ q. no _ (no_digits q) refl)
 
-    minus : (n : ℕ) → 4294967296 - suc n ≡ of_z w32 (neg_ℤ (pos (suc n)))
-    minus n = omega arith
+  module _ (m : ℕ) (e : Some m ≡ magnitude_of (digits w)) where
+    ready : (of_digits ≡ true) × (m ≡ capped worth)
+    unfolding magnitude_of
+    ready =
+        cases of_digits
+        (λ q. let z : Some m ≡ Some (capped worth) = e ∙ sym (yes _ q refl) in (q, cc))
+        (λ q. let z : Some m ≡ None = e ∙ sym (no _ q refl) in absurd (cc))
 
-    below : (n : ℕ) → (f ≡ 0 → ⊥) → n ≡ decimal 0 (digits w) → of_z w32 (neg_ℤ (pos n)) ≡ of_z w32 (integer_of w)
-    unfolding integer_of first_digit
-    below n d q =
-        cases (has_minus w)
-        (λ s. ap (λ (k : ℕ). of_z w32 (neg_ℤ (pos k))) q ∙ ap (λ (y : ℤ). of_z w32 y) (yes _ s refl))
-        (λ s. absurd (d (e ∙ sym (no _ s refl))))
+    refused : in32 (integer_of w) ≡ false → None ≡ number_of w
+    unfolding number_of
+    refused f = no _ (fits_not f) refl
 
-    first_small : f ≤ 1
-    unfolding first_digit
-    first_small =
-        cases (has_minus w) (λ q. let y : f ≡ 1 = e ∙ sym (yes _ q refl) in omega arith)
-        (λ q. let y : f ≡ 0 = e ∙ sym (no _ q refl) in omega arith)
+    found : (x : ℕ) → in32 (integer_of w) ≡ true → x ≡ of_z w32 (integer_of w) → Some x ≡ number_of w
+    unfolding number_of
+    found x f z = yes _ (fits ready.0 f) (ap (λ (y : ℕ). Some y) z)
 
-    pub number_zero : (f ≡ 0 → ⊥) → m ≡ 0 → 0 ≡ of_z w32 (integer_of w)
-    number_zero d z = below 0 d (sym z ∙ exact first_small)
+    pub number_found : has_minus w ≡ false → m < 2147483648 → Some m ≡ number_of w
+    unfolding integer_of
+    number_found h l =
+        let z : pos worth ≡ integer_of w = no _ h refl in
+        let q : m ≡ worth = capped_exact worth m ready.1 (omega arith) in
+        found m (ap in32 (sym z) ∙ in32_above worth ∙ le! (omega arith)) (q ∙ ap (λ (y : ℤ). of_z w32 y) z)
 
-    pub number_below : (f ≡ 0 → ⊥) → (m ≡ 0 → ⊥) → 4294967296 - m ≡ of_z w32 (integer_of w)
-    number_below d z = by m refl
-      where
-        by : (n : ℕ) → n ≡ m → 4294967296 - m ≡ of_z w32 (integer_of w)
-        by zero q = absurd (z (sym q))
-        by (suc n) q = ap (λ (k : ℕ). 4294967296 - k) (sym q) ∙ minus n ∙ below (suc n) d (q ∙ exact first_small)
+    pub number_large : has_minus w ≡ false → 2147483648 ≤ m → None ≡ number_of w
+    unfolding integer_of
+    number_large h l =
+        let z : pos worth ≡ integer_of w = no _ h refl in
+        let q : 2147483648 ≤ worth = capped_below worth m 2147483648 ready.1 l in
+        refused (ap in32 (sym z) ∙ in32_above worth ∙ le× (omega arith))
 
-pub magnitude_bound : (m n : ℕ) → m ≡ capped n → m ≤ 2147483649
-magnitude_bound m n e = rw e (capped_le n)
+    pub minus_found : (x : ℕ) → has_minus w ≡ true → m < most → x < 4294967296 → (x + m) % 4294967296 ≡ 0
+        → Some x ≡ number_of w
+    unfolding integer_of
+    minus_found x h l r s =
+        let z : neg_ℤ (pos worth) ≡ integer_of w = yes _ h refl in
+        let q : m ≡ worth = capped_exact worth m ready.1 l in
+        found x (ap in32 (sym z) ∙ in32_below worth ∙ le! (omega arith))
+        (minus_value worth x (omega arith) r (ap (λ (y : ℕ). (x + y) % 4294967296) (sym q) ∙ s)
+        ∙ ap (λ (y : ℤ). of_z w32 y) z)
+
+    pub minus_large : has_minus w ≡ true → most ≤ m → None ≡ number_of w
+    unfolding integer_of
+    minus_large h l =
+        let z : neg_ℤ (pos worth) ≡ integer_of w = yes _ h refl in
+        let q : most ≤ worth = capped_below worth m most ready.1 l in
+        refused (ap in32 (sym z) ∙ in32_below worth ∙ le× (omega arith))
+
+-- ---- signs
+
+module _ (w : List ℕ) where
+  pub sign_found : (s : Sign) → Some s ≡ sign_of w → (among signs w ≡ true) × (s ≡ sign_at (position signs w))
+  unfolding sign_of
+  sign_found s e =
+      cases (among signs w)
+      (λ q. let z : Some s ≡ Some (sign_at (position signs w)) = e ∙ sym (yes _ q refl) in (q, cc))
+      (λ q. let z : Some s ≡ None = e ∙ sym (no _ q refl) in absurd (cc))
+
+  pub sign_none : None ≡ sign_of w → among signs w ≡ false
+  unfolding sign_of
+  sign_none e =
+      cases (among signs w)
+      (λ q. let z : None ≡ Some (sign_at (position signs w)) = e ∙ sym (yes _ q refl) in absurd (cc))
+      (λ q. q)

@@ -1,26 +1,20 @@
 -- What the contracts speak of beside the definitions: definitions cut as the code is cut.
-use Rattle.std.specs.Prelude.{ℕ, ◌+◌, ◌-◌, ◌<◌, Bool, not, List, length}
-use Rattle.value.specs.Test.{pick, guard, sweep, ◌<?◌, ◌=?◌, ◌or◌}
-use Rattle.program.specs.Bytes.{byte}
+use Rattle.std.specs.Prelude.{ℕ, ◌+◌, ◌*◌, ◌<◌, Bool, List, length, Option, Some, None, Result, Ok, Err}
+use Rattle.std.specs.Int.{w32}
+use Rattle.std.proofs.Common.{of_z}
+use Rattle.value.specs.Test.{pick, ◌<?◌, ◌=?◌, ◌and◌, ◌or◌}
 use Rattle.answer.specs.Answer.{Answer}
-use Rattle.haai.specs.Word.{ends_word, is_letter, is_digit, minus_byte, has_minus, is_name, among, position, taken_words}
-use Rattle.haai.specs.Grammar.{most_brackets, deepened, whole, Formed, items, fault}
+use Rattle.haai.specs.Word.{is_letter, is_digit, minus_byte, among, position, every, decimal, is_number, integer_of}
+use Rattle.haai.specs.Word.{signs, sign_at, taken_words, taken_at}
+use Rattle.haai.specs.Grammar.{Step, takes, refuses, most_brackets, deepened, Formed, items, fault}
 use Rattle.haai.specs.Compile.{Compilation}
-use Rattle.haai.specs.declared.Class.{Class}
-use Rattle.haai.specs.declared.Class.TheVariants.{Taken, Name, Other}
-use Rattle.haai.specs.declared.FormCheck.{FormCheck}
-use Rattle.haai.specs.declared.FormCheck.TheVariants.{Right, Wrong}
 use Rattle.haai.specs.declared.Phase.TheVariants.{Operator}
 use Rattle.haai.specs.declared.Reading.{Reading}
 use Rattle.haai.specs.declared.Role.TheVariants.{Fixed}
-use Rattle.haai.specs.declared.Step.{Step}
-use Rattle.haai.specs.declared.Step.TheVariants.{Takes, Refuses}
+use Rattle.haai.specs.declared.Sign.{Sign}
+use Rattle.haai.specs.declared.Taken.{Taken}
 
 -- ---- words
-
--- the end of a word that is no bracket
-unfoldable pub plain_end : List ℕ → ℕ → ℕ
-plain_end t i = sweep (λ j. not (ends_word (byte t j))) i (length t - i)
 
 -- a byte of a name
 unfoldable pub is_part : ℕ → Bool
@@ -33,14 +27,19 @@ most = 2147483649
 unfoldable pub capped : ℕ → ℕ
 capped n = pick (n <? most) n most
 
-unfoldable pub first_digit : List ℕ → ℕ
-first_digit w = pick (has_minus w) 1 0
+-- what digits come to, if a word is of digits
+unfoldable pub magnitude_of : List ℕ → Option ℕ
+magnitude_of w = pick ((0 <? length w) and every is_digit w) (Some (capped (decimal 0 w))) None
 
--- a word that is no bracket, sign or number
-unfoldable pub named_class : List ℕ → Class
-named_class w =
-    guard (not (among taken_words w)) (Taken (position taken_words w)) (λ _.
-    pick (is_name w) Name Other)
+-- the number, the sign or the taken word that a word is
+unfoldable pub number_of : List ℕ → Option ℕ
+number_of w = pick (is_number w) (Some (of_z w32 (integer_of w))) None
+
+unfoldable pub sign_of : List ℕ → Option Sign
+sign_of w = pick (among signs w) (Some (sign_at (position signs w))) None
+
+unfoldable pub taken_of : List ℕ → Option Taken
+taken_of w = pick (among taken_words w) (Some (taken_at (position taken_words w))) None
 
 -- ---- the form
 
@@ -50,16 +49,15 @@ Room s = (s.sources < 255) × ((s.definitions < 255) × (s.count < 255))
 
 -- a bracket where an expression can stand
 unfoldable pub opened_step : Reading → Step
-opened_step s = pick (s.depth <? most_brackets) (Takes Fixed (deepened Operator (s.depth + 1) s)) Refuses
+opened_step s = pick (s.depth <? most_brackets) (takes Fixed (deepened Operator (s.depth + 1) s)) refuses
 
 -- 16 alone, without the words in their roles
-unfoldable pub check_of : Formed → FormCheck
-check_of (items is) = Right
-check_of (fault q) = Wrong q
+abbrev pub right : Result (Unit {0}) ℕ
+right = Ok tt
 
--- the text of n bytes ends
-unfoldable pub check_end : ℕ → Reading → FormCheck
-check_end n s = pick (whole s) Right (Wrong n)
+unfoldable pub check_of : Formed → Result (Unit {0}) ℕ
+check_of (items is) = right
+check_of (fault q) = Err q
 
 -- ---- the call
 

@@ -1,9 +1,9 @@
 -- 8.2 The form of a text, word by word from the left: which word can come next, and what it is in the form. A taken
 -- word counts as a name where a name can stand, and is for 17 to refuse.
-use Rattle.std.specs.Prelude.{ℕ, ◌+◌, ◌-◌, Bool, true, false, List, [], ◌∷◌, length}
+use Rattle.std.specs.Prelude.{ℕ, ◌+◌, ◌-◌, Bool, true, false, List, [], ◌∷◌, length, Option, Some, None}
 use Rattle.value.specs.Test.{pick, ◌<?◌, ◌≤?◌, ◌=?◌, ◌and◌}
 use Rattle.program.specs.Bytes.{most_globals}
-use Rattle.haai.specs.Word.{Word, words_of, class_of, defr_word, out_word, source_word}
+use Rattle.haai.specs.Word.{Word, words_of, class_of, taken_number, defr_word, out_word, source_word}
 use Rattle.haai.specs.declared.Class.{Class}
 use Rattle.haai.specs.declared.Class.TheVariants.{Open, Shut, Sign, Number, Taken, Name, Other}
 use Rattle.haai.specs.declared.Phase.{Phase}
@@ -13,8 +13,7 @@ use Rattle.haai.specs.declared.Reading.{Reading}
 use Rattle.haai.specs.declared.Role.{Role}
 use Rattle.haai.specs.declared.Role.TheVariants.{Source, Reactor, Parameter, Operand, Constant}
 use Rattle.haai.specs.declared.Role.TheVariants.{Operator as AnOperator, Apply, Define, Fixed}
-use Rattle.haai.specs.declared.Step.{Step}
-use Rattle.haai.specs.declared.Step.TheVariants.{Takes, Refuses}
+use Rattle.haai.specs.declared.Taken.{Taken as TakenWord}
 
 -- 8.2, 8.3, 8.4 The most definitions, the most parameters or expressions of one, the most open brackets.
 abbrev pub most_definitions : ℕ
@@ -25,6 +24,16 @@ most_ports = 7
 
 abbrev pub most_brackets : ℕ
 most_brackets = 16
+
+-- The form takes a word, in a role, and the state after it; or it can't.
+abbrev pub Step : Type 0
+Step = Option (Role × Reading)
+
+abbrev pub takes : Role → Reading → Step
+takes r s = Some (r, s)
+
+abbrev pub refuses : Step
+refuses = None
 
 -- ---- classes
 
@@ -66,12 +75,12 @@ operates Name = true
 operates Other = false
 
 -- the taken word k
-unfoldable pub is_taken : ℕ → Class → Bool
+unfoldable pub is_taken : TakenWord → Class → Bool
 is_taken k Open = false
 is_taken k Shut = false
 is_taken k (Sign o) = false
 is_taken k (Number n) = false
-is_taken k (Taken j) = j =? k
+is_taken k (Taken j) = taken_number j =? taken_number k
 is_taken k Name = false
 is_taken k Other = false
 
@@ -141,46 +150,46 @@ after_expression s d =
 
 -- an expression's first word: a bracket, a number or a name
 unfoldable pub expression : Reading → Class → Step
-expression s Open = pick (s.depth <? most_brackets) (Takes Fixed (deepened Operator (s.depth + 1) s)) Refuses
-expression s Shut = Refuses
-expression s (Sign o) = Refuses
-expression s (Number n) = Takes (Constant n) (after_expression s s.depth)
-expression s (Taken k) = Takes Operand (after_expression s s.depth)
-expression s Name = Takes Operand (after_expression s s.depth)
-expression s Other = Refuses
+expression s Open = pick (s.depth <? most_brackets) (takes Fixed (deepened Operator (s.depth + 1) s)) refuses
+expression s Shut = refuses
+expression s (Sign o) = refuses
+expression s (Number n) = takes (Constant n) (after_expression s s.depth)
+expression s (Taken k) = takes Operand (after_expression s s.depth)
+expression s Name = takes Operand (after_expression s s.depth)
+expression s Other = refuses
 
 -- 8.2 to 8.4 What each phase takes; counts of operands are no matter of the form.
 unfoldable pub step_at : Phase → Reading → Class → Step
 -- between forms: 32 definitions are all
-step_at Top s c = pick (is_open c and (s.definitions <? most_definitions)) (Takes Fixed (on_to Form s)) Refuses
+step_at Top s c = pick (is_open c and (s.definitions <? most_definitions)) (takes Fixed (on_to Form s)) refuses
 -- `source` while there is no definition, up to 31 times; or `defr`
 step_at Form s c =
     pick (is_taken source_word c and ((s.definitions =? 0) and (s.sources <? most_globals)))
-    (Takes Fixed (on_to SourceName s))
-    (pick (is_taken defr_word c) (Takes Fixed (on_to Head s)) Refuses)
-step_at SourceName s c = pick (named c) (Takes Source (on_to SourceEnd s)) Refuses
-step_at SourceEnd s c = pick (is_shut c) (Takes Fixed (sourced s)) Refuses
+    (takes Fixed (on_to SourceName s))
+    (pick (is_taken defr_word c) (takes Fixed (on_to Head s)) refuses)
+step_at SourceName s c = pick (named c) (takes Source (on_to SourceEnd s)) refuses
+step_at SourceEnd s c = pick (is_shut c) (takes Fixed (sourced s)) refuses
 -- `(name p ...)`
-step_at Head s c = pick (is_open c) (Takes Fixed (on_to ReactorName s)) Refuses
-step_at ReactorName s c = pick (named c) (Takes Reactor (counting Parameters 0 false s)) Refuses
+step_at Head s c = pick (is_open c) (takes Fixed (on_to ReactorName s)) refuses
+step_at ReactorName s c = pick (named c) (takes Reactor (counting Parameters 0 false s)) refuses
 step_at Parameters s c =
-    pick (is_shut c) (Takes Fixed (counting Body 0 false s))
+    pick (is_shut c) (takes Fixed (counting Body 0 false s))
     (pick (named c and (s.count <? most_ports))
-    (Takes Parameter (counting Parameters (s.count + 1) false s))
-    Refuses)
+    (takes Parameter (counting Parameters (s.count + 1) false s))
+    refuses)
 -- one expression or `(out e ...)`
-step_at Body s c = pick (is_open c) (Takes Fixed (deepened First 1 s)) (expression s c)
+step_at Body s c = pick (is_open c) (takes Fixed (deepened First 1 s)) (expression s c)
 step_at First s c =
-    pick (is_taken out_word c) (Takes Fixed (counting Out 0 true s))
-    (pick (operates c) (Takes AnOperator (on_to Operands s)) Refuses)
+    pick (is_taken out_word c) (takes Fixed (counting Out 0 true s))
+    (pick (operates c) (takes AnOperator (on_to Operands s)) refuses)
 step_at Out s c =
-    pick (is_shut c and (1 ≤? s.count)) (Takes Fixed (counting End s.count true s))
-    (pick (s.count <? most_ports) (expression s c) Refuses)
+    pick (is_shut c and (1 ≤? s.count)) (takes Fixed (counting End s.count true s))
+    (pick (s.count <? most_ports) (expression s c) refuses)
 -- after an expression's bracket: + - * / or a name
-step_at Operator s c = pick (operates c) (Takes AnOperator (on_to Operands s)) Refuses
-step_at Operands s c = pick (is_shut c) (Takes Apply (after_expression s (s.depth - 1))) (expression s c)
+step_at Operator s c = pick (operates c) (takes AnOperator (on_to Operands s)) refuses
+step_at Operands s c = pick (is_shut c) (takes Apply (after_expression s (s.depth - 1))) (expression s c)
 -- the end of a definition
-step_at End s c = pick (is_shut c) (Takes Define (defined s)) Refuses
+step_at End s c = pick (is_shut c) (takes Define (defined s)) refuses
 
 unfoldable pub step_of : Reading → Class → Step
 step_of s c = step_at s.phase s c
@@ -223,8 +232,8 @@ with_item i (fault q) = fault q
 
 -- `rest` reads the words that follow
 unfoldable pub taken : (Reading → Formed) → Word → Step → Formed
-taken rest w (Takes r s) = with_item (record { role = r; word = w }) (rest s)
-taken rest w Refuses = fault w.at
+taken rest w (Some (r, s)) = with_item (record { role = r; word = w }) (rest s)
+taken rest w None = fault w.at
 
 -- the words ws from state s on; the text's length is n
 unfoldable pub form_from : ℕ → List Word → Reading → Formed

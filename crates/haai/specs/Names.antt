@@ -64,7 +64,7 @@ meant k w =
     global 0))
 
 unfoldable pub fit_operand : Known → List ℕ → Bool
-fit_operand k w = among k.parameters w or (among k.sources w or same_word (get_or taken_words time_word []) w)
+fit_operand k w = among k.parameters w or (among k.sources w or same_word time_word w)
 
 unfoldable pub operator_of : Known → List ℕ → Operator
 operator_of k w =

@@ -159,7 +159,7 @@ is_parameter t w x = among (parameters_in t x.places x.tally) w
 
 unfoldable pub fits_operand : List ℕ → List ℕ → Kept → Bool
 fits_operand t w x =
-    is_parameter t w x or (among (sources_in t x.places x.tally) w or same_word (get_or taken_words time_word []) w)
+    is_parameter t w x or (among (sources_in t x.places x.tally) w or same_word time_word w)
 
 module _ (t : List ℕ) (a : ℕ) (w : List ℕ) (x : Kept) where
   unfoldable pub operand_kept : Kept

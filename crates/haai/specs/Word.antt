@@ -4,7 +4,11 @@ use Rattle.value.specs.Test.{pick, ◌<?◌, ◌≤?◌, ◌=?◌, ◌and◌, �
 use Rattle.value.specs.Primitive.{in32}
 use Rattle.program.specs.Bytes.{byte}
 use Rattle.haai.specs.declared.Class.{Class}
-use Rattle.haai.specs.declared.Class.TheVariants.{Open, Shut, Sign, Number, Taken, Name, Other}
+use Rattle.haai.specs.declared.Class.TheVariants.{Open, Shut, Sign as ASign, Number, Taken as ATaken, Name, Other}
+use Rattle.haai.specs.declared.Sign.{Sign}
+use Rattle.haai.specs.declared.Sign.TheVariants.{Plus, Minus, Times, Divide}
+use Rattle.haai.specs.declared.Taken.{Taken}
+use Rattle.haai.specs.declared.Taken.TheVariants.{Time, Defr, Out, Source}
 use Rattle.std.specs.Prelude.{ℤ, pos, neg_ℤ}
 use Rattle.std.specs.Int.{w32}
 use Rattle.std.proofs.Common.{of_z}
@@ -90,30 +94,50 @@ is_digit c = (48 ≤? c) and (c ≤? 57)
 unfoldable pub is_name : List ℕ → Bool
 is_name w = is_letter (byte w 0) and (length w ≤? 16) and every (λ c. is_letter c or (is_digit c or (c =? minus_byte))) w
 
+abbrev pub defr_word : Taken
+defr_word = Defr
+
+abbrev pub out_word : Taken
+out_word = Out
+
+abbrev pub source_word : Taken
+source_word = Source
+
 -- 8.6 The words that are taken, as bytes: time, defr, out, source.
+abbrev pub time_word : List ℕ
+time_word = 116 ∷ 105 ∷ 109 ∷ 101 ∷ []
+
 abbrev pub taken_words : List (List ℕ)
 taken_words =
-    (116 ∷ 105 ∷ 109 ∷ 101 ∷ [])
+    time_word
     ∷ (100 ∷ 101 ∷ 102 ∷ 114 ∷ [])
     ∷ (111 ∷ 117 ∷ 116 ∷ [])
     ∷ (115 ∷ 111 ∷ 117 ∷ 114 ∷ 99 ∷ 101 ∷ [])
     ∷ []
 
-abbrev pub time_word : ℕ
-time_word = 0
+-- the taken word at place n of these, and the place of one
+unfoldable pub taken_at : ℕ → Taken
+taken_at zero = Time
+taken_at (suc zero) = defr_word
+taken_at (suc (suc zero)) = out_word
+taken_at (suc (suc (suc n))) = source_word
 
-abbrev pub defr_word : ℕ
-defr_word = 1
-
-abbrev pub out_word : ℕ
-out_word = 2
-
-abbrev pub source_word : ℕ
-source_word = 3
+unfoldable pub taken_number : Taken → ℕ
+taken_number Time = 0
+taken_number Defr = 1
+taken_number Out = 2
+taken_number Source = 3
 
 -- 8.8 The signs + - * / stand for the primitives 0 to 3, in this order.
 abbrev pub signs : List (List ℕ)
 signs = (43 ∷ []) ∷ (minus_byte ∷ []) ∷ (42 ∷ []) ∷ (47 ∷ []) ∷ []
+
+-- the sign at place n of these
+unfoldable pub sign_at : ℕ → Sign
+sign_at zero = Plus
+sign_at (suc zero) = Minus
+sign_at (suc (suc zero)) = Times
+sign_at (suc (suc (suc n))) = Divide
 
 -- 8.5 A number has decimal digits, after a minus or none, and fits in 32 bits.
 unfoldable pub decimal : ℕ → List ℕ → ℕ
@@ -137,7 +161,7 @@ unfoldable pub class_of : List ℕ → Class
 class_of w =
     guard (not (same_word w (open_byte ∷ []))) Open (λ _.
     guard (not (same_word w (shut_byte ∷ []))) Shut (λ _.
-    guard (not (among signs w)) (Sign (position signs w)) (λ _.
+    guard (not (among signs w)) (ASign (sign_at (position signs w))) (λ _.
     guard (not (is_number w)) (Number (of_z w32 (integer_of w))) (λ _.
-    guard (not (among taken_words w)) (Taken (position taken_words w)) (λ _.
+    guard (not (among taken_words w)) (ATaken (taken_at (position taken_words w))) (λ _.
     pick (is_name w) Name Other)))))

@@ -12,11 +12,10 @@ use Rattle.image.specs.Memory.{patch}
 use Rattle.haai.specs.Grammar.{form_of}
 use Rattle.haai.specs.Names.{fault_of}
 use Rattle.haai.specs.Emit.{supplies, sinks_from, within_limits, code_of, header_bytes}
-use Rattle.haai.specs.Clauses.{check_of}
+use Rattle.haai.specs.Clauses.{check_of, right as right_form}
 use Rattle.haai.specs.Places.{sources_in, parameters_in, meant_in}
 use Rattle.haai.specs.Tables.{innermost, sinks_from as sinks_row, declared_from, running_from, known_by, Rows, FoundIs}
 use Rattle.haai.specs.declared.Cursor.{Cursor}
-use Rattle.haai.specs.declared.FormCheck.TheVariants.{Right}
 use Rattle.haai.specs.declared.Found.{Found}
 use Rattle.haai.specs.declared.Meant.{Meant}
 use Rattle.haai.specs.declared.Meant.TheVariants.{Parameter as AParameter, Global}
@@ -171,13 +170,13 @@ module _ (t w : List ℕ) (v : Tally) (u : Tree) (ps pl : List ℕ) (c : Cursor)
 
 -- a text without fault, of which f is found and tb has the rows
 pub record Clean (t : List ℕ) (f : Found) (tb : List ℕ) : Type 0 where
-  pub right : check_of (form_of t) ≡ Right
+  pub right : check_of (form_of t) ≡ right_form
   pub found : FoundIs (known_by (length t) (form_of t)) f tb
   pub clean : f.fault ≡ length t
 
 -- sizes are the rows of the text's definitions, the tables end before byte `end`, and the output has room for all
 pub record Writable (t sizes : List ℕ) (end : ℕ) (out : List ℕ) : Type 0 where
-  pub right : check_of (form_of t) ≡ Right
+  pub right : check_of (form_of t) ≡ right_form
   pub clean : fault_of (known_by (length t) (form_of t)) ≡ length t
   pub rows : Rows sizes (known_by (length t) (form_of t)).definitions
   pub limits : within_limits (known_by (length t) (form_of t)).definitions ≡ true

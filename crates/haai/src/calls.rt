@@ -5,17 +5,16 @@ ghost use Rattle.haai.specs.Grammar.{form_of};
 ghost use Rattle.haai.specs.Names.{text_of};
 ghost use Rattle.haai.specs.Emit.{program_of, within_limits};
 ghost use Rattle.haai.specs.Compile.{written, by_names, compile_of};
-ghost use Rattle.haai.specs.Clauses.{check_of, compiled};
+ghost use Rattle.haai.specs.Clauses.{check_of, right, compiled};
 ghost use Rattle.haai.specs.Tables.{known_by};
 ghost use Rattle.haai.specs.Writing as Q;
-ghost use Rattle.haai.specs.declared.FormCheck.TheVariants.{Right};
 
+use crate::Found;
 use crate::grammar::form;
 use crate::learn::names;
 use crate::pass::write;
 use crate::size::{code_length, fits};
 use crate::tables::write_tables;
-use crate::{FormCheck, Found};
 use answer::{Answer, Refusal};
 
 // The program of a text without fault, where there is room for it.
@@ -55,7 +54,7 @@ fn compile_clean(text: &[u8], table: &[u8; 128], f: Found, output: &mut [u8]) ->
 
 // 17, 18, or the program: of a text whose form is right.
 fn compile_formed(text: &[u8], output: &mut [u8]) -> Answer
-    requires { check_of (form_of text.now) ≡ Right }
+    requires { check_of (form_of text.now) ≡ right }
     ensures { let t = text.now in
         let k = known_by (length t) (form_of t) in
         compiled result output.new ≡ by_names (length t) output.old k }
@@ -74,7 +73,7 @@ pub fn compile(text: &[u8], output: &mut [u8]) -> Answer
     ensures output { output.new ≡ (compile_of text.now output.old).output }
 {
     match form(text) {
-        FormCheck::Right => compile_formed(text, output),
-        FormCheck::Wrong(q) => Err(Refusal::TextForm(q)),
+        Ok(()) => compile_formed(text, output),
+        Err(q) => Err(Refusal::TextForm(q)),
     }
 }

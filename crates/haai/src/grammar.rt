@@ -1,96 +1,31 @@
 // The form of a text, word by word: which word or bracket can come next, and what it is in the form.
-ghost use Rattle.std.specs.Prelude.{◌-◌, ◌≤◌, ◌<◌, ◌≡◌, length};
+ghost use Rattle.std.specs.Prelude.{◌≤◌, ◌<◌, ◌≡◌, length};
 ghost use Rattle.haai.specs.Word as O;
 ghost use Rattle.haai.specs.Grammar as G;
-ghost use Rattle.haai.specs.Clauses.{Room, opened_step, check_end, check_of};
+ghost use Rattle.haai.specs.Clauses.{Room, opened_step, check_of};
 ghost use Rattle.haai.specs.declared.Phase.TheVariants.{Top, Form, SourceName, SourceEnd, Head, ReactorName};
 ghost use Rattle.haai.specs.declared.Phase.TheVariants.{Parameters, Body, First, Out, Operator, Operands, End};
 
 use crate::word::{class_at, word_end, word_start};
-use crate::{Class, FormCheck, Phase, Reading, Role, Step};
+use crate::{Class, Phase, Reading, Role, Taken};
 
-fn is_open(c: Class) -> bool
-    ensures { result ≡ G.is_open c }
-{
-    match c {
-        Class::Open => true,
-        Class::Shut => false,
-        Class::Sign(_) => false,
-        Class::Number(_) => false,
-        Class::Taken(_) => false,
-        Class::Name => false,
-        Class::Other => false,
+#[tactic(auto, unfolding(crate::specs::Grammar::named, crate::specs::Grammar::operates))]
+impl Class {
+    // Whether a word can be taken for a name.
+    fn named(self) -> bool
+        ensures { result ≡ G.named self }
+    {
+        matches!(self, Class::Taken(_) | Class::Name)
+    }
+
+    fn operates(self) -> bool
+        ensures { result ≡ G.operates self }
+    {
+        matches!(self, Class::Sign(_) | Class::Taken(_) | Class::Name)
     }
 }
 
-fn is_shut(c: Class) -> bool
-    ensures { result ≡ G.is_shut c }
-{
-    match c {
-        Class::Open => false,
-        Class::Shut => true,
-        Class::Sign(_) => false,
-        Class::Number(_) => false,
-        Class::Taken(_) => false,
-        Class::Name => false,
-        Class::Other => false,
-    }
-}
-
-// Whether a word can be taken for a name.
-fn named(c: Class) -> bool
-    ensures { result ≡ G.named c }
-{
-    match c {
-        Class::Open => false,
-        Class::Shut => false,
-        Class::Sign(_) => false,
-        Class::Number(_) => false,
-        Class::Taken(_) => true,
-        Class::Name => true,
-        Class::Other => false,
-    }
-}
-
-fn operates(c: Class) -> bool
-    ensures { result ≡ G.operates c }
-{
-    match c {
-        Class::Open => false,
-        Class::Shut => false,
-        Class::Sign(_) => true,
-        Class::Number(_) => false,
-        Class::Taken(_) => true,
-        Class::Name => true,
-        Class::Other => false,
-    }
-}
-
-// The taken word k.
-fn is_taken(k: u8, c: Class) -> bool
-    ensures { result ≡ G.is_taken k c }
-{
-    match c {
-        Class::Open => false,
-        Class::Shut => false,
-        Class::Sign(_) => false,
-        Class::Number(_) => false,
-        Class::Taken(j) => j == k,
-        Class::Name => false,
-        Class::Other => false,
-    }
-}
-
-// One bracket less.
-pub(crate) fn one_less(d: u8) -> u8
-    ensures { result ≡ d - 1 }
-{
-    if d == 0 {
-        return 0;
-    }
-    d - 1
-}
-
+#[tactic(auto, unfolding(value::specs::Open::opened, crate::specs::Grammar::is_open, crate::specs::Grammar::is_shut, crate::specs::Grammar::is_taken, crate::specs::Grammar::begin, crate::specs::Grammar::on_to, crate::specs::Grammar::counting, crate::specs::Grammar::deepened, crate::specs::Grammar::sourced, crate::specs::Grammar::defined, crate::specs::Grammar::after_expression, crate::specs::Grammar::expression, crate::specs::Grammar::step_at, crate::specs::Grammar::step_of, crate::specs::Grammar::is_top, crate::specs::Grammar::whole, crate::specs::Clauses::opened_step, crate::specs::Word::taken_number))]
 impl Reading {
     pub(crate) fn begin() -> Reading
         ensures { result ≡ G.begin }
@@ -108,14 +43,7 @@ impl Reading {
     fn on_to(self, q: Phase) -> Reading
         ensures { result ≡ G.on_to q self }
     {
-        Reading {
-            phase: q,
-            sources: self.sources,
-            definitions: self.definitions,
-            count: self.count,
-            depth: self.depth,
-            many: self.many,
-        }
+        Reading { phase: q, ..self }
     }
 
     // With n parameters or expressions, `more` if the body is an `out`.
@@ -124,11 +52,10 @@ impl Reading {
     {
         Reading {
             phase: q,
-            sources: self.sources,
-            definitions: self.definitions,
             count: n,
             depth: 0,
             many: more,
+            ..self
         }
     }
 
@@ -137,11 +64,8 @@ impl Reading {
     {
         Reading {
             phase: q,
-            sources: self.sources,
-            definitions: self.definitions,
-            count: self.count,
             depth: n,
-            many: self.many,
+            ..self
         }
     }
 
@@ -150,12 +74,8 @@ impl Reading {
         ensures { result ≡ G.sourced self }
     {
         Reading {
-            phase: Phase::Top,
             sources: self.sources + 1,
-            definitions: self.definitions,
-            count: 0,
-            depth: 0,
-            many: false,
+            ..self.counting(Phase::Top, 0, false)
         }
     }
 
@@ -164,12 +84,8 @@ impl Reading {
         ensures { result ≡ G.defined self }
     {
         Reading {
-            phase: Phase::Top,
-            sources: self.sources,
             definitions: self.definitions + 1,
-            count: 0,
-            depth: 0,
-            many: false,
+            ..self.counting(Phase::Top, 0, false)
         }
     }
 
@@ -187,173 +103,172 @@ impl Reading {
         self.counting(Phase::End, 1, false)
     }
 
-    fn opened(self) -> Step
+    fn opened(self) -> Option<(Role, Reading)>
         ensures { result ≡ opened_step self }
     {
         if self.depth < 16 {
-            return Step::Takes(Role::Fixed, self.deepened(Phase::Operator, self.depth + 1));
+            return Some((Role::Fixed, self.deepened(Phase::Operator, self.depth + 1)));
         }
-        Step::Refuses
+        None
     }
 
     // An expression's first word.
-    fn expression(self, c: Class) -> Step
+    fn expression(self, c: Class) -> Option<(Role, Reading)>
         requires { self.count < 255 }
         ensures { result ≡ G.expression self c }
     {
         match c {
             Class::Open => self.opened(),
-            Class::Shut => Step::Refuses,
-            Class::Sign(_) => Step::Refuses,
-            Class::Number(n) => Step::Takes(Role::Constant(n), self.after_expression(self.depth)),
-            Class::Taken(_) => Step::Takes(Role::Operand, self.after_expression(self.depth)),
-            Class::Name => Step::Takes(Role::Operand, self.after_expression(self.depth)),
-            Class::Other => Step::Refuses,
+            Class::Number(n) => Some((Role::Constant(n), self.after_expression(self.depth))),
+            Class::Taken(_) | Class::Name => {
+                Some((Role::Operand, self.after_expression(self.depth)))
+            }
+            Class::Shut | Class::Sign(_) | Class::Other => None,
         }
     }
 
-    fn at_top(self, c: Class) -> Step
+    fn at_top(self, c: Class) -> Option<(Role, Reading)>
         ensures { result ≡ G.step_at Top self c }
     {
-        if is_open(c) & (self.definitions < 32) {
-            return Step::Takes(Role::Fixed, self.on_to(Phase::Form));
+        if c == Class::Open && self.definitions < 32 {
+            return Some((Role::Fixed, self.on_to(Phase::Form)));
         }
-        Step::Refuses
+        None
     }
 
-    fn at_form(self, c: Class) -> Step
+    fn at_form(self, c: Class) -> Option<(Role, Reading)>
         ensures { result ≡ G.step_at Form self c }
     {
-        if is_taken(3, c) & ((self.definitions == 0) & (self.sources < 31)) {
-            return Step::Takes(Role::Fixed, self.on_to(Phase::SourceName));
+        if c == Class::Taken(Taken::Source) && self.definitions == 0 && self.sources < 31 {
+            return Some((Role::Fixed, self.on_to(Phase::SourceName)));
         }
-        if is_taken(1, c) {
-            return Step::Takes(Role::Fixed, self.on_to(Phase::Head));
+        if c == Class::Taken(Taken::Defr) {
+            return Some((Role::Fixed, self.on_to(Phase::Head)));
         }
-        Step::Refuses
+        None
     }
 
-    fn at_source_name(self, c: Class) -> Step
+    fn at_source_name(self, c: Class) -> Option<(Role, Reading)>
         ensures { result ≡ G.step_at SourceName self c }
     {
-        if named(c) {
-            return Step::Takes(Role::Source, self.on_to(Phase::SourceEnd));
+        if c.named() {
+            return Some((Role::Source, self.on_to(Phase::SourceEnd)));
         }
-        Step::Refuses
+        None
     }
 
-    fn at_source_end(self, c: Class) -> Step
+    fn at_source_end(self, c: Class) -> Option<(Role, Reading)>
         requires { self.sources < 255 }
         ensures { result ≡ G.step_at SourceEnd self c }
     {
-        if is_shut(c) {
-            return Step::Takes(Role::Fixed, self.sourced());
+        if c == Class::Shut {
+            return Some((Role::Fixed, self.sourced()));
         }
-        Step::Refuses
+        None
     }
 
-    fn at_head(self, c: Class) -> Step
+    fn at_head(self, c: Class) -> Option<(Role, Reading)>
         ensures { result ≡ G.step_at Head self c }
     {
-        if is_open(c) {
-            return Step::Takes(Role::Fixed, self.on_to(Phase::ReactorName));
+        if c == Class::Open {
+            return Some((Role::Fixed, self.on_to(Phase::ReactorName)));
         }
-        Step::Refuses
+        None
     }
 
-    fn at_reactor_name(self, c: Class) -> Step
+    fn at_reactor_name(self, c: Class) -> Option<(Role, Reading)>
         ensures { result ≡ G.step_at ReactorName self c }
     {
-        if named(c) {
-            return Step::Takes(Role::Reactor, self.counting(Phase::Parameters, 0, false));
+        if c.named() {
+            return Some((Role::Reactor, self.counting(Phase::Parameters, 0, false)));
         }
-        Step::Refuses
+        None
     }
 
-    fn at_parameters(self, c: Class) -> Step
+    fn at_parameters(self, c: Class) -> Option<(Role, Reading)>
         requires { self.count < 255 }
         ensures { result ≡ G.step_at Parameters self c }
     {
-        if is_shut(c) {
-            return Step::Takes(Role::Fixed, self.counting(Phase::Body, 0, false));
+        if c == Class::Shut {
+            return Some((Role::Fixed, self.counting(Phase::Body, 0, false)));
         }
-        if named(c) & (self.count < 7) {
-            return Step::Takes(
-                Role::Parameter,
-                self.counting(Phase::Parameters, self.count + 1, false),
-            );
+        if c.named() && self.count < 7 {
+            let next = self.counting(Phase::Parameters, self.count + 1, false);
+            return Some((Role::Parameter, next));
         }
-        Step::Refuses
+        None
     }
 
-    fn at_body(self, c: Class) -> Step
+    fn at_body(self, c: Class) -> Option<(Role, Reading)>
         requires { self.count < 255 }
         ensures { result ≡ G.step_at Body self c }
     {
-        if is_open(c) {
-            return Step::Takes(Role::Fixed, self.deepened(Phase::First, 1));
+        if c == Class::Open {
+            return Some((Role::Fixed, self.deepened(Phase::First, 1)));
         }
         self.expression(c)
     }
 
-    fn at_first(self, c: Class) -> Step
+    fn at_first(self, c: Class) -> Option<(Role, Reading)>
         ensures { result ≡ G.step_at First self c }
     {
-        if is_taken(2, c) {
-            return Step::Takes(Role::Fixed, self.counting(Phase::Out, 0, true));
+        if c == Class::Taken(Taken::Out) {
+            return Some((Role::Fixed, self.counting(Phase::Out, 0, true)));
         }
         self.at_operator(c)
     }
 
-    fn at_out(self, c: Class) -> Step
+    fn at_out(self, c: Class) -> Option<(Role, Reading)>
         requires { self.count < 255 }
         ensures { result ≡ G.step_at Out self c }
     {
-        if is_shut(c) & (1 <= self.count) {
-            return Step::Takes(Role::Fixed, self.counting(Phase::End, self.count, true));
+        if c == Class::Shut && 1 <= self.count {
+            return Some((Role::Fixed, self.counting(Phase::End, self.count, true)));
         }
         if self.count < 7 {
             return self.expression(c);
         }
-        Step::Refuses
+        None
     }
 
-    fn at_operator(self, c: Class) -> Step
+    fn at_operator(self, c: Class) -> Option<(Role, Reading)>
         ensures { result ≡ G.step_at Operator self c }
     {
-        if operates(c) {
-            return Step::Takes(Role::Operator, self.on_to(Phase::Operands));
+        if c.operates() {
+            return Some((Role::Operator, self.on_to(Phase::Operands)));
         }
-        Step::Refuses
+        None
     }
 
-    fn at_operands(self, c: Class) -> Step
+    fn at_operands(self, c: Class) -> Option<(Role, Reading)>
         requires { self.count < 255 }
         ensures { result ≡ G.step_at Operands self c }
     {
-        if is_shut(c) {
-            return Step::Takes(Role::Apply, self.after_expression(one_less(self.depth)));
+        if c == Class::Shut {
+            return Some((
+                Role::Apply,
+                self.after_expression(self.depth.saturating_sub(1)),
+            ));
         }
         self.expression(c)
     }
 
-    fn at_end(self, c: Class) -> Step
+    fn at_end(self, c: Class) -> Option<(Role, Reading)>
         requires { self.definitions < 255 }
         ensures { result ≡ G.step_at End self c }
     {
-        if is_shut(c) {
-            return Step::Takes(Role::Define, self.defined());
+        if c == Class::Shut {
+            return Some((Role::Define, self.defined()));
         }
-        Step::Refuses
+        None
     }
 
     // Takes in one word, or refuses it.
-    pub(crate) fn step(self, c: Class) -> Step
+    pub(crate) fn step(self, c: Class) -> Option<(Role, Reading)>
         requires { Room self }
         ensures { result ≡ G.step_of self c }
     {
-        let f = self.phase;
-        match f {
+        match self.phase {
             Phase::Top => self.at_top(c),
             Phase::Form => self.at_form(c),
             Phase::SourceName => self.at_source_name(c),
@@ -370,36 +285,15 @@ impl Reading {
         }
     }
 
-    fn is_top(self) -> bool
-        ensures { result ≡ G.is_top self.phase }
-    {
-        let f = self.phase;
-        match f {
-            Phase::Top => true,
-            Phase::Form => false,
-            Phase::SourceName => false,
-            Phase::SourceEnd => false,
-            Phase::Head => false,
-            Phase::ReactorName => false,
-            Phase::Parameters => false,
-            Phase::Body => false,
-            Phase::First => false,
-            Phase::Out => false,
-            Phase::Operator => false,
-            Phase::Operands => false,
-            Phase::End => false,
-        }
-    }
-
     // The text may end here.
     fn whole(self) -> bool
         ensures { result ≡ G.whole self }
     {
-        self.is_top() & (1 <= self.definitions)
+        self.phase == Phase::Top && 1 <= self.definitions
     }
 
     // What the word from a to before e is in the form.
-    pub(crate) fn take_word(self, t: &[u8], a: usize, e: usize) -> Step
+    pub(crate) fn take_word(self, t: &[u8], a: usize, e: usize) -> Option<(Role, Reading)>
         requires { Room self × ((a ≤ e) × (e ≤ length t.now)) }
         ensures { result ≡ G.step_of self (O.class_of (O.bytes_of t.now a e)) }
     {
@@ -407,34 +301,17 @@ impl Reading {
     }
 }
 
-fn ended(s: Reading, n: usize) -> FormCheck
-    ensures { result ≡ check_end n s }
-{
-    if s.whole() {
-        return FormCheck::Right;
-    }
-    FormCheck::Wrong(n)
-}
-
 // 16: where the form first fails, at a word or at the end of the text.
-pub(crate) fn form(t: &[u8]) -> FormCheck
+pub(crate) fn form(t: &[u8]) -> Result<(), usize>
     ensures { result ≡ check_of (G.form_of t.now) }
 {
     let mut s = Reading::begin();
     let mut a = word_start(t, 0);
     while a < t.len() {
-        let at = a;
-        let e = word_end(t, at);
-        let x = s.take_word(t, at, e);
+        let e = word_end(t, a);
+        let (_, next) = s.take_word(t, a, e).ok_or(a)?;
+        s = next;
         a = word_start(t, e);
-        match x {
-            Step::Takes(_, next) => {
-                s = next;
-            }
-            Step::Refuses => {
-                return FormCheck::Wrong(at);
-            }
-        }
     }
-    ended(s, t.len())
+    if s.whole() { Ok(()) } else { Err(t.len()) }
 }

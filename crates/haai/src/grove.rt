@@ -4,7 +4,6 @@ ghost use Rattle.std.specs.Prelude.{◌+◌, ◌≡◌, get_or, set};
 ghost use Rattle.haai.specs.Tables as Y;
 
 use crate::Tree;
-use crate::grammar::one_less;
 use crate::names::{place, put};
 use program::byte;
 
@@ -114,7 +113,7 @@ impl Tree {
     fn innermost(self, i: u8) -> usize
         ensures { result ≡ Y.innermost self i }
     {
-        3 * one_less(self.level) as usize + i as usize
+        3 * self.level.saturating_sub(1) as usize + i as usize
     }
 
     // Entry i of the innermost open application.
@@ -161,7 +160,7 @@ impl Tree {
         let o = self.entry(pile, 0);
         let c = self.entry(pile, 2);
         let u = self.spent(own_calls(o), own_runs(o, c));
-        let x = u.levelled(one_less(self.level));
+        let x = u.levelled(self.level.saturating_sub(1));
         x.whole(pile)
     }
 

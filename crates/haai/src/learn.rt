@@ -3,13 +3,12 @@ ghost use Rattle.std.specs.Prelude.{ℕ, ◌-◌, ◌≤◌, ◌≡◌, List, le
 ghost use Rattle.value.specs.Test.{pick};
 ghost use Rattle.haai.specs.Word as O;
 ghost use Rattle.haai.specs.Grammar as G;
-ghost use Rattle.haai.specs.Clauses.{check_of};
+ghost use Rattle.haai.specs.Clauses.{check_of, right};
 ghost use Rattle.haai.specs.Places as J;
 ghost use Rattle.haai.specs.Tables as Y;
-ghost use Rattle.haai.specs.declared.FormCheck.TheVariants.{Right};
 
 use crate::word::{word_end, word_start};
-use crate::{Found, Knowing, Reading, Role, Step, Tally, Tree};
+use crate::{Found, Knowing, Reading, Role, Tally, Tree};
 
 impl Tally {
     // The present reactor's parameters.
@@ -219,7 +218,7 @@ impl Knowing {
 }
 
 fn gather(t: &[u8], places: &mut [usize], table: &mut [u8], pile: &mut [usize]) -> Found
-    requires form { check_of (G.form_of t.now) ≡ Right }
+    requires form { check_of (G.form_of t.now) ≡ right }
     requires places_len { (length places.old ≡ 287) × ((length table.old ≡ 128) × (length pile.old ≡ 48)) }
     ensures { let t = t.entry.now in
         Y.FoundIs (Y.known_by (length t) (G.form_of t)) result table.new }
@@ -228,26 +227,20 @@ fn gather(t: &[u8], places: &mut [usize], table: &mut [u8], pile: &mut [usize]) 
     let mut k = Knowing::begin(t.len());
     let mut a = word_start(t, 0);
     while a < t.len() {
-        let at = a;
-        let e = word_end(t, at);
-        let x = s.take_word(t, at, e);
+        let e = word_end(t, a);
+        let Some((role, next)) = s.take_word(t, a, e) else {
+            break;
+        };
+        k = k.learn_word(t, a, e, role, places, table, pile);
+        s = next;
         a = word_start(t, e);
-        match x {
-            Step::Takes(role, next) => {
-                k = k.learn_word(t, at, e, role, places, table, pile);
-                s = next;
-            }
-            Step::Refuses => {
-                return k.found();
-            }
-        }
     }
     k.found()
 }
 
 // 17, and the counts of each definition in the table.
 pub(crate) fn names(t: &[u8], table: &mut [u8; 128]) -> Found
-    requires { check_of (G.form_of t.now) ≡ Right }
+    requires { check_of (G.form_of t.now) ≡ right }
     ensures { let t = t.entry.now in
         Y.FoundIs (Y.known_by (length t) (G.form_of t)) result table.new }
 {

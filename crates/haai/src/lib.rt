@@ -18,21 +18,39 @@ mod write;
 
 pub use calls::compile;
 
-// What a word is by its bytes alone: a bracket, a sign from 0 to 3, a number in two's complement, a
-// word that is taken (0 time, 1 defr, 2 out, 3 source), a name, or none of these.
-#[derive(Clone, Copy)]
+// The signs + - * /, which stand for the primitives 0 to 3.
+#[derive(Clone, Copy, PartialEq, Eq)]
+pub enum Sign {
+    Plus,
+    Minus,
+    Times,
+    Divide,
+}
+
+// The words that no name can be.
+#[derive(Clone, Copy, PartialEq, Eq)]
+pub enum Taken {
+    Time,
+    Defr,
+    Out,
+    Source,
+}
+
+// What a word is by its bytes alone: a bracket, a sign, a number in two's complement, a word that is
+// taken, a name, or none of these.
+#[derive(Clone, Copy, PartialEq, Eq)]
 pub enum Class {
     Open,
     Shut,
-    Sign(u8),
+    Sign(Sign),
     Number(u32),
-    Taken(u8),
+    Taken(Taken),
     Name,
     Other,
 }
 
 // Which word or bracket the form can take next.
-#[derive(Clone, Copy)]
+#[derive(Clone, Copy, PartialEq, Eq)]
 pub enum Phase {
     Top,
     Form,
@@ -73,13 +91,6 @@ pub enum Role {
     Apply,
     Define,
     Fixed,
-}
-
-// The form takes a word, in a role; or it can't.
-#[derive(Clone, Copy)]
-pub enum Step {
-    Takes(Role, Reading),
-    Refuses,
 }
 
 // What is known of names after some words: the lowest byte at fault; how many sources, reactors and
@@ -138,11 +149,4 @@ pub struct Cursor {
 pub enum Meant {
     Parameter(usize),
     Global(usize),
-}
-
-// The form of a text is right, or the place where it is not.
-#[derive(Clone, Copy)]
-pub enum FormCheck {
-    Right,
-    Wrong(usize),
 }

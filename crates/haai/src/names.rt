@@ -34,7 +34,7 @@ fn same_at(t: &[u8], a: usize, w: &[u8]) -> bool
         return w.len() == 0;
     }
     let e = word_end(t, a);
-    same(&t[a..e], w)
+    &t[a..e] == w
 }
 
 // The first of the n names from `from` on that is w; n if none is.
@@ -59,14 +59,15 @@ fn among(t: &[u8], places: &[usize], from: usize, n: usize, w: &[u8]) -> bool
     position(t, places, from, n, w) < n
 }
 
+#[tactic(auto, unfolding(value::specs::Open::opened, crate::specs::Clauses::taken_of))]
 fn is_taken(w: &[u8]) -> bool
     ensures { result ≡ O.among O.taken_words w.now }
 {
-    taken_of(w) < 4
+    taken_of(w).is_some()
 }
 
 fn is_time(w: &[u8]) -> bool
-    ensures { result ≡ O.same_word (get_or O.taken_words O.time_word []) w.now }
+    ensures { result ≡ O.same_word O.time_word w.now }
 {
     same(b"time", w)
 }
@@ -134,7 +135,7 @@ impl Tally {
         requires { J.Fits self }
         ensures { let text = t.now in let ps = places.now in let word = w.now in
             result ≡ (O.among (J.parameters_in text ps self) word or (O.among (J.sources_in text ps self) word
-            or O.same_word (get_or O.taken_words O.time_word []) word)) }
+            or O.same_word O.time_word word)) }
     {
         self.is_parameter(t, places, w) | (self.is_source(t, places, w) | is_time(w))
     }
@@ -219,9 +220,8 @@ impl Tally {
         ensures { let text = t.now in let ps = places.now in
             result ≡ J.operator_in (J.reactors_in text ps self) w.now }
     {
-        let o = sign_of(w);
-        if o < 4 {
-            return o as usize;
+        if let Some(sign) = sign_of(w) {
+            return sign as usize;
         }
         4 + position(t, places, REACTORS, self.reactors, w)
     }

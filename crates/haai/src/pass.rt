@@ -10,7 +10,7 @@ ghost use Rattle.haai.specs.Writing as Q;
 
 use crate::word::{word_end, word_start};
 use crate::write::{cursor_of, emit, first_at};
-use crate::{Knowing, Reading, Role, Step};
+use crate::{Knowing, Reading, Role};
 
 impl Knowing {
     // What the word from a to before e adds.
@@ -63,20 +63,14 @@ fn lay(
     let mut k = Knowing::begin(t.len());
     let mut a = word_start(t, 0);
     while a < t.len() {
-        let at = a;
-        let e = word_end(t, at);
-        let x = s.take_word(t, at, e);
+        let e = word_end(t, a);
+        let Some((role, next)) = s.take_word(t, a, e) else {
+            break;
+        };
+        k.emit_word(t, a, e, role, sizes, end, places, pile, ls, out);
+        k = k.learn_word(t, a, e, role, places, table, pile);
+        s = next;
         a = word_start(t, e);
-        match x {
-            Step::Takes(role, next) => {
-                k.emit_word(t, at, e, role, sizes, end, places, pile, ls, out);
-                k = k.learn_word(t, at, e, role, places, table, pile);
-                s = next;
-            }
-            Step::Refuses => {
-                return;
-            }
-        }
     }
 }
 

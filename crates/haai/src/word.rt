@@ -1,57 +1,45 @@
 // The words of a text: where they are, and what each is by its bytes.
-ghost use Rattle.std.specs.Prelude.{◌+◌, ◌-◌, ◌*◌, ◌≤◌, ◌<◌, ◌≡◌, true, length, drop};
-ghost use Rattle.std.specs.Int.{w32};
-ghost use Rattle.std.proofs.Common.{of_z};
-ghost use Rattle.haai.specs.Word as O;
-ghost use Rattle.haai.specs.Clauses.{plain_end, is_part, most, capped, first_digit, named_class};
+#![tactic(auto, unfolding(value::specs::Open::opened, crate::specs::Word::is_space, crate::specs::Word::is_bracket, crate::specs::Word::ends_word, crate::specs::Word::is_letter, crate::specs::Word::is_digit, crate::specs::Word::position, crate::specs::Word::among, crate::specs::Word::sign_at, crate::specs::Word::taken_at, crate::specs::Word::class_of, crate::specs::Word::is_name, crate::specs::Word::bytes_of, crate::specs::Clauses::is_part, crate::specs::Clauses::capped, crate::specs::Clauses::magnitude_of, crate::specs::Clauses::number_of, crate::specs::Clauses::sign_of, crate::specs::Clauses::taken_of))]
 
-use crate::Class;
+ghost use Rattle.std.specs.Prelude.{◌+◌, ◌-◌, ◌*◌, ◌≤◌, ◌<◌, ◌≡◌, length};
+ghost use Rattle.haai.specs.Word as O;
+ghost use Rattle.haai.specs.Clauses.{is_part, most, capped, magnitude_of, number_of, sign_of, taken_of};
+
+use crate::{Class, Sign, Taken};
 use program::byte;
+
+// A number's digits are counted up to here: no signed 32-bit number has more.
+const MOST: u64 = 2147483649;
 
 fn is_space(c: u8) -> bool
     ensures { result ≡ O.is_space c }
 {
-    (c == 32) | (c == 10)
+    c == b' ' || c == b'\n'
 }
 
 fn is_bracket(c: u8) -> bool
     ensures { result ≡ O.is_bracket c }
 {
-    (c == 40) | (c == 41)
+    c == b'(' || c == b')'
 }
 
 fn ends_word(c: u8) -> bool
     ensures { result ≡ O.ends_word c }
 {
-    is_space(c) | is_bracket(c)
+    is_space(c) || is_bracket(c)
 }
 
 // The first byte from i on that is no space; the text's length if there is none.
 pub(crate) fn word_start(t: &[u8], i: usize) -> usize
+    requires { i ≤ length t.now }
     ensures { result ≡ O.word_start t.now i }
 {
-    let mut j = i;
-    while j < t.len() {
-        if !is_space(byte(t, j)) {
+    for j in i..t.len() {
+        if !is_space(t[j]) {
             return j;
         }
-        j = j + 1;
     }
-    j
-}
-
-// The first byte from i on that ends a word; the text's length if there is none.
-fn plain_end(t: &[u8], i: usize) -> usize
-    ensures { result ≡ plain_end t.now i }
-{
-    let mut j = i;
-    while j < t.len() {
-        if ends_word(byte(t, j)) {
-            return j;
-        }
-        j = j + 1;
-    }
-    j
+    t.len()
 }
 
 // The byte after the word or bracket that begins at i.
@@ -59,96 +47,46 @@ pub(crate) fn word_end(t: &[u8], i: usize) -> usize
     requires { i < length t.now }
     ensures { result ≡ O.word_end t.now i }
 {
-    if is_bracket(byte(t, i)) {
+    if is_bracket(t[i]) {
         return i + 1;
     }
-    plain_end(t, i)
+    for j in i..t.len() {
+        if ends_word(t[j]) {
+            return j;
+        }
+    }
+    t.len()
 }
 
 // Whether two words are the same.
 pub(crate) fn same(a: &[u8], b: &[u8]) -> bool
     ensures { result ≡ O.same_word a.now b.now }
 {
-    if a.len() < b.len() {
-        return false;
-    }
-    if b.len() < a.len() {
-        return false;
-    }
-    let mut i: usize = 0;
-    while i < a.len() {
-        if byte(a, i) != byte(b, i) {
-            return false;
-        }
-        i = i + 1;
-    }
-    true
+    a == b
 }
 
 fn is_letter(c: u8) -> bool
     ensures { result ≡ O.is_letter c }
 {
-    (97 <= c) & (c <= 122)
+    c.is_ascii_lowercase()
 }
 
 fn is_digit(c: u8) -> bool
     ensures { result ≡ O.is_digit c }
 {
-    (48 <= c) & (c <= 57)
+    c.is_ascii_digit()
 }
 
 fn is_part(c: u8) -> bool
     ensures { result ≡ is_part c }
 {
-    is_letter(c) | (is_digit(c) | (c == 45))
-}
-
-fn all_parts(w: &[u8]) -> bool
-    ensures { result ≡ O.every is_part w.now }
-{
-    let mut i: usize = 0;
-    while i < w.len() {
-        if !is_part(byte(w, i)) {
-            return false;
-        }
-        i = i + 1;
-    }
-    true
-}
-
-fn all_digits(w: &[u8], from: usize) -> bool
-    ensures { result ≡ O.every O.is_digit (drop from w.now) }
-{
-    let mut i = from;
-    while i < w.len() {
-        if !is_digit(byte(w, i)) {
-            return false;
-        }
-        i = i + 1;
-    }
-    true
+    is_letter(c) || is_digit(c) || c == b'-'
 }
 
 fn is_name(w: &[u8]) -> bool
     ensures { result ≡ O.is_name w.now }
 {
-    if !is_letter(byte(w, 0)) {
-        return false;
-    }
-    if 16 < w.len() {
-        return false;
-    }
-    all_parts(w)
-}
-
-// What a digit is worth.
-fn digit(c: u8) -> u64
-    ensures { result ≡ c - 48 }
-{
-    if c < 48 {
-        return 0;
-    }
-    (c - 48) as u64
+    is_letter(byte(w, 0)) && w.len() <= 16 && w.iter().all(|c| is_part(*c))
 }
 
 // One digit more; 2,147,483,649 and more count as that.
@@ -156,133 +94,102 @@ fn with_digit(v: u64, c: u8) -> u64
     requires { v ≤ most }
     ensures { result ≡ capped (10 * v + (c - 48)) }
 {
-    let n = 10 * v + digit(c);
-    if n < 2147483649 {
-        return n;
-    }
-    2147483649
+    (10 * v + u64::from(c.saturating_sub(b'0'))).min(MOST)
 }
 
-fn magnitude(w: &[u8], from: usize) -> u64
-    ensures { result ≡ capped (O.decimal 0 (drop from w.now)) }
+fn all_digits(w: &[u8]) -> bool
+    ensures { result ≡ O.every O.is_digit w.now }
 {
-    let mut v: u64 = 0;
-    let mut i = from;
-    while i < w.len() {
-        v = with_digit(v, byte(w, i));
-        i = i + 1;
-    }
-    v
+    w.iter().all(|c| is_digit(*c))
 }
 
-// Where the digits of a number begin.
-fn first_digit(w: &[u8]) -> usize
-    ensures { result ≡ first_digit w.now }
+// What digits come to, if a word is of digits.
+fn magnitude(digits: &[u8]) -> Option<u64>
+    ensures { result ≡ magnitude_of digits.now }
 {
-    if byte(w, 0) == 45 {
-        return 1;
+    if digits.is_empty() || !all_digits(digits) {
+        return None;
     }
-    0
+    let mut v = 0;
+    for c in digits {
+        v = with_digit(v, *c);
+    }
+    Some(v)
 }
 
-fn is_number(w: &[u8]) -> bool
-    ensures { result ≡ O.is_number w.now }
+// The number that a word is, in two's complement.
+fn number_of(w: &[u8]) -> Option<u32>
+    ensures { result ≡ number_of w.now }
 {
-    let from = first_digit(w);
-    if w.len() <= from {
-        return false;
+    match w.strip_prefix(b"-") {
+        Some(digits) => {
+            let m = magnitude(digits)?;
+            if m < MOST {
+                Some((m as u32).wrapping_neg())
+            } else {
+                None
+            }
+        }
+        None => {
+            let m = magnitude(w)?;
+            if m < MOST - 1 { Some(m as u32) } else { None }
+        }
     }
-    if !all_digits(w, from) {
-        return false;
-    }
-    magnitude(w, from) <= 2147483647 + from as u64
 }
 
-// The number in two's complement.
-fn number(w: &[u8]) -> u32
-    requires { O.is_number w.now ≡ true }
-    ensures { result ≡ of_z w32 (O.integer_of w.now) }
-{
-    let from = first_digit(w);
-    let m = magnitude(w, from);
-    if from == 0 {
-        return m as u32;
-    }
-    if m == 0 {
-        return 0;
-    }
-    (4294967296 - m) as u32
-}
-
-// Which sign a word is; 4 if it is none.
-pub(crate) fn sign_of(w: &[u8]) -> u8
-    ensures { result ≡ O.position O.signs w.now }
+// Which sign a word is.
+pub(crate) fn sign_of(w: &[u8]) -> Option<Sign>
+    ensures { result ≡ sign_of w.now }
 {
     if same(b"+", w) {
-        return 0;
+        Some(Sign::Plus)
+    } else if same(b"-", w) {
+        Some(Sign::Minus)
+    } else if same(b"*", w) {
+        Some(Sign::Times)
+    } else if same(b"/", w) {
+        Some(Sign::Divide)
+    } else {
+        None
     }
-    if same(b"-", w) {
-        return 1;
-    }
-    if same(b"*", w) {
-        return 2;
-    }
-    if same(b"/", w) {
-        return 3;
-    }
-    4
 }
 
-// Which taken word a word is; 4 if it is none.
-pub(crate) fn taken_of(w: &[u8]) -> u8
-    ensures { result ≡ O.position O.taken_words w.now }
+// Which taken word a word is.
+pub(crate) fn taken_of(w: &[u8]) -> Option<Taken>
+    ensures { result ≡ taken_of w.now }
 {
     if same(b"time", w) {
-        return 0;
+        Some(Taken::Time)
+    } else if same(b"defr", w) {
+        Some(Taken::Defr)
+    } else if same(b"out", w) {
+        Some(Taken::Out)
+    } else if same(b"source", w) {
+        Some(Taken::Source)
+    } else {
+        None
     }
-    if same(b"defr", w) {
-        return 1;
-    }
-    if same(b"out", w) {
-        return 2;
-    }
-    if same(b"source", w) {
-        return 3;
-    }
-    4
 }
 
-// A word that is no bracket, sign or number.
-fn named_class(w: &[u8]) -> Class
-    ensures { result ≡ named_class w.now }
-{
-    let k = taken_of(w);
-    if k < 4 {
-        return Class::Taken(k);
-    }
-    if is_name(w) {
-        return Class::Name;
-    }
-    Class::Other
-}
-
+// What a word is.
 fn class_of(w: &[u8]) -> Class
     ensures { result ≡ O.class_of w.now }
 {
     if same(w, b"(") {
-        return Class::Open;
+        Class::Open
+    } else if same(w, b")") {
+        Class::Shut
+    } else if let Some(sign) = sign_of(w) {
+        Class::Sign(sign)
+    } else if let Some(n) = number_of(w) {
+        Class::Number(n)
+    } else if let Some(taken) = taken_of(w) {
+        Class::Taken(taken)
+    } else if is_name(w) {
+        Class::Name
+    } else {
+        Class::Other
     }
-    if same(w, b")") {
-        return Class::Shut;
-    }
-    let o = sign_of(w);
-    if o < 4 {
-        return Class::Sign(o);
-    }
-    if is_number(w) {
-        return Class::Number(number(w));
-    }
-    named_class(w)
 }
 
 // What the word from a to before e is.

@@ -3,6 +3,7 @@ use Rattle.std.proofs.Common.{sym, ◌∙◌, ap, arith}
 use Rattle.value.proofs.Tests.{same_eq}
 use Rattle.haai.specs.Word.{same_word, bytes_of}
 use Rattle.haai.specs.Places.{word_of}
+use Rattle.haai.proofs.Words.{same_is}
 use Rattle.haai.proofs.Ahead.{end_in}
 use Rattle.haai.proofs.Placed.{no_word, same_none}
 use Rattle.haai.proofs.names.same_at.Goals as goal
@@ -19,13 +20,13 @@ unfolding word_of bytes_of
 returns c = let t = c.args.t.now in
     let w = c.args.w.now in
     let a = c.args.a in
-    c.same.ensures ∙ ap (λ (e : ℕ). same_word (bytes_of t a e) w) c.word_end-e.ensures
+    c.eq.ensures ∙ same_is _ w ∙ ap (λ (e : ℕ). same_word (bytes_of t a e) w) c.word_end-e.ensures
 
-pub slice_bounds-same-count : goal.slice_bounds-same-count
-slice_bounds-same-count c = omega (arith, end_in _ _ c.if-t-a.false _ c.word_end-e.ensures)
+pub slice_bounds-eq-count : goal.slice_bounds-eq-count
+slice_bounds-eq-count c = omega (arith, end_in _ _ c.if-t-a.false _ c.word_end-e.ensures)
 
-pub slice_bounds-same-start : goal.slice_bounds-same-start
-slice_bounds-same-start c = omega (arith, end_in _ _ c.if-t-a.false _ c.word_end-e.ensures)
+pub slice_bounds-eq-start : goal.slice_bounds-eq-start
+slice_bounds-eq-start c = omega (arith, end_in _ _ c.if-t-a.false _ c.word_end-e.ensures)
 
-pub slice_bounds-same-end : goal.slice_bounds-same-end
-slice_bounds-same-end c = omega (arith, end_in _ _ c.if-t-a.false _ c.word_end-e.ensures)
+pub slice_bounds-eq-end : goal.slice_bounds-eq-end
+slice_bounds-eq-end c = omega (arith, end_in _ _ c.if-t-a.false _ c.word_end-e.ensures)

@@ -1,4 +1,5 @@
-use Rattle.std.proofs.Common.{sym, ◌∙◌, arith}
+use Rattle.std.specs.Prelude.{◌≡◌, None}
+use Rattle.std.proofs.Common.{sym, ◌∙◌, arith, rules}
 use Rattle.haai.specs.Tables.{kept}
 use Rattle.haai.proofs.Gathering.{gather_fits, gather_word}
 use Rattle.haai.proofs.Finding.{gather_further, gather_stops}
@@ -15,8 +16,8 @@ loop-a-init c = let begin = c.begin-s in
     c.word_start-a.ensures p.able.right k.ensures.0 k.ensures.1 p.room.0 p.room.1.0 p.room.1.1.0
     p.room.1.1.1
 
-pub take_word-x-requires : goal.take_word-x-requires
-take_word-x-requires c = let a = c.args in
+pub take_word-requires : goal.take_word-requires
+take_word-requires c = let a = c.args in
     let t = a.t.now in
     let g = c.loop-a in
     let h = g.invariant.gathering in
@@ -50,6 +51,12 @@ learn_word-k-requires c = let loop_test = c.loop-a-test in
     let x = kept g.k.tally g.k.tree g.places g.table g.pile in
     ((gather_fits t g.s g.a x h).0, gather_word t g.s g.a x h loop_test.true _ word_end.ensures)
 
+pub word_start-a-requires-in-loop-a : goal.word_start-a-requires-in-loop-a
+word_start-a-requires-in-loop-a c = let t = c.args.t.now in
+    let g = c.loop-a in
+    let x = kept g.k.tally g.k.tree g.places g.table g.pile in
+    (gather_word t g.s g.a x g.invariant.gathering c.loop-a-test.true _ c.word_end-e.ensures).1
+
 pub loop-a-smaller : goal.loop-a-smaller
 loop-a-smaller c = let loop_test = c.loop-a-test in
     let word_end = c.word_end-e in
@@ -63,7 +70,7 @@ loop-a-smaller c = let loop_test = c.loop-a-test in
     omega arith
 
 pub loop-a-preserved : goal.loop-a-preserved
-loop-a-preserved c = let take_word = c.take_word-x in
+loop-a-preserved c = let take_word = c.take_word in
     let pre = c.requires in
     let loop_test = c.loop-a-test in
     let word_end = c.word_end-e in
@@ -75,87 +82,24 @@ loop-a-preserved c = let take_word = c.take_word-x in
     let g = c.loop-a in
     let h = g.invariant.gathering in
     let x = kept g.k.tally g.k.tree g.places g.table g.pile in
-    let step = sym take_word.ensures ∙ c.in-Takes.is in
+    let step = sym take_word.ensures ∙ c.in-Some.is in
     pass_goes t (a.sizes.now) a.end (a.out.now) pre.able g.s g.a x g.ls g.out g.invariant
     loop_test.true _ word_end.ensures _ _ _ _ _ _ word_start2.ensures step learn_word.ensures
     emit_word.ensures
 
-pub shape_of-places-in-Refuses : goal.shape_of-places-in-Refuses
-shape_of-places-in-Refuses c = let loop = c.loop-a in
-    let pre = c.requires in
-    let l = loop.invariant.gathering.named.room in
-    let p = pre.room.0 in
-    omega arith
-
-pub shape_of-table-in-Refuses : goal.shape_of-table-in-Refuses
-shape_of-table-in-Refuses c = let loop = c.loop-a in
-    let pre = c.requires in
-    let l = loop.invariant.gathering.grown.long_table in
-    let p = pre.room.1.0 in
-    omega arith
-
-pub shape_of-pile-in-Refuses : goal.shape_of-pile-in-Refuses
-shape_of-pile-in-Refuses c = let loop = c.loop-a in
-    let pre = c.requires in
-    let l = loop.invariant.gathering.grown.long_pile in
-    let p = pre.room.1.1.0 in
-    omega arith
-
-pub shape_of-ls-in-Refuses : goal.shape_of-ls-in-Refuses
-shape_of-ls-in-Refuses c = let loop = c.loop-a in
-    let pre = c.requires in
-    let l = loop.invariant.long_ls in
-    let p = pre.room.1.1.1 in
-    omega arith
-
-pub shape_of-out-in-Refuses : goal.shape_of-out-in-Refuses
-shape_of-out-in-Refuses c = let loop = c.loop-a in
-    loop.invariant.long_out
-
-pub returns-in-Refuses : goal.returns-in-Refuses
-returns-in-Refuses c = let take_word = c.take_word-x in
-    let loop_test = c.loop-a-test in
-    let word_end = c.word_end-e in
-    let a = c.args in
-    let t = a.t.now in
-    let g = c.loop-a in
-    let h = g.invariant.gathering in
-    let x = kept g.k.tally g.k.tree g.places g.table g.pile in
-    let step = sym take_word.ensures ∙ c.in-Refuses.is in
-    gather_stops t g.s g.a x h loop_test.true _ word_end.ensures step
-
-pub shape_of-places : goal.shape_of-places
-shape_of-places c = let pre = c.requires in
-    let l = c.loop-a.invariant.gathering.named.room in
-    let p = pre.room.0 in
-    omega arith
-
-pub shape_of-table : goal.shape_of-table
-shape_of-table c = let pre = c.requires in
-    let l = c.loop-a.invariant.gathering.grown.long_table in
-    let p = pre.room.1.0 in
-    omega arith
-
-pub shape_of-pile : goal.shape_of-pile
-shape_of-pile c = let pre = c.requires in
-    let l = c.loop-a.invariant.gathering.grown.long_pile in
-    let p = pre.room.1.1.0 in
-    omega arith
-
-pub shape_of-ls : goal.shape_of-ls
-shape_of-ls c = let pre = c.requires in
-    let l = c.loop-a.invariant.long_ls in
-    let p = pre.room.1.1.1 in
-    omega arith
-
-pub shape_of-out : goal.shape_of-out
-shape_of-out c = c.loop-a.invariant.long_out
-
-pub returns : goal.returns
-returns c = let pre = c.requires in
+pub returns-after-loop-a : goal.returns-after-loop-a
+returns-after-loop-a c = let pre = c.requires in
     let a = c.args in
     let t = a.t.now in
     let g = c.loop-a in
     let x = kept g.k.tally g.k.tree g.places g.table g.pile in
     pass_ends t (a.sizes.now) a.end (a.out.now) pre.able g.s g.a x g.ls g.out g.invariant
     c.loop-a-test.false
+
+pub returns-in_default : goal.returns-in_default
+returns-in_default c = let t = c.args.t.now in
+    let g = c.loop-a in
+    let h = g.invariant.gathering in
+    let x = kept g.k.tally g.k.tree g.places g.table g.pile in
+    let none : c.take_word.result ≡ None = search rules in
+    gather_stops t g.s g.a x h c.loop-a-test.true _ c.word_end-e.ensures (sym c.take_word.ensures ∙ none)

@@ -1,26 +1,12 @@
-use Rattle.std.proofs.Common.{not}
-use Rattle.std.specs.Prelude.{refl}
-use Rattle.std.proofs.Common.{sym, ◌∙◌, ap}
-use Rattle.value.proofs.Tests.{passed, refused}
+use Rattle.std.proofs.Common.{◌∙◌, rules, tests}
+use Rattle.std.proofs.lemmas.Iterator.{YieldsList-from_slice}
+use Rattle.std.proofs.lemmas.Iterator.Search.{all_from_yields_List}
 use Rattle.haai.specs.Word.{is_digit}
-use Rattle.haai.proofs.Words.{every_found, every_next, every_done}
+use Rattle.haai.proofs.Words.{every_is}
 use Rattle.haai.proofs.word.all_digits.Goals as goal
 
-pub returns-then-not-is_digit : goal.returns-then-not-is_digit
-returns-then-not-is_digit c = let w = c.args.w.now in
-    every_found is_digit w _ c.loop-i-test.true
-    (refused (c.is_digit.ensures ∙ ap is_digit c.byte.ensures) (ap not c.if-not-is_digit.true))
-    ∙ sym c.loop-i.invariant
-
-pub loop-i-preserved : goal.loop-i-preserved
-loop-i-preserved c = let w = c.args.w.now in
-    c.loop-i.invariant
-    ∙ every_next is_digit w _ c.loop-i-test.true
-    (passed (c.is_digit.ensures ∙ ap is_digit c.byte.ensures) (ap not c.if-not-is_digit.false))
-
 pub returns : goal.returns
+unfolding is_digit
 returns c = let w = c.args.w.now in
-    every_done is_digit w _ c.loop-i-test.false ∙ sym c.loop-i.invariant
-
-pub loop-i-init : goal.loop-i-init
-loop-i-init c = refl
+    all_from_yields_List is_digit _ _ _ c.all.ensures.ran (YieldsList-from_slice w cc) (λ x b q k. search (rules, tests))
+    ∙ every_is is_digit w

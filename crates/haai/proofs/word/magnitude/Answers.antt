@@ -1,24 +1,25 @@
-use Rattle.std.specs.Prelude.{ℕ, ◌+◌, ◌-◌, ◌*◌, refl}
 use Rattle.std.proofs.Common.{sym, ◌∙◌, ap, arith}
-use Rattle.haai.specs.Clauses.{capped}
+use Rattle.value.specs.Test.{◌=?◌}
+use Rattle.value.proofs.Tests.{yes, lt!, eq×?, both! }
+use Rattle.program.specs.Bytes.{byte}
+use Rattle.std.specs.Prelude.{ℕ, ◌<◌, ◌≡◌, false, Some, length}
+use Rattle.haai.specs.Clauses.{magnitude_of}
 use Rattle.haai.proofs.Words.{digit_next, digit_done, capped_le}
 use Rattle.haai.proofs.word.magnitude.Goals as goal
 
-pub loop-i-init : goal.loop-i-init
-loop-i-init c = (refl, omega arith)
-
-pub with_digit-v-requires : goal.with_digit-v-requires
-with_digit-v-requires c = c.loop-i.invariant.1
-
-pub loop-i-preserved : goal.loop-i-preserved
-loop-i-preserved c = let w = c.args.w.now in
-    let loop = c.loop-i in
-    let e = c.with_digit-v.ensures ∙ ap (λ (x : ℕ). capped (10 * loop.v + (x - 48))) c.byte.ensures in (
-      loop.invariant.0 ∙ digit_next w _ _ _ c.loop-i-test.true e,
+pub loop-c-preserved : goal.loop-c-preserved
+unfolding byte
+loop-c-preserved c = let d = c.args.digits.now in
+    let loop = c.loop-c in (
+      loop.invariant.0 ∙ digit_next d loop.c-index loop.v _ c.loop-c-test.true c.with_digit-v.ensures,
       rw c.with_digit-v.ensures (capped_le _),
     )
 
 pub returns : goal.returns
-returns c = let w = c.args.w.now in
-    let loop = c.loop-i in
-    digit_done w _ _ c.loop-i-test.false loop.invariant.1 ∙ sym loop.invariant.0
+unfolding magnitude_of ◌=?◌
+returns c = let d = c.args.digits.now in
+    let loop = c.loop-c in
+    let e = digit_done d loop.c-index loop.v c.loop-c-test.false loop.invariant.1 ∙ sym loop.invariant.0 in
+    let none : (length d =? 0) ≡ false = sym c.is_empty.ensures ∙ c.if-is_empty.false in
+    let some : 0 < length d = let z = eq×? none in omega arith in
+    yes _ (both! (lt! some) (sym c.all_digits.ensures ∙ c.if-not-all_digits.false)) (ap (λ (n : ℕ). Some n) e)

@@ -1,6 +1,6 @@
 use Rattle.std.proofs.Common.{not}
-use Rattle.std.specs.Prelude.{ℕ, refl}
-use Rattle.std.proofs.Common.{sym, ◌∙◌, ap}
+use Rattle.std.specs.Prelude.{ℕ, ◌≡◌, refl, length}
+use Rattle.std.proofs.Common.{sym, ◌∙◌, ap, arith}
 use Rattle.value.proofs.Tests.{passed, refused}
 use Rattle.value.proofs.Sweeps.{sweep_done, sweep_found, sweep_next}
 use Rattle.program.specs.Bytes.{byte}
@@ -12,17 +12,21 @@ unfolding word_start
 loop-j-init c = refl
 
 pub returns-then-not-is_space : goal.returns-then-not-is_space
+unfolding byte
 returns-then-not-is_space c = let t = c.args.t.now in
-    sweep_found (λ (j : ℕ). is_space (byte t j)) _ _ c.loop-j-test.true
-    (refused (c.is_space.ensures ∙ ap is_space c.byte.ensures) (ap not c.if-not-is_space.true))
+    sweep_found (λ (j : ℕ). is_space (byte t j)) _ _ (omega arith)
+    (refused c.is_space.ensures (ap not c.if-not-is_space.true))
     ∙ sym c.loop-j.invariant
 
 pub loop-j-preserved : goal.loop-j-preserved
+unfolding byte
 loop-j-preserved c = let t = c.args.t.now in
     c.loop-j.invariant
-    ∙ sweep_next (λ (j : ℕ). is_space (byte t j)) _ _ c.loop-j-test.true
-    (passed (c.is_space.ensures ∙ ap is_space c.byte.ensures) (ap not c.if-not-is_space.false))
+    ∙ sweep_next (λ (j : ℕ). is_space (byte t j)) _ _ (omega arith)
+    (passed c.is_space.ensures (ap not c.if-not-is_space.false))
 
 pub returns : goal.returns
 returns c = let t = c.args.t.now in
-    sweep_done (λ (j : ℕ). is_space (byte t j)) _ _ c.loop-j-test.false ∙ sym c.loop-j.invariant
+    let loop = c.loop-j in
+    let last : length t ≡ loop.j = let e = loop.auto.j-end c.requires in omega arith in
+    last ∙ sweep_done (λ (j : ℕ). is_space (byte t j)) _ _ c.loop-j-test.false ∙ sym loop.invariant

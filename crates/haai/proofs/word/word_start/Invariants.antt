@@ -6,6 +6,3 @@ use Rattle.haai.proofs.word.word_start.Given as goal
 
 abbrev pub invariant-loop-j : goal.invariant-loop-j
 invariant-loop-j l = word_start l.t l.i ≡ sweep (λ (j : ℕ). is_space (byte l.t j)) l.j (length l.t - l.j)
-
-abbrev pub decreases-loop-j : goal.decreases-loop-j
-decreases-loop-j l = length l.t - l.j
