@@ -24,7 +24,7 @@ use value::Value;
 // The primitive that takes a third operand.
 const CHOOSE: u8 = 11;
 
-// The command gives v.
+// The command gives v. All that give a value end so, each in a function of its own, so that the arms of exec are alike.
 pub(crate) fn give(memory: &mut [u32], here: usize, v: Value) -> Outcome
     requires { here + 1 < length memory.old }
     ensures { let m = memory.old in

@@ -41,6 +41,7 @@ pub(crate) fn pass_over<C: Change>(
         memory.new ≡ P.over (C.makes change.now p) m (M.starts_below p m u) }
 {
     let mut a = MAIN_AT;
+    // no step of one size: each deployment is as long as its reactor says
     while a < u {
         let o = a;
         a = o + counts_at(facts, memory, o).size();
