@@ -35,10 +35,8 @@ fn wire(
     let n = counts.commands_d();
     let at = counts.at() as usize;
     let first = o as usize + counts.slots_d() as usize;
-    let mut j: u8 = 0;
-    while j < n {
+    for j in 0..n {
         let k = j as usize;
-        j += 1;
         let c = bytes_within(program, at + 8 * k);
         declare(facts, memory, h, first + 2 * k, c)?;
     }
@@ -94,18 +92,16 @@ pub(crate) fn run(
     let end = counts.commands_r();
     slots.lay(program, at, first, 0);
     let mut n = first;
-    let mut j: u8 = 0;
-    while j < end {
+    for j in 0..end {
         slots.note(first + j, n);
         let here = after(o, n);
         let i = at + 8 * (j as usize);
-        j += 1;
         match exec(program, facts, readings, memory, slots, h, o, here, i)? {
             Outcome::Given => n += 1,
             Outcome::Move => {}
             Outcome::Call(d) => {
                 run(program, facts, readings, memory, slots, h + 1, d)?;
-                slots.lay(program, at, first, j)
+                slots.lay(program, at, first, j + 1)
             }
         }
     }

@@ -79,40 +79,37 @@ overflow_add-first t c = let at_loop = c.loop-j in
     let pre = c.requires in
     let g = at_loop.invariant.2 in
     let most = short _ _ _ _ _ _ _ _ _ pre.loaded _ _ _ _ g in
-    let in_loop = c.loop-j-test.true in
+    let in_loop : c.loop-j.j < c.commands_r-end.result = omega arith in
     omega arith
 
 pub exec-requires : goal.exec-requires
 exec-requires t c = let at_after = c.after-here in
     let at_note = c.note in
-    let at_loop_test = c.loop-j-test in
     let at_loop = c.loop-j in
     let pre = c.requires in
     let g = at_loop.invariant.2 in
     let inside = all_inside _ _ _ _ _ _ _ _ _ pre.loaded _ _ _ _ g in
-    let in_loop = at_loop_test.true in
+    let in_loop : c.loop-j.j < c.commands_r-end.result = omega arith in
     let reach = found _ _ _ _ _ _ _ _ _ pre.loaded _ _ _ _ g in_loop _ at_after.ensures.at in
     record { at_in_bounds = omega arith; reaches = rw at_note.ensures reach; workable = g.left.workable }
 
 pub overflow_add-n : goal.overflow_add-n
-overflow_add-n t c = let at_loop_test = c.loop-j-test in
-    let at_loop = c.loop-j in
+overflow_add-n t c =  let at_loop = c.loop-j in
     let pre = c.requires in
     let g = at_loop.invariant.2 in
     let most = short _ _ _ _ _ _ _ _ _ pre.loaded _ _ _ _ g in
     let few = counted _ _ _ _ _ _ _ _ _ pre.loaded _ _ _ _ g in
-    let in_loop = at_loop_test.true in
+    let in_loop : c.loop-j.j < c.commands_r-end.result = omega arith in
     omega arith
 
 pub loop-j-preserved-in-Given : goal.loop-j-preserved-in-Given
 loop-j-preserved-in-Given t c = let at_exec = c.exec in
     let at_after = c.after-here in
     let at_note = c.note in
-    let at_loop_test = c.loop-j-test in
     let at_loop = c.loop-j in
     let pre = c.requires in
     let g = at_loop.invariant.2 in
-    let in_loop = at_loop_test.true in
+    let in_loop : c.loop-j.j < c.commands_r-end.result = omega arith in
     let known = pre.loaded in
     let code = c.in_ok-exec.ensures _ _ known.facts g.legal (here_at _ _ _ _ _ _ _ _ _ known _ _ _ _ g)
     (omega arith)
@@ -129,11 +126,10 @@ pub loop-j-preserved-in-Move : goal.loop-j-preserved-in-Move
 loop-j-preserved-in-Move t c = let at_exec = c.exec in
     let at_after = c.after-here in
     let at_note = c.note in
-    let at_loop_test = c.loop-j-test in
     let at_loop = c.loop-j in
     let pre = c.requires in
     let g = at_loop.invariant.2 in
-    let in_loop = at_loop_test.true in
+    let in_loop : c.loop-j.j < c.commands_r-end.result = omega arith in
     let known = pre.loaded in
     let code = c.in_ok-exec.ensures _ _ known.facts g.legal (here_at _ _ _ _ _ _ _ _ _ known _ _ _ _ g)
     (omega arith)
@@ -150,11 +146,10 @@ pub run-requires : goal.run-requires
 run-requires t c = let at_exec = c.exec in
     let at_after = c.after-here in
     let at_note = c.note in
-    let at_loop_test = c.loop-j-test in
     let at_loop = c.loop-j in
     let pre = c.requires in
     let g = at_loop.invariant.2 in
-    let in_loop = at_loop_test.true in
+    let in_loop : c.loop-j.j < c.commands_r-end.result = omega arith in
     let known = pre.loaded in
     let code = c.in_ok-exec.ensures _ _ known.facts g.legal (here_at _ _ _ _ _ _ _ _ _ known _ _ _ _ g)
     (omega arith)
@@ -167,13 +162,12 @@ run-requires t c = let at_exec = c.exec in
 
 pub lay-requires-in-Call : goal.lay-requires-in-Call
 lay-requires-in-Call t c = let at_run = c.run in
-    let at_loop_test = c.loop-j-test in
     let at_loop = c.loop-j in
     let pre = c.requires in
     let g = at_loop.invariant.2 in
     let inside = all_inside _ _ _ _ _ _ _ _ _ pre.loaded _ _ _ _ g in
     let most = short _ _ _ _ _ _ _ _ _ pre.loaded _ _ _ _ g in
-    let in_loop = at_loop_test.true in
+    let in_loop : c.loop-j.j < c.commands_r-end.result = omega arith in
     record { n_in_bounds = omega arith; n_bound = omega arith }
 
 pub loop-j-preserved : goal.loop-j-preserved
@@ -181,11 +175,10 @@ loop-j-preserved t c = let at_run = c.run in
     let at_exec = c.exec in
     let at_after = c.after-here in
     let at_note = c.note in
-    let at_loop_test = c.loop-j-test in
     let at_loop = c.loop-j in
     let pre = c.requires in
     let g = at_loop.invariant.2 in
-    let in_loop = at_loop_test.true in
+    let in_loop : c.loop-j.j < c.commands_r-end.result = omega arith in
     let known = pre.loaded in
     let code = c.in_ok-exec.ensures _ _ known.facts g.legal (here_at _ _ _ _ _ _ _ _ _ known _ _ _ _ g)
     (omega arith)
@@ -205,12 +198,11 @@ returns-in_err-run-in-Call t c = let at_run = c.run in
     let at_exec = c.exec in
     let at_after = c.after-here in
     let at_note = c.note in
-    let at_loop_test = c.loop-j-test in
     let at_loop = c.loop-j in
     let at_enter = c.enter in
     let pre = c.requires in
     let g = at_loop.invariant.2 in
-    let in_loop = at_loop_test.true in
+    let in_loop : c.loop-j.j < c.commands_r-end.result = omega arith in
     let known = pre.loaded in
     let code = c.in_ok-exec.ensures _ _ known.facts g.legal (here_at _ _ _ _ _ _ _ _ _ known _ _ _ _ g)
     (omega arith)
@@ -226,12 +218,11 @@ pub returns-in_err-exec : goal.returns-in_err-exec
 returns-in_err-exec t c = let at_exec = c.exec in
     let at_after = c.after-here in
     let at_note = c.note in
-    let at_loop_test = c.loop-j-test in
     let at_loop = c.loop-j in
     let at_enter = c.enter in
     let pre = c.requires in
     let g = at_loop.invariant.2 in
-    let in_loop = at_loop_test.true in
+    let in_loop : c.loop-j.j < c.commands_r-end.result = omega arith in
     let known = pre.loaded in
     let code = c.in_err-exec.ensures _ _ known.facts g.legal (here_at _ _ _ _ _ _ _ _ _ known _ _ _ _ g)
     (omega arith)
@@ -247,7 +238,6 @@ returns t c = let at_enter = c.enter in
     let pre = c.requires in
     let b = begun _ _ _ _ _ _ _ _ pre.loaded pre.workable pre.steady refl c.in_ok-enter.ensures in
     let g = c.loop-j.invariant.2 in
-    let past = c.loop-j-test.false in
     let upto = g.upto in
     b.ends_whole _ (whole _ _ _ _ _ _ _ _ _ pre.loaded _ _ _ _ g (omega arith))
 

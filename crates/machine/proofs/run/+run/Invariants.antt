@@ -6,9 +6,6 @@ abbrev pub invariant-loop-j : goal.invariant-loop-j
 invariant-loop-j l =
     (length l.memory ≡ length l.initial.memory) × (l.h ≤ 64) × Going l.program l.facts l.readings l.h l.o l.initial.memory l.first l.at l.end l.memory l.slots.before l.n l.j
 
-abbrev pub decreases-loop-j : goal.decreases-loop-j
-decreases-loop-j l = l.end - l.j
-
 -- 65 less the depth
 abbrev pub decreases-run : goal.decreases-run
 decreases-run l = 65 - l.h

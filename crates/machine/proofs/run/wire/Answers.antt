@@ -1,4 +1,4 @@
-use Rattle.std.specs.Prelude.{refl}
+use Rattle.std.specs.Prelude.{◌<◌, refl}
 use Rattle.answer.proofs.Handed.{handed_on}
 use Rattle.std.proofs.Common.{arith}
 use Rattle.machine.proofs.Declaring.{bytes_there, declared_off, declared_on}
@@ -30,7 +30,7 @@ loop-j-preserved c = let pre = c.requires in
     let n = c.commands_d-n.ensures _ _ counts in
     let first = c.slots_d.ensures.is _ _ counts in
     let bytes = bytes_there _ _ _ _ _ c.bytes_within-c.ensures (c.at-at.ensures.is _ _ counts) in
-    let low = c.loop-j-test.true in (
+    let low : c.loop-j.j < c.commands_d-n.result = omega arith in (
       cc,
       omega arith,
       λ rd f s z. declared_on _ _ _ _ _ _ _ _ _ _ _ _ (omega arith) (omega arith)
@@ -43,7 +43,7 @@ returns-in_err-declare c = let pre = c.requires in
     let n = c.commands_d-n.ensures _ _ counts in
     let first = c.slots_d.ensures.is _ _ counts in
     let bytes = bytes_there _ _ _ _ _ c.bytes_within-c.ensures (c.at-at.ensures.is _ _ counts) in
-    let low = c.loop-j-test.true in
+    let low : c.loop-j.j < c.commands_d-n.result = omega arith in
     rw (handed_on _ c.from_residual.ensures.1)
     (λ rd f s z. declared_off _ _ _ _ _ _ _ _ _ _ _ _ (omega arith) (omega arith)
     (c.in_err-declare.ensures _ _ _ _ pre.loaded.facts bytes (omega arith)) (c.loop-j.invariant.2 rd f s z)
@@ -54,7 +54,6 @@ unfolding commands_in
 returns c = let at_loop = c.loop-j in
     let pre = c.requires in
     let n = c.commands_d-n.ensures _ _ pre.tells in
-    let past = c.loop-j-test.false in
     let upto = at_loop.invariant.1 in
     λ rd f s z. left_at _ _ _ _ _ (omega arith) (omega arith) (at_loop.invariant.2 rd f s z)
 

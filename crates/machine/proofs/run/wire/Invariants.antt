@@ -12,6 +12,3 @@ invariant-loop-j l =
     × ((rd : List ℕ) (f : ℕ) → Steady l.program rd (suc f) l.h l.initial.memory l.o → wired l.initial.memory l.o ≡ 0
     → Left l.program rd f l.h l.o (run_of (suc f) l.program rd l.h l.initial.memory l.o) (reactor l.initial.memory l.o)
     (commands_in l.program (reactor l.initial.memory l.o) - l.j) l.j l.memory)
-
-abbrev pub decreases-loop-j : goal.decreases-loop-j
-decreases-loop-j l = l.n - l.j
