@@ -1,12 +1,7 @@
--- Two headers, and two commands, are equal by their bytes.
+-- Two commands are equal by their bytes.
 -- Assumes nothing.
 use Rattle.std.specs.Prelude.{◌≡◌}
-use Rattle.program.specs.declared.Header.{Header}
 use Rattle.program.specs.declared.Command.{Command}
-
-pub same_header : {h k : Header} → h.format ≡ k.format → h.shapes ≡ k.shapes → h.reactors ≡ k.reactors →
-    h.globals ≡ k.globals → h ≡ k
-same_header p q r s = λ i. record { format = p i; shapes = q i; reactors = r i; globals = s i }
 
 pub same_command : {c d : Command} → c.code ≡ d.code → c.x ≡ d.x → c.a ≡ d.a → c.b ≡ d.b → c.v0 ≡ d.v0 →
     c.v1 ≡ d.v1 → c.v2 ≡ d.v2 → c.v3 ≡ d.v3 → c ≡ d

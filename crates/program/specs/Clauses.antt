@@ -1,5 +1,5 @@
--- What the contracts of the code speak of beside the definitions: the codes of commands; the header as one value; and what is asked of a
--- reactor most often as one number, with a table of such numbers, filled in once for a whole call.
+-- What the contracts of the code speak of beside the definitions: the codes of commands; the header as one value; and
+-- what is asked of a reactor most often as one number, with a table of such numbers, filled in once for a whole call.
 use Rattle.std.specs.Prelude.{ℕ, ◌/◌, ◌%◌, ◌≤◌, ◌<◌, ◌≡◌, ◌≢◌, ◌⊎◌, List, get_or, Result, MatchResult}
 use Rattle.program.specs.Bytes.{most_reactors, byte, shapes, reactors, globals, commands_d, commands_r, commands_at}
 use Rattle.program.specs.Command.{Cmd, v_of, alloc_mono, make_poly, constant, global, supply, react, consume, sink}

@@ -49,6 +49,7 @@ impl Header {
     pub const MOST_LOCATIONS: usize = 174;
 
     // The header of a program, legal or not.
+    #[tactic(auto, unfolding(crate::specs::Clauses::header_of))]
     pub fn from_bytes(program: &[u8]) -> Header
         ensures { result ≡ header_of program.now }
     {

@@ -150,6 +150,7 @@ pub fn bytes_within(program: &[u8], i: usize) -> Command
 }
 
 // The same at the program's end and past it.
+#[tactic(auto, unfolding(crate::specs::Command::bytes_at))]
 fn bytes_near_end(program: &[u8], at: u64) -> Command
     ensures { result ≡ C.bytes_at program.now at }
 {

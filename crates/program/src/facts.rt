@@ -3,6 +3,8 @@
 //
 // It is asked for again and again while an image is tested and while deployments run. So the check
 // notes it once for each reactor, in a table that is lent on.
+#![tactic(auto, using(crate::proofs::Slots::slot_low, crate::proofs::Slots::slot_high))]
+
 ghost use Rattle.std.specs.Prelude.{ℕ, ◌+◌, ◌≤◌, ◌<◌, ◌≡◌, ◌≢◌, List};
 ghost use Rattle.value.specs.Test.{◌=?◌};
 ghost use Rattle.program.specs.Bytes as B;

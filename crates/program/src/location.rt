@@ -1,6 +1,4 @@
 // 2.14, 2.46 to 2.48 Locations of a reactor, and the words that a deployment takes.
-#![tactic(auto, unfolding(crate::specs::Location::source_count, crate::specs::Location::sink_count, crate::specs::Location::sink_loc))]
-
 ghost use Rattle.std.specs.Prelude.{ℕ, ◌≤◌, ◌<◌, ◌≡◌};
 ghost use Rattle.value.specs.Test.{pick};
 ghost use Rattle.program.specs.Bytes as B;
@@ -21,6 +19,7 @@ pub const MOST_LOCATIONS: usize = Header::MOST_LOCATIONS;
 pub const HEAD_WORDS: u32 = 3;
 
 // How many sources reactor r has.
+#[tactic(auto, unfolding(crate::specs::Location::source_count))]
 pub fn source_count(program: &[u8], r: u32) -> u8
     ensures { result ≡ L.source_count program.now r }
 {
@@ -28,6 +27,7 @@ pub fn source_count(program: &[u8], r: u32) -> u8
 }
 
 // How many sinks.
+#[tactic(auto, unfolding(crate::specs::Location::sink_count))]
 pub fn sink_count(program: &[u8], r: u32) -> u8
     ensures { result ≡ L.sink_count program.now r }
 {
@@ -35,6 +35,7 @@ pub fn sink_count(program: &[u8], r: u32) -> u8
 }
 
 // The location of own sink x.
+#[tactic(auto, unfolding(crate::specs::Location::sink_loc))]
 pub fn sink_loc(program: &[u8], r: u32, x: u8) -> u16
     ensures { result ≡ L.sink_loc program.now r x }
 {
@@ -68,6 +69,7 @@ fn results_from(program: &[u8], at: u64, n: u8) -> u8
 }
 
 // How many of the first n R commands of reactor r have a result.
+#[tactic(auto, unfolding(crate::specs::Bytes::command_at))]
 fn results(program: &[u8], r: u32, n: u8) -> u8
     ensures is { result ≡ L.results program.now r n }
     ensures few { result ≤ n }

@@ -8,7 +8,8 @@ use Rattle.value.specs.Primitive.{table}
 use Rattle.value.specs.declared.kinds.Kind.{Kind}
 use Rattle.value.specs.declared.kinds.Kind.TheVariants.{Number, Truth, Reactor}
 use Rattle.value.specs.declared.table.Primitive.{Primitive}
-use Rattle.value.specs.declared.table.Primitive.TheVariants.{Add, Subtract, Times, Divide, Remainder, Less, Equal, Not, And}
+use Rattle.value.specs.declared.table.Primitive.TheVariants.{Add, Subtract, Times, Divide, Remainder, Less, Equal}
+use Rattle.value.specs.declared.table.Primitive.TheVariants.{Not, And}
 use Rattle.value.specs.declared.table.Primitive.TheVariants.{Or, Known, Choose, Instead, TickDifference}
 use Rattle.value.specs.declared.table.UnknownPrimitive.{UnknownPrimitive}
 

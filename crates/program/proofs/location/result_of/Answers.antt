@@ -13,7 +13,8 @@ one false = refl
 
 pub returns-in-Ok-clause-is : goal.returns-in-Ok-clause-is
 returns-in-Ok-clause-is c d e =
-    one _ ∙ ap (λ (t : Bool). pick t 1 0) (c.has_result.ensures d ∙ ap takes_words (sym (decoded d c.in-Ok.code (c.in-Ok.ensures ∙ sym e))))
+    let row = decoded d c.in-Ok.code (c.in-Ok.ensures ∙ sym e) in
+    one _ ∙ ap (λ (t : Bool). pick t 1 0) (c.has_result.ensures d ∙ ap takes_words (sym row))
 
 pub returns-in-Err-clause-is : goal.returns-in-Err-clause-is
 unfolding pick takes_words
