@@ -31,6 +31,7 @@ impl Tiled<'_> {
         ensures { let p = self.now.program.now in let m = self.now.memory.now in
             result ≡ P.chain_from p m (B.reactors p + 1) table.now o s (M.used m) (replicate 64 0) head }
     {
+        // Bytes and no truths: chain_from, the definition, has a list of numbers.
         let mut seen = [0u8; 64];
         let mut last = used(self.memory);
         let mut c = head;

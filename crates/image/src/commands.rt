@@ -9,17 +9,15 @@ use crate::words::{reactor, word};
 use crate::{DSlot, Makes};
 use program::{Command, byte, commands_in, reactors, source_count, tables_end};
 
-// The byte at which each reactor's commands begin.
-pub(crate) fn positions(program: &[u8]) -> [u32; 256]
-    ensures { Positions program.now result }
+// Fills in the byte at which each reactor's commands begin: a table that is returned is copied twice.
+pub(crate) fn fill_positions(program: &[u8], places: &mut [u32; 256])
+    ensures { Positions program.now places.new }
 {
-    let mut places = [0u32; 256];
     let mut at = tables_end(program) as u32;
     for r in 0..reactors(program) {
         places[r as usize] = at;
         at += 8 * commands_in(program, r as u32) as u32;
     }
-    places
 }
 
 // What the D command at byte `at` makes.

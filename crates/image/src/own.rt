@@ -16,7 +16,8 @@ use program::{commands_d, legal, size_of, slot_at, source_count};
 use value::Value;
 
 impl Tiled<'_> {
-    // Whether all slots of the deployment at a but D slots are zero.
+    // Whether all slots of the deployment at a but D slots are zero. `clear_by` of the sweep has its counts
+    // from a table that there is for an accepted program alone.
     fn clear_at(&self, a: u32) -> bool
         ensures { result ≡ P.clear_at self.now.program.now self.now.memory.now a }
     {

@@ -7,7 +7,7 @@ ghost use Rattle.image.specs.Passes as P;
 ghost use Rattle.image.specs.Clauses.{Tiling, starts_on};
 
 use crate::Pass;
-use crate::commands::positions;
+use crate::commands::fill_positions;
 use crate::tiled::Tiled;
 use crate::tiling::tiles;
 use crate::words::{MAIN_AT, MOST_TURNS, SLOTS_AT, next, reactor, turns, used, wired};
@@ -64,13 +64,16 @@ fn fresh(program: &[u8], memory: &[u32]) -> Result<(), usize>
     Ok(())
 }
 
-// With turns above 0: every deployment's own words are right, each is named once, none is too deep.
+// With turns above 0: every deployment's own words are right, each is named once, none is too deep. Its
+// table stays out of the frame of a turn.
+#[inline(never)]
 fn grown(program: &[u8], memory: &[u32], u: u32) -> Result<(), usize>
     requires { Tiling program.now memory.now u M.main_at }
     ensures { let p = program.now in let m = memory.now in
         result ≡ P.grown_sound p m (starts_on p m u M.main_at) }
 {
-    let places = positions(program);
+    let mut places = [0u32; 256];
+    fill_positions(program, &mut places);
     let image = Tiled {
         program,
         places: &places,

@@ -49,7 +49,8 @@ fn link(table: &mut [u8], o: u32, k: u8, last: u32, c: u32) -> bool
     true
 }
 
-// The chain from `head`, which has to be of shape s.
+// The chain from `head`, which has to be of shape s. The walk is that of `chain_sound`, which promises
+// what a failure means too, and so leaves its table as it is: they share `linked` and `joins`.
 fn sweep_chain(
     program: &[u8],
     memory: &[u32],
@@ -85,7 +86,8 @@ fn sweep_chain(
     c < 1
 }
 
-// The D slot at word i of o, which has to name a deployment of reactor x.
+// The D slot at word i of o, which has to name a deployment of reactor x. This and the next are for a
+// table that changes what `mono_sound` and `point_sound` are for one that stays.
 fn sweep_mono(memory: &[u32], table: &mut [u8], o: u32, k: u8, i: usize, x: u8) -> bool
     requires placed { Placed o k table.old }
     requires i_bound { i < 18446744073709551615 }

@@ -56,7 +56,8 @@ pub fn put_pair_within(memory: &mut [u32], i: usize, v: Value)
     memory[i + 1] = v.content;
 }
 
-// The two words from `i` on, as a value: 0 past the end.
+// The two words from `i` on, as a value: 0 past the end. One test for both, since a machine reads little
+// else.
 pub fn pair(memory: &[u32], i: usize) -> Value
     requires { i < 18446744073709551615 }
     ensures { let m = memory.now in
