@@ -3,17 +3,14 @@
 -- Assumes nothing.
 use Rattle.std.specs.Prelude.{ℕ, ◌+◌, ◌-◌, ◌/◌, ◌%◌, ◌≤◌, ◌<◌, ◌≡◌, refl, ◌≢◌, Bool, true, Ok}
 use Rattle.std.proofs.Common.{sym, ◌∙◌, ap, ⊎_elim}
-use Rattle.std.specs.Prelude.{false, ◌&&◌, ◌||◌, List, [], ◌∷◌, ◌++◌, length, get_or, set, replicate}
+use Rattle.std.specs.Prelude.{List, [], ◌∷◌, ◌++◌, length, get_or, set, replicate}
 use Rattle.std.proofs.Common.{arith}
-use lib.Dec.{ltb, eqb}
 use lib.ListN.{length-set, length-replicate, get_or-eq_default}
 use lib.Seq.{get_or-set_same, get_or-set_other, set_out}
-use Rattle.value.specs.Test.{◌and◌, ◌<?◌, ◌=?◌, pick}
-use Rattle.value.proofs.Tests.{same?, below, both!, both?, or×?, lt!, lt×?, le!, eq!, eq?, yes, goes, flags, same_lt}
-use Rattle.value.proofs.Tests.{same_eq, same_or}
-use Rattle.program.specs.Bytes.{main_of}
+use Rattle.value.specs.Test.{◌and◌, ◌<?◌, pick}
+use Rattle.value.proofs.Tests.{same?, below, both!, lt!, le!, eq!, eq?, yes, goes}
 use Rattle.value.proofs.Zeros.{zeros_at}
-use Rattle.image.specs.Memory.{main_at, most_turns, used, turns, reactor, next, zero_at}
+use Rattle.image.specs.Memory.{main_at, used, zero_at}
 use Rattle.image.specs.Passes as P
 use Rattle.image.specs.Passes.{table_bytes, lowest, over, table_byte, with_table_byte, blank_table, is_start, name}
 use Rattle.image.specs.Passes.{deepen, visit, fits, own_sound, children_of, table_after, lowest_unfit, tiles_from}
@@ -357,20 +354,3 @@ module _ (p m : List ℕ) (u : ℕ) (its : u ≡ used m) (fits : u ≤ length m)
 
   pub grown_sound_lem : sound_of p m ≡ Ok tt
   grown_sound_lem = sym (grown_true ∙ grown_judged p m framed_true g.head.last g.head.late)
-
--- what the code finds of word 1, main's next, and whether main comes first
-pub headed_by : (p m : List ℕ) (u t n : ℕ) (f : Bool) → u ≡ used m → t ≡ turns m → n ≡ next m main_at
-    → f ≡ ((main_at <? u) and (reactor m main_at =? main_of p)) → (ltb t 1 || ltb most_turns t) ≡ false
-    → (f && eqb n 0) ≡ true → Headed p m
-headed_by p m u t n f e g h first late last =
-    let w = both? (sym (flags f (eqb n 0)) ∙ last) in
-    let b = or×? (sym (same_or (same_lt refl refl) (same_lt refl refl)) ∙ late) in
-    let some : 1 ≤ t = lt×? b.0 in
-    let few : t ≤ most_turns = lt×? b.1 in
-    let none : n ≡ 0 = eq? (sym (same_eq refl refl) ∙ w.1) in
-    record {
-      late = λ z. omega arith;
-      few = omega arith;
-      first = rw (← e) (sym first ∙ w.0);
-      last = sym h ∙ none;
-    }
