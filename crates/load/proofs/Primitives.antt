@@ -1,6 +1,6 @@
 -- A primitive is right where its operands are what its row takes: the code's condition for each sort of row.
 -- Assumes nothing.
-use Rattle.std.specs.Prelude.{ℕ, ◌+◌, ◌≤◌, ◌<◌, ◌≡◌, refl, Bool, true, false, not, eqb, ◌&&◌, List}
+use Rattle.std.specs.Prelude.{ℕ, ◌+◌, ◌≤◌, ◌<◌, ◌≡◌, refl, Bool, true, false, not, List}
 use Rattle.std.proofs.Common.{sym, ◌∙◌, ap, subst, arith}
 use Rattle.value.specs.Test.{◌and◌, ◌or◌, ◌<?◌, ◌≤?◌, ◌=?◌}
 use Rattle.value.specs.Primitive.{table, row_of, is_primitive, is_withdrawn, operands, count_of, kinds_fit, kind_given}
@@ -9,17 +9,17 @@ use Rattle.value.specs.declared.Takes.TheVariants.{TwoNumbers, OneTruth, TwoTrut
 use Rattle.value.specs.declared.Gives.{Gives}
 use Rattle.value.specs.declared.Gives.TheVariants.{ANumber, ATruth, TheirKind}
 use Rattle.value.proofs.Rows.{each}
-use Rattle.value.proofs.Tests.{both!, both?, eq!, eq?, left×, right×, same_and, same_and3, same_eq, same_test}
+use Rattle.value.proofs.Tests.{both!, both?, eq!, eq?, left×, right×, same_test}
 use Rattle.program.specs.Command.{v_of, primitive, gives}
 use Rattle.program.specs.declared.Command.{Command}
-use Rattle.load.specs.Scan.{kind_at, standing_at, is_value, formed, remaining, located, agreed, disorder}
-use Rattle.load.specs.Clauses.{right, state, Giving}
+use Rattle.load.specs.Scan.{kind_at, is_value, formed, remaining, located, agreed, disorder}
+use Rattle.load.specs.Clauses.{right, state, Giving, one_right, two_right, alike_right, three_right}
 use Rattle.load.specs.declared.Locations.{Locations}
 use Rattle.program.specs.Kind.{give_kind}
 use Rattle.std.specs.Bool.{then_some}
 use Rattle.std.specs.Prelude.{Option}
 use Rattle.load.specs.declared.Scan.{Scan}
-use Rattle.load.proofs.Conditions.{and_right, and_true}
+use Rattle.load.proofs.Conditions.{and_true}
 
 -- the row of a primitive that a program may have
 pub record Row (x : ℕ) (t : Takes) (g : Gives) : Type 0 where
@@ -90,19 +90,6 @@ located_by n s c = is_value s c.a and ((n <? 2) or is_value s c.b) and ((n <? 3)
 abbrev pub right_by : Takes → Scan → Command → Bool
 right_by t s c = formed_by (count_of t) c and located_by (count_of t) s c and kinds_fit t (kind_at s c.a) (kind_at s c.b)
     (kind_at s c.v0)
-
--- a primitive's operands, by what it takes: one, any or a truth; two of kind k; two of one kind; a truth and two of one
--- kind
-abbrev pub one_right : Scan → Command → Bool → Bool
-one_right s c u = (c.b + v_of c =? 0) and is_value s c.a and u
-
-abbrev pub two_right : Scan → Command → Bool → Bool
-two_right s c u = (v_of c =? 0) and (is_value s c.a and is_value s c.b) and u
-
-abbrev pub three_right : Scan → Command → Bool
-three_right s c =
-    (v_of c =? c.v0) and (is_value s c.a and is_value s c.b and is_value s c.v0)
-    and ((kind_at s c.a =? 1) and (kind_at s c.b =? kind_at s c.v0))
 
 module _ (s : Scan) (c : Command) where
   abbrev asked : Bool → Bool → Takes → Bool
@@ -175,22 +162,19 @@ module _ (s : Scan) (c : Command) where
       ∙ ap (λ (t : Bool). ((c.v1 + c.v2 + c.v3 =? 0) and (c.b =? 0) and (c.v0 =? 0)) and t and u)
       (sym (and_true (is_value s c.a)))
 
-  abbrev pub of_kind : ℕ → Bool
-  of_kind k = (kind_at s c.a =? k) and (kind_at s c.b =? k)
-
-  pub two_numbers : two_right s c (of_kind 0) ≡ right_by TwoNumbers s c
+  pub two_numbers : two_right s c 0 ≡ right_by TwoNumbers s c
   unfolding count_of kinds_fit ◌and◌ ◌or◌ ◌<?◌ ◌≤?◌
   two_numbers = two _
 
-  pub two_truths : two_right s c (of_kind 1) ≡ right_by TwoTruths s c
+  pub two_truths : two_right s c 1 ≡ right_by TwoTruths s c
   unfolding count_of kinds_fit ◌and◌ ◌or◌ ◌<?◌ ◌≤?◌
   two_truths = two _
 
-  pub two_alike : two_right s c (kind_at s c.a =? kind_at s c.b) ≡ right_by TwoAlike s c
+  pub two_alike : alike_right s c ≡ right_by TwoAlike s c
   unfolding count_of kinds_fit ◌and◌ ◌or◌ ◌<?◌ ◌≤?◌
   two_alike = two _
 
-  pub one_truth : one_right s c (kind_at s c.a =? 1) ≡ right_by OneTruth s c
+  pub one_truth : one_right s c false ≡ right_by OneTruth s c
   unfolding count_of kinds_fit ◌and◌ ◌or◌ ◌<?◌ ◌≤?◌
   one_truth = one _
 
@@ -204,28 +188,6 @@ module _ (s : Scan) (c : Command) where
       ((kind_at s c.a =? 1) and (kind_at s c.b =? kind_at s c.v0))) low ∙ ap
       (λ (t : Bool). t and (is_value s c.a and is_value s c.b and is_value s c.v0) and
       ((kind_at s c.a =? 1) and (kind_at s c.b =? kind_at s c.v0))) (sym (and_true (c.v1 + c.v2 + c.v3 =? 0)))
-
--- the code's conditions, by what it sees of the operands: the standings i, j and k
-module _ (s : Scan) (c : Command) {v i : ℕ} (e : v ≡ v_of c) (f : i ≡ standing_at s c.a) where
-  pub one_seen : {x u : Bool} → x ≡ u → ((eqb (c.b + v) 0 && eqb i 1) && x) ≡ one_right s c u
-  unfolding is_value
-  one_seen q = same_and (same_and (same_eq (ap (λ (v : ℕ). c.b + v) e) refl) (same_eq f refl)) q ∙ and_right _ _ _
-
-  pub any_seen : (eqb (c.b + v) 0 && eqb i 1) ≡ one_right s c true
-  unfolding is_value
-  any_seen = same_and (same_eq (ap (λ (v : ℕ). c.b + v) e) refl) (same_eq f refl ∙ sym (and_true _))
-
-  module _ {j : ℕ} (g : j ≡ standing_at s c.b) where
-    pub two_seen : {x u : Bool} → x ≡ u → ((eqb v 0 && (eqb i 1 && eqb j 1)) && x) ≡ two_right s c u
-    unfolding is_value
-    two_seen q = same_and (same_and (same_eq e refl) (same_and (same_eq f refl) (same_eq g refl))) q ∙ and_right _ _ _
-
-    pub three_seen : {k l m n : ℕ} → k ≡ standing_at s c.v0 → l ≡ kind_at s c.a → m ≡ kind_at s c.b → n ≡ kind_at s c.v0 →
-        ((eqb v c.v0 && ((eqb i 1 && eqb j 1) && eqb k 1)) && (eqb l 1 && eqb m n)) ≡ three_right s c
-    unfolding is_value
-    three_seen h ka kb kd =
-        same_and (same_and (same_eq e refl) (same_and3 (same_eq f refl) (same_eq g refl) (same_eq h refl)))
-        (same_and (same_eq ka refl) (same_eq kb kd)) ∙ and_right _ _ _
 
 -- a primitive's kind where it is right
 module _ (p : List ℕ) (r : ℕ) (before : Locations) (c : Command) (k : Option ℕ) {t : Takes} {g : Gives} (w : Row c.x t g)

@@ -4,14 +4,14 @@
 use Rattle.std.specs.Prelude.{ℕ, ◌+◌, ◌^◌, ◌≤◌, ◌<◌, ◌≡◌, ◌≢◌, Bool, true, false, List, get_or, replicate}
 use Rattle.std.specs.Prelude.{Option, None, Some, Result, Ok, Err}
 use Rattle.std.specs.Bool.{then_some}
-use Rattle.value.specs.Test.{pick, ◌<?◌, ◌and◌, ◌=?◌}
+use Rattle.value.specs.Test.{pick, ◌<?◌, ◌and◌, ◌or◌, ◌=?◌}
 use Rattle.program.specs.Bytes.{shapes, reactors, sources_in, shape_of, commands_in, commands_r}
 use Rattle.program.specs.declared.Command.{Command}
 use Rattle.program.specs.Location.{most_locations, locations, results}
-use Rattle.program.specs.Command.{Cmd, Give, gives, sequence_of, decode}
+use Rattle.program.specs.Command.{Cmd, Give, gives, sequence_of, decode, v_of}
 use Rattle.program.specs.Kind.{give_kind}
 use Rattle.load.specs.Refusal.{at_command}
-use Rattle.load.specs.Scan.{Scanned, free_point, standing_at, kind_at, is_supplied, scanned, some_value, stand}
+use Rattle.load.specs.Scan.{Scanned, free_point, standing_at, kind_at, is_supplied, is_value, scanned, some_value, stand}
 use Rattle.load.specs.Scan.{in_sequence, formed, remaining, located, agreed, disorder, refusal_of, standing_after}
 use Rattle.load.specs.Scan.{after_of, scan_of, begin_of, settled}
 use Rattle.answer.specs.declared.Refusal.{Refusal}
@@ -74,6 +74,23 @@ allowed is_d p r s c d = in_sequence (sequence_of d) is_d and right p r s c d
 abbrev pub Giving : List ℕ → ℕ → Locations → Command → Give → Option ℕ → Type 0
 Giving p r t c g k = (n : ℕ) →
     let s = state t n in k ≡ then_some (right p r s c (gives g)) (give_kind p (kind_at s) (kind_at s) g)
+
+-- a primitive's operands, by what it takes: one, any or a truth; two of kind k; two of one
+-- kind; a truth and two of one kind
+abbrev pub one_right : Scan → Command → Bool → Bool
+one_right s c any = (c.b + v_of c =? 0) and is_value s c.a and (any or (kind_at s c.a =? 1))
+
+abbrev pub two_right : Scan → Command → ℕ → Bool
+two_right s c k = (v_of c =? 0) and (is_value s c.a and is_value s c.b) and
+    ((kind_at s c.a =? k) and (kind_at s c.b =? k))
+
+abbrev pub alike_right : Scan → Command → Bool
+alike_right s c = (v_of c =? 0) and (is_value s c.a and is_value s c.b) and (kind_at s c.a =? kind_at s c.b)
+
+abbrev pub three_right : Scan → Command → Bool
+three_right s c =
+    (v_of c =? c.v0) and (is_value s c.a and is_value s c.b and is_value s c.v0)
+    and ((kind_at s c.a =? 1) and (kind_at s c.b =? kind_at s c.v0))
 
 -- t tells whether the R command is right; if so the tables are as after it, else as before
 pub record Taking (p : List ℕ) (r here : ℕ) (before after : Locations) (c : Command) (d : Cmd) (t : Bool) : Type 0 where

@@ -1,7 +1,7 @@
 // The R commands that give a value: its kind, or none where the command is refused.
-ghost use Rattle.std.specs.Prelude.{ℕ, List};
+ghost use Rattle.std.specs.Prelude.{ℕ, ◌≡◌, List};
 ghost use Rattle.program.specs.Command as C;
-ghost use Rattle.load.specs.Clauses.{Giving};
+ghost use Rattle.load.specs.Clauses.{state, Giving, one_right, two_right, alike_right, three_right};
 
 use crate::known::Known;
 use crate::{Locations, Scan};
@@ -53,29 +53,60 @@ impl Locations {
         right.then_some(from.kind)
     }
 
-    // By what the primitive takes: two operands of a kind, one, two of one kind, or a truth and two of one kind.
-    pub(crate) fn primitive(&self, c: Command) -> Option<u8>
-        ensures { (p : List ℕ) (r : ℕ) → Giving p r self.now c (C.primitive c.x c.a c.b c.v0) result }
+    // Whether c is right as a primitive of one operand, which may be `any` value or must be a truth.
+    fn one_right(&self, c: Command, any: bool) -> bool
+        ensures { (n : ℕ) → result ≡ one_right (state self.now n) c any }
     {
-        let v = c.v();
+        let rest = c.b as u64 + c.v() as u64;
+        let a = self.seen(c.a);
+        (rest == 0) & (a.standing == Scan::VALUE) & (any | (a.kind == 1))
+    }
+
+    // As one of two operands of kind k.
+    fn two_right(&self, c: Command, k: u8) -> bool
+        ensures { (n : ℕ) → result ≡ two_right (state self.now n) c k }
+    {
+        let a = self.seen(c.a);
+        let b = self.seen(c.b);
+        let values = (a.standing == Scan::VALUE) & (b.standing == Scan::VALUE);
+        (c.v() == 0) & values & ((a.kind == k) & (b.kind == k))
+    }
+
+    // As one of two operands of one kind.
+    fn alike_right(&self, c: Command) -> bool
+        ensures { (n : ℕ) → result ≡ alike_right (state self.now n) c }
+    {
+        let a = self.seen(c.a);
+        let b = self.seen(c.b);
+        let values = (a.standing == Scan::VALUE) & (b.standing == Scan::VALUE);
+        (c.v() == 0) & values & (a.kind == b.kind)
+    }
+
+    // As one of a truth and two operands of one kind.
+    fn three_right(&self, c: Command) -> bool
+        ensures { (n : ℕ) → result ≡ three_right (state self.now n) c }
+    {
         let a = self.seen(c.a);
         let b = self.seen(c.b);
         let d = self.seen(c.v0);
-        let values = (a.standing == Scan::VALUE) & (b.standing == Scan::VALUE);
-        let one = (c.b as u64 + v as u64 == 0) & (a.standing == Scan::VALUE);
-        let two = (v == 0) & values;
-        let three = (v == c.v0 as u32) & (values & (d.standing == Scan::VALUE));
-        let numbers = (a.kind == 0) & (b.kind == 0);
-        let truths = (a.kind == 1) & (b.kind == 1);
+        let values = (a.standing == Scan::VALUE)
+            & (b.standing == Scan::VALUE)
+            & (d.standing == Scan::VALUE);
+        (c.v() == c.v0 as u32) & values & ((a.kind == 1) & (b.kind == d.kind))
+    }
+
+    pub(crate) fn primitive(&self, c: Command) -> Option<u8>
+        ensures { (p : List ℕ) (r : ℕ) → Giving p r self.now c (C.primitive c.x c.a c.b c.v0) result }
+    {
         match c.x {
-            0..=3 => (two & numbers).then_some(0),
-            5..=6 => (two & numbers).then_some(1),
-            7 => (one & (a.kind == 1)).then_some(1),
-            8..=9 => (two & truths).then_some(1),
-            10 => one.then_some(1),
-            11 => (three & ((a.kind == 1) & (b.kind == d.kind))).then_some(b.kind),
-            12 => (two & (a.kind == b.kind)).then_some(b.kind),
-            13 => (two & numbers).then_some(0),
+            0..=3 => self.two_right(c, 0).then_some(0),
+            5..=6 => self.two_right(c, 0).then_some(1),
+            7 => self.one_right(c, false).then_some(1),
+            8..=9 => self.two_right(c, 1).then_some(1),
+            10 => self.one_right(c, true).then_some(1),
+            11 => self.three_right(c).then_some(self.seen(c.b).kind),
+            12 => self.alike_right(c).then_some(self.seen(c.b).kind),
+            13 => self.two_right(c, 0).then_some(0),
             _ => None,
         }
     }
