@@ -137,14 +137,14 @@ module _ (p : List ℕ) (r : ℕ) where
           counted = one_more _ _ run.counted e;
         }
 
-  pub run_done : (t : Locations) (q : Progress) (i : ℕ) → Running p r t q i → i ≡ commands_in p r → Ran p r t (Ok q)
+  pub run_done : (t : Locations) (q : Progress) (i : ℕ) → Running p r t q i → i ≡ commands_in p r →
+      Ran p r t (Ok q.results)
   unfolding scan_of commands_in
   run_done t q i run e =
       let all : commands_in p r ≡ i + 0 = omega arith in
       let rest : i - commands_d p r ≡ commands_r p r = omega arith in (
-        ap (λ (n : ℕ). scan_of n p r (begin_of p r)) all ∙ run.scans 0
-            ∙ ap (λ (n : ℕ). scanned 0 0 (state t n)) (sym run.here),
-        subst (λ (n : ℕ). Within p r (state t n)) (sym run.here) run.within,
+        ap (λ (n : ℕ). scan_of n p r (begin_of p r)) all ∙ run.scans 0 ∙ ap (λ (n : ℕ). scanned 0 0 (state t n)) e,
+        subst (λ (n : ℕ). Within p r (state t n)) e run.within,
         run.counted ∙ ap (results p r) rest,
       )
 
@@ -179,7 +179,7 @@ module _ (accepted : Answer) (p : List ℕ) (r : ℕ) where
 
   -- what the scan of reactor q of o, which is this one, comes to
   module _ (m : ℕ) (h : 0 < m) (t : Locations) {o : List ℕ} {q : ℕ} (is : (o ≡ p) × (q ≡ r)) where
-    ran_here : (x : Result Progress Refusal) → Ran o q t x → Ran p r t x
+    ran_here : (x : Result ℕ Refusal) → Ran o q t x → Ran p r t x
     ran_here x ran = subst (λ (q : ℕ). Ran p q t x) is.1 (subst (λ (o : List ℕ). Ran o q t x) is.0 ran)
 
     pub reactor_refused : {w : Refusal} → Ran o q t (Err w) → Err w ≡ reactors_of accepted m p r
@@ -187,16 +187,16 @@ module _ (accepted : Answer) (p : List ℕ) (r : ℕ) where
         let here = ran_here (Err w) ran in
         ap Err here.1 ∙ ended_refused (After (m - 1)) (entry_at p r) (all_of p r) here.0 ∙ sym (reactors_step m h)
 
-    module _ (x : Progress) (ran : Ran o q t (Ok x)) where
-      all_taken : all_of p r ≡ scanned 0 0 (state t x.next)
-      all_taken = let here = ran_here (Ok x) ran in here.0
+    module _ (n : ℕ) (ran : Ran o q t (Ok n)) where
+      all_taken : all_of p r ≡ scanned 0 0 (state t (commands_in p r))
+      all_taken = let here = ran_here (Ok n) ran in here.0
 
-      pub reactor_missing : complete (state t x.next) ≡ false → Err (Missing (entry_at p r)) ≡
+      pub reactor_missing : complete (state t (commands_in p r)) ≡ false → Err (Missing (entry_at p r)) ≡
           reactors_of accepted m p r
       reactor_missing f = ended_missing (After (m - 1)) (entry_at p r) (all_of p r) _ all_taken f ∙ sym
           (reactors_step m h)
 
-      pub reactor_taken : complete (state t x.next) ≡ true → reactors_of accepted m p r ≡
+      pub reactor_taken : complete (state t (commands_in p r)) ≡ true → reactors_of accepted m p r ≡
           reactors_of accepted (m - 1) p (r + 1)
       reactor_taken f = reactors_step m h ∙ ended_on (After (m - 1)) (entry_at p r) (all_of p r) _ all_taken f
 

@@ -120,12 +120,12 @@ Stepped p r s c t (Some q) =
 abbrev pub all_of : List ℕ → ℕ → Scanned
 all_of p r = scan_of (commands_in p r) p r (begin_of p r)
 
--- one of them is refused, or all lead to the state that is handed back
-abbrev pub Ran : List ℕ → ℕ → Locations → Result Progress Refusal → Type 0
+-- one of them is refused, or none, and n have a result
+abbrev pub Ran : List ℕ → ℕ → Locations → Result ℕ Refusal → Type 0
 Ran p r t (Err w) = ((all_of p r).code ≢ 0) × (w ≡ at_command (all_of p r).code (all_of p r).place)
-Ran p r t (Ok q) =
-    let s = state t q.next in
-    (all_of p r ≡ scanned 0 0 s) × Within p r s × (q.results ≡ results p r (commands_r p r))
+Ran p r t (Ok n) =
+    let s = state t (commands_in p r) in
+    (all_of p r ≡ scanned 0 0 s) × Within p r s × (n ≡ results p r (commands_r p r))
 
 -- t tells whether the n locations from `at` on are settled
 abbrev pub Sweeping : List ℕ → ℕ → ℕ → Bool → Type 0

@@ -27,11 +27,11 @@ fn judge_reactors(program: &[u8], facts: &mut [u64; 64]) -> Result<(), Refusal>
     for r in 0..count {
         let f = Known::of(program, r, first);
         let mut locations = Locations::blank();
-        let t = f.scan(&mut locations)?;
+        let results = f.scan(&mut locations)?;
         if !locations.complete(f.first_sink() + f.sinks as usize) {
             return Err(Refusal::Missing(entry_at(program, r as u32)));
         }
-        let k = Counts::new(first, f.sources, f.declared, f.running, t.results, f.sinks);
+        let k = Counts::new(first, f.sources, f.declared, f.running, results, f.sinks);
         facts[r as usize] = k.word;
         first = first + 8 * (f.declared as u32 + f.running as u32);
     }

@@ -41,8 +41,8 @@ pub struct Scan {
 // commands before it have a result.
 #[derive(Clone, Copy)]
 pub struct Progress {
-    pub next: u8,
-    pub results: u8,
+    pub next: usize,
+    pub results: usize,
 }
 
 // What the tables say of one location.

@@ -35,8 +35,8 @@ impl Known<'_> {
         }
     }
 
-    // Takes all commands of the reactor, up to one that is refused.
-    pub(crate) fn scan(&self, locations: &mut Locations) -> Result<Progress, Refusal>
+    // Takes all commands of the reactor, up to one that is refused: how many have a result.
+    pub(crate) fn scan(&self, locations: &mut Locations) -> Result<u8, Refusal>
         requires blank { locations.old ≡ blank }
         ensures { let k = self.now in Ran k.program.now k.reactor locations.new result }
     {
@@ -53,7 +53,7 @@ impl Known<'_> {
             };
             s = then;
         }
-        Ok(s)
+        Ok(s.results as u8)
     }
 }
 

@@ -189,7 +189,7 @@ impl Progress {
     {
         let m = known.made(c)?;
         locations.stand(
-            known.sources as usize + self.next as usize,
+            known.sources as usize + self.next,
             m.standing,
             m.kind,
         );
@@ -207,13 +207,13 @@ impl Progress {
             Stepped k.program.now k.reactor (state locations.old self.next) c locations.new result }
         ensures counted { IfSome result (λ q. q.results ≡ self.results + pick (C.takes_words (C.decode c)) 1 0) }
     {
-        let here = known.sources as usize + self.next as usize;
+        let here = known.sources as usize + self.next;
         if !known.command_r(locations, here, c) {
             return None;
         }
         Some(Progress {
             next: self.next + 1,
-            results: self.results + result_of(c.code),
+            results: self.results + result_of(c.code) as usize,
         })
     }
 
@@ -231,7 +231,7 @@ impl Progress {
         ensures counted { let one = pick (C.takes_words (C.decode c)) 1 0 in
             IfSome result (λ q. q.results ≡ self.results + pick (self.next <? known.now.declared) 0 one) }
     {
-        if self.next < known.declared {
+        if self.next < known.declared as usize {
             self.take_d(known, locations, c)
         } else {
             self.take_r(known, locations, c)

@@ -32,11 +32,11 @@ of-f-requires c = let r = c.loop-r.r in
       here = (c.loop-r.invariant.2, omega (arith, c.loop-r.invariant.2, pre.whole.0, commands_within p r inside), pre.whole.1);
     }
 
-pub returns-in_err-t : goal.returns-in_err-t
+pub returns-in_err-results : goal.returns-in_err-results
 unfolding checked
-returns-in_err-t c = let p = c.args.program.now in rw (handed_on _ c.from_residual.ensures.1) (record {
+returns-in_err-results c = let p = c.args.program.now in rw (handed_on _ c.from_residual.ensures.1) (record {
   ruling = reactor_refused _ p c.loop-r.r _ (omega (arith, c.reactors-count.ensures))
-      c.scan.new.locations c.of-f.ensures c.in_err-t.ensures ∙ sym c.loop-r.invariant.0;
+      c.scan.new.locations c.of-f.ensures c.in_err-results.ensures ∙ sym c.loop-r.invariant.0;
   facts = not_fine;
 })
 
@@ -49,7 +49,7 @@ complete-requires c = let f = c.of-f.result in
     let end : c.first_sink.result + f.sinks ≡ locations f.program.now f.reactor = omega
     (arith, c.first_sink.ensures.is, f.its_sources, f.its_declared, f.its_running, f.its_sinks) in record {
       small = omega (arith, c.first_sink.ensures.small);
-      within = λ l h. c.in_ok-t.ensures.1 l (omega (arith, end));
+      within = λ l h. c.in_ok-results.ensures.1 l (omega (arith, end));
     }
 
 pub returns-then-not-complete : goal.returns-then-not-complete
@@ -57,7 +57,7 @@ unfolding checked
 returns-then-not-complete c = let p = c.args.program.now in record {
   ruling = ap (λ (e : ℕ). Err (Missing e)) c.entry_at.ensures.is
       ∙ reactor_missing _ p c.loop-r.r _ (omega (arith, c.reactors-count.ensures)) _
-      c.of-f.ensures _ c.in_ok-t.ensures (refused (c.complete.ensures _) (ap not c.if-not-complete.true))
+      c.of-f.ensures _ c.in_ok-results.ensures (refused (c.complete.ensures _) (ap not c.if-not-complete.true))
       ∙ sym c.loop-r.invariant.0;
   facts = not_fine;
 }
@@ -80,10 +80,10 @@ loop-r-preserved c = let p = c.args.program.now in
     let low = commands_within p r inside in
     let told = c.new-k.ensures p r (omega (arith, loop.invariant.2, low, pre.whole.0, pre.whole.1)) loop.invariant.2
     (f.its_sources ∙ is source_count) declared running
-    (c.in_ok-t.ensures.2 ∙ is (λ o q. results o q (commands_r o q)))
+    (c.in_ok-results.ensures.2 ∙ is (λ o q. results o q (commands_r o q)))
     (f.its_sinks ∙ is sink_count) in (
       loop.invariant.0
-          ∙ reactor_taken _ p r _ (omega (arith, inside)) _ c.of-f.ensures _ c.in_ok-t.ensures
+          ∙ reactor_taken _ p r _ (omega (arith, inside)) _ c.of-f.ensures _ c.in_ok-results.ensures
           (passed (c.complete.ensures _) (ap not c.if-not-complete.false))
           ∙ ap (λ (m : ℕ). reactors_of (accepted p) m p (r + 1)) (omega (arith, inside)),
       omega (arith, inside),

@@ -60,6 +60,11 @@ loop-i-preserved c = let k = c.args.self.now in
     (omega (arith, c.loop-i-test.true, k.its_declared, k.its_running)) _ c.command-c.ensures _ k.legal _
     c.in-Some.ensures.step count
 
+pub overflow_cast-result : goal.overflow_cast-result
+overflow_cast-result c = let k = c.args.self.now in
+    let few = results_few k.program.now k.reactor (c.loop-i.i - commands_d k.program.now k.reactor) in
+    omega (arith, c.loop-i.invariant.counted, k.few, few)
+
 pub returns : goal.returns
 unfolding commands_in
 returns c = let k = c.args.self.now in
