@@ -1,19 +1,25 @@
--- A call's answer as one number, with the words then.
+-- What a call in a room comes to, and its answer as one number.
 -- Assumes nothing.
-use Rattle.std.specs.Prelude.{ℕ, ◌≡◌, refl, List}
-use Rattle.std.proofs.Common.{ap}
+use Rattle.std.specs.Prelude.{ℕ, ◌/◌, ◌≡◌, refl, Bool, true, false, List, length}
+use Rattle.std.proofs.Common.{sym, ◌∙◌, ap, Bor}
+use Rattle.value.specs.Test.{pick}
 use Rattle.answer.specs.Answer.{place_of, number_of}
 use Rattle.answer.specs.Answer.{Answer}
 use Rattle.image.specs.Start as Start
+use Rattle.image.specs.Start.{start_of}
 use Rattle.image.specs.Clauses.{started}
 use Rattle.remus.specs.Turn as Turn
-use Rattle.remus.specs.Preview.{Preview}
+use Rattle.remus.specs.Turn.{turn_of}
+use Rattle.remus.specs.Preview.{Preview, from_run, tried}
+use Rattle.remus.proofs.Previews.{preview_tried}
 use Rattle.machine.specs.Clauses.{turned, previewed}
-use Rattle.rig.specs.Words.{words_of, packed}
-use Rattle.value.specs.Test.{pick}
-use Rattle.rig.specs.Face.{one_number, start_bytes, turn_bytes, Faced, faced, turn_faced, preview_faced}
+use Rattle.rig.specs.Words.{words_of, holding, packed}
+use Rattle.rig.specs.Laws.{Bytes}
+use Rattle.rig.specs.Face.{one_number, start_bytes, turn_bytes, preview_bytes, faced, turn_faced, preview_faced}
 use Rattle.rig.specs.Clauses.{room_of, call_of, saves, held, call_held, sinks_held}
-use Rattle.rig.specs.declared.Call.TheVariants as C
+use Rattle.rig.specs.declared.rooms.Call.TheVariants as C
+use Rattle.rig.proofs.Copying.{words_count}
+use Rattle.rig.proofs.Holding.{hold_same}
 
 -- a is the number n and the place q of an answer
 module _ {n q a : ℕ} (h : a ≡ packed n q) where
@@ -36,12 +42,39 @@ module _ {n q a : ℕ} (h : a ≡ packed n q) where
   unfolding one_number previewed faced preview_faced
   preview_faced_lem r work sk v e f g = rw (← e, h, f, g)
 
-pub start_told : (p src m m' rd sk sk' : List ℕ) (a : ℕ) → faced a m' sk' ≡ call_held C.Start p src m rd sk
-    → (a ≡ one_number (start_bytes p m).answer) × (m' ≡ (start_bytes p m).memory)
-unfolding faced held saves room_of pick call_of start_bytes one_number
-start_told p src m m' rd sk sk' a h = (ap (λ (x : Faced). x.answer) h, ap (λ (x : Faced). x.memory) h)
+-- a start, with the sink space that it leaves
+pub start_turned : (p m m' sk : List ℕ) (a : Answer) → started a m' ≡ start_of p m
+    → turned a m' sk ≡ (let s = start_of p m in record { answer = s.answer; memory = s.memory; sink_space = sk })
+unfolding started turned
+start_turned p m m' sk a e = rw (← e)
 
-pub turn_told : (p src m rd sk : List ℕ)
-    → sinks_held sk (call_held C.Turn p src m (words_of rd) (words_of sk)) ≡ turn_faced (turn_bytes p m rd sk)
-unfolding faced held saves room_of pick call_of sinks_held turn_faced turn_bytes one_number
-turn_told p src m rd sk = refl
+-- ---- what a call in a room comes to is what the call on bytes does
+
+pub start_told : (p m m' rd sk sk' : List ℕ) (a : Answer) → turned a m' sk' ≡ call_held C.Start p m rd sk
+    → started a m' ≡ start_bytes p m
+unfolding turned started held saves room_of pick call_of start_bytes
+start_told p m m' rd sk sk' a h = ap (λ (x : Turn.Turn). started x.answer x.memory) h
+
+pub turn_told : (p m rd sk : List ℕ)
+    → sinks_held sk (call_held C.Turn p m (words_of rd) (words_of sk)) ≡ turn_bytes p m rd sk
+unfolding held saves room_of pick call_of sinks_held turn_bytes
+turn_told p m rd sk = refl
+
+by_run_lem : (work : List ℕ) → Bytes work → (t : Bool) (ws : List ℕ)
+    → pick t (holding work ws) work ≡ holding work (pick t ws (words_of work))
+unfolding pick
+by_run_lem work h true ws = refl
+by_run_lem work h false ws = sym (hold_same work h)
+
+pub preview_told : (p work rd sk work' sk' : List ℕ) (source : Bor (List ℕ)) (a : Answer) → Bytes work
+    → length source.now / 4 ≡ length work / 4
+    → turned a work' sk' ≡ sinks_held sk (call_held (C.Preview source) p work (words_of rd) (words_of sk))
+    → previewed a work' sk' ≡ preview_bytes p source.now work rd sk
+unfolding turned previewed held saves room_of call_of sinks_held preview_bytes tried
+preview_told p work rd sk work' sk' source a h e f =
+    let m = source.now in
+    let t = turn_of p (words_of m) (words_of rd) (words_of sk) in
+    let l = words_count work ∙ sym e ∙ sym (words_count m) in
+    let v = preview_tried p (words_of m) (words_of work) (words_of rd) (words_of sk) l in
+    let told = ap (λ (x : Turn.Turn). previewed x.answer x.memory x.sink_space) f in
+    told ∙ rw (v, by_run_lem work h (from_run (number_of t.answer)) t.memory) refl

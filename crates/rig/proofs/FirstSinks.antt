@@ -27,9 +27,9 @@ use Rattle.remus.proofs.Sinks.{pairs_length}
 use Rattle.machine.proofs.Turning.{sinks_fit}
 use Rattle.rig.specs.Words.{words_of, holding}
 use Rattle.rig.specs.Laws.{Bytes}
-use Rattle.rig.specs.Face.{one_number, Faced, faced, turn_faced}
+use Rattle.machine.specs.Clauses.{turned}
 use Rattle.rig.specs.Clauses.{room_of, Runs, held, call_held, sinks_held}
-use Rattle.rig.specs.declared.Call.{Call}
+use Rattle.rig.specs.declared.rooms.Call.{Call}
 use Rattle.rig.proofs.Copying.{words_count}
 use Rattle.rig.proofs.Holding.{hold_rest}
 use Rattle.rig.proofs.ManyReadings.{runs_turn}
@@ -109,19 +109,18 @@ module _ (p m rd sk : List ℕ) (k : ℕ) (e : k ≡ min (length sk) 14) where
   turn_first = ap (λ (s : List ℕ). turn_of p m rd s) (sym (take-append-drop k sk)) ∙ by_check_lem (check_of p) refl
 
 -- w the k words in the room before the call, w' then, b the bytes of the sink space that were given them
-module _ (what : Call) (p src m m' rd sk w w' b : List ℕ) (k : ℕ) (r : Runs what) (h : Bytes sk)
+module _ (what : Call) (p m m' rd sk w w' b : List ℕ) (k : ℕ) (r : Runs what) (h : Bytes sk)
     (l : k ≡ min (length sk / 4) 14) (n : length w' ≡ k) where
   abbrev rest : List ℕ
   rest = drop k (words_of sk)
 
   abbrev w₀ : List ℕ
-  w₀ = room_of what src m
+  w₀ = room_of what m
 
-  behind : w ≡ take k (words_of sk)
-      → turn_of p w₀ (words_of rd) (words_of sk) ≡ longer rest (turn_of p w₀ (words_of rd) w)
+  behind : w ≡ take k (words_of sk) → turn_of p w₀ rd (words_of sk) ≡ longer rest (turn_of p w₀ rd w)
   behind e =
-      turn_first p w₀ (words_of rd) (words_of sk) k (rw (words_count sk) l)
-      ∙ ap (λ (v : List ℕ). longer rest (turn_of p w₀ (words_of rd) v)) (sym e)
+      turn_first p w₀ rd (words_of sk) k (rw (words_count sk) l)
+      ∙ ap (λ (v : List ℕ). longer rest (turn_of p w₀ rd v)) (sym e)
 
   given : b ≡ holding sk w' → holding sk (w' ++ rest) ≡ b
   given f =
@@ -129,12 +128,12 @@ module _ (what : Call) (p src m m' rd sk w w' b : List ℕ) (k : ℕ) (r : Runs 
       ∙ hold_rest sk w' h (omega (arith, n, words_count sk, l)) ∙ sym f
 
   pub first_words : w ≡ take k (words_of sk) → b ≡ holding sk w'
-      → (a : ℕ) → faced a m' w' ≡ call_held what p src m (words_of rd) w
-      → faced a m' b ≡ sinks_held sk (call_held what p src m (words_of rd) (words_of sk))
-  unfolding faced held turn_faced sinks_held one_number
+      → (a : Answer) → turned a m' w' ≡ call_held what p m rd w
+      → turned a m' b ≡ sinks_held sk (call_held what p m rd (words_of sk))
+  unfolding turned held sinks_held
   first_words e f a t =
-      let u = t ∙ ap (held what m) (runs_turn what p w₀ (words_of rd) w r) in
-      let answer = ap (λ (x : Faced). x.answer) u in
-      let memory = ap (λ (x : Faced). x.memory) u in
-      let space = ap (λ (x : Faced). x.sink_space) u in
-      rw (runs_turn what p w₀ (words_of rd) (words_of sk) r, behind e) (rw (answer, memory, ← given f, space) refl)
+      let u = t ∙ ap (held what m) (runs_turn what p w₀ rd w r) in
+      let answer = ap (λ (x : Turn). x.answer) u in
+      let memory = ap (λ (x : Turn). x.memory) u in
+      let space = ap (λ (x : Turn). x.sink_space) u in
+      rw (runs_turn what p w₀ rd (words_of sk) r, behind e) (rw (answer, memory, ← given f, space) refl)

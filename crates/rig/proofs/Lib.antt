@@ -2,8 +2,8 @@ pub mod Copying
 pub mod Holding
 pub mod Pinned
 pub mod Numbers
-pub mod Sizes
+pub mod InRooms
 pub mod ManyReadings
 pub mod FirstSinks
+pub mod Unfit
 pub mod Facing
-pub mod Trying

@@ -54,7 +54,7 @@ held_rest s ws l =
           ∙ get_or-drop (4 * length ws) s (i - 4 * length ws) 0 ∙ ap (λ (j : ℕ). get_or s j 0) (sym f),
     )
 
-cut : (place : ℕ) → min place most_place ≡ pick (place <? most_place) place most_place
+pub cut : (place : ℕ) → min place most_place ≡ pick (place <? most_place) place most_place
 cut place =
     cases (place <? most_place)
     (λ e. yes _ e (let h = lt? e in omega (arith, h)))

@@ -8,10 +8,9 @@ ghost use Rattle.load.specs.Check.{check_of};
 ghost use Rattle.figure.specs.Figure.{figure_of};
 ghost use Rattle.haai.specs.Compile.{compile_of};
 
-use crate::Call;
 use crate::pack::pack;
-use crate::rooms::call_sized;
-use crate::sinks::{SINK_WORDS, sink_in};
+use crate::pairs::call_pairs;
+use crate::rooms::{Call, Request};
 use figure::figure;
 use haai::compile;
 use image::words_legal;
@@ -45,15 +44,35 @@ pub extern "C" fn remus_compile(text: &[u8], output: &mut [u8]) -> u64
     pack(number(c), place(c))
 }
 
+// The answer where lengths are against the call: n words of memory, and of a preview k of work memory.
+fn unfit(program: &[u8], n: usize, k: usize) -> Answer
+    ensures { result ≡ unfit_of n k (check_of program.now) }
+{
+    check(program)?;
+    if words_legal(n) {
+        return Err(Refusal::WorkLength(k));
+    }
+    Err(Refusal::MemoryLength(n))
+}
+
 // Start. It takes no readings and has no sinks.
 #[unsafe(no_mangle)]
 pub extern "C" fn remus_start(program: &[u8], memory: &mut [u8]) -> u64
     ensures answer { result ≡ one_number (start_bytes program.now memory.old).answer }
     ensures memory { memory.new ≡ (start_bytes program.now memory.old).memory }
 {
-    let readings = [0u32; 1];
-    let mut sinks = [0u32; 1];
-    call_sized(Call::Start, program, program, memory, &readings, &mut sinks)
+    let n = memory.len() / 4;
+    let a = if words_legal(n) {
+        let request = Request {
+            call: Call::Start,
+            program,
+            readings: &[],
+        };
+        request.on_bytes(memory, &mut [])
+    } else {
+        unfit(program, n, n)
+    };
+    pack(number(a), place(a))
 }
 
 // A turn.
@@ -68,28 +87,13 @@ pub extern "C" fn remus_turn(
         let rd = readings.now in let sk = sinks.old in
         faced result memory.new sinks.new ≡ turn_faced (turn_bytes p m rd sk) }
 {
-    let n = (sinks.len() / 4).min(SINK_WORDS);
-    let mut room = [0u32; SINK_WORDS];
-    sink_in(
-        &mut room[..n],
-        Call::Turn,
-        program,
-        program,
-        memory,
-        readings,
-        sinks,
-    )
-}
-
-// The answer of a preview whose lengths, n words of memory and k of work memory, are against it.
-fn unfit(program: &[u8], n: usize, k: usize) -> Answer
-    ensures { result ≡ unfit_of n k (check_of program.now) }
-{
-    check(program)?;
-    if words_legal(n) {
-        return Err(Refusal::WorkLength(k));
-    }
-    Err(Refusal::MemoryLength(n))
+    let n = memory.len() / 4;
+    let a = if words_legal(n) {
+        call_pairs(Call::Turn, program, memory, readings, sinks)
+    } else {
+        unfit(program, n, n)
+    };
+    pack(number(a), place(a))
 }
 
 // A preview. Its turn runs in a room with a copy of memory.
@@ -107,19 +111,10 @@ pub extern "C" fn remus_preview(
 {
     let n = memory.len() / 4;
     let k = work.len() / 4;
-    if !((k == n) & words_legal(n)) {
-        let a = unfit(program, n, k);
-        return pack(number(a), place(a));
-    }
-    let j = (sinks.len() / 4).min(SINK_WORDS);
-    let mut room = [0u32; SINK_WORDS];
-    sink_in(
-        &mut room[..j],
-        Call::Preview,
-        program,
-        memory,
-        work,
-        readings,
-        sinks,
-    )
+    let a = if (k == n) & words_legal(n) {
+        call_pairs(Call::Preview(memory), program, work, readings, sinks)
+    } else {
+        unfit(program, n, k)
+    };
+    pack(number(a), place(a))
 }

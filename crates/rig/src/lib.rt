@@ -7,18 +7,9 @@
 mod bytes;
 mod calls;
 mod pack;
-mod readings;
+mod pairs;
 mod rooms;
-mod sinks;
 mod words;
 
 pub use calls::{remus_check, remus_compile, remus_figure, remus_preview, remus_start, remus_turn};
 pub use words::{remus_preview_words, remus_start_words, remus_turn_words};
-
-// Which call is made in a room.
-#[derive(Clone, Copy)]
-pub enum Call {
-    Start,
-    Turn,
-    Preview,
-}

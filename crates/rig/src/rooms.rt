@@ -1,140 +1,111 @@
-// A call on a memory of bytes, in a room of words. A preview reads its source and may write memory, which is then
-// its work memory; the other calls do not look at the source. There are rooms of six sizes, so that a small memory
-// takes a small stack.
+// A call on a memory of bytes, in a room of words. There are rooms of six sizes, so that a small memory takes a small
+// stack.
 ghost use Rattle.std.specs.Prelude.{◌/◌, ◌≤◌, ◌≡◌, length};
+ghost use Rattle.machine.specs.Clauses.{turned};
 ghost use Rattle.rig.specs.Clauses.{room_of, Level, call_of, saves, call_held};
-ghost use Rattle.rig.specs.Face.{faced};
 
-use crate::Call;
 use crate::bytes::{load, save};
-use crate::pack::{ran, with_place};
-use crate::words::{remus_start_words, remus_turn_words};
+use crate::pack::ran;
 use image::MOST_WORDS;
+use machine::{Answer, start, turn};
 
-// The call on words.
-fn call(what: Call, program: &[u8], memory: &mut [u32], readings: &[u32], sinks: &mut [u32]) -> u64
-    ensures { let t = call_of what program.now memory.old readings.now sinks.old in
-        faced result memory.new sinks.new ≡ t }
-{
-    match what {
-        Call::Start => remus_start_words(program, memory),
-        Call::Turn => remus_turn_words(program, memory, readings, sinks),
-        Call::Preview => remus_turn_words(program, memory, readings, sinks),
-    }
+// Which call is made. A preview makes its turn on the words of this memory, and its work memory gets those then.
+#[derive(Clone, Copy)]
+pub(crate) enum Call<'a> {
+    Start,
+    Turn,
+    Preview(&'a [u8]),
 }
 
-// The room gets the words of memory, for a preview those of its source.
-fn fill(what: Call, source: &[u8], memory: &[u8], room: &mut [u32])
-    requires room_len { length room.old ≡ length memory.now / 4 }
-    requires level { Level what source.now memory.now }
-    ensures { room.new ≡ room_of what source.now memory.now }
-{
-    match what {
-        Call::Start => load(memory, room),
-        Call::Turn => load(memory, room),
-        Call::Preview => load(source, room),
-    }
+// A call with all that it reads.
+#[derive(Clone, Copy)]
+pub(crate) struct Request<'a> {
+    pub(crate) call: Call<'a>,
+    pub(crate) program: &'a [u8],
+    pub(crate) readings: &'a [u32],
 }
 
-// Whether memory gets the words in the room once the call has given this answer.
-fn to_save(what: Call, answer: u64) -> bool
-    ensures { result ≡ saves what answer }
-{
-    match what {
-        Call::Start => true,
-        Call::Turn => true,
-        Call::Preview => ran(answer),
+impl<'a> Request<'a> {
+    // The room gets the words that the call is made on.
+    fn fill(self, memory: &[u8], room: &mut [u32])
+        requires room_len { length room.old ≡ length memory.now / 4 }
+        requires level { Level self.call memory.now }
+        ensures { room.new ≡ room_of self.entry.call memory.now }
+    {
+        match self.call {
+            Call::Start | Call::Turn => load(memory, room),
+            Call::Preview(source) => load(source, room),
+        }
     }
-}
 
-// The call in a room of as many words as memory has.
-fn call_in(
-    room: &mut [u32],
-    what: Call,
-    program: &[u8],
-    source: &[u8],
-    memory: &mut [u8],
-    readings: &[u32],
-    sinks: &mut [u32],
-) -> u64
-    requires room_len { length room.old ≡ length memory.old / 4 }
-    requires level { Level what source.now memory.old }
-    ensures { let p = program.now in let src = source.now in
-        let t = call_held what p src memory.old readings.now sinks.old in
-        faced result memory.new sinks.new ≡ t }
-{
-    fill(what, source, memory, room);
-    let a = call(what, program, room, readings, sinks);
-    if to_save(what, a) {
-        save(room, memory);
+    // The call on words.
+    fn on_words(self, memory: &mut [u32], sinks: &mut [u32]) -> Answer
+        ensures { let t = call_of self.entry.call self.entry.program.now memory.old self.entry.readings.now sinks.old in
+            turned result memory.new sinks.new ≡ t }
+    {
+        match self.call {
+            Call::Start => start(self.program, memory),
+            Call::Turn | Call::Preview(_) => turn(self.program, memory, self.readings, sinks),
+        }
     }
-    a
-}
 
-// The call in the first words of a room of WORDS words. It stays a function of its own: merged into its caller, all
-// six rooms would stand in one frame.
-#[inline(never)]
-fn in_room<const WORDS: usize>(
-    what: Call,
-    program: &[u8],
-    source: &[u8],
-    memory: &mut [u8],
-    readings: &[u32],
-    sinks: &mut [u32],
-) -> u64
-    requires room_enough { length memory.old / 4 ≤ WORDS }
-    requires room_few { WORDS ≤ MOST_WORDS }
-    requires level { Level what source.now memory.old }
-    ensures { let p = program.now in let src = source.now in
-        let t = call_held what p src memory.old readings.now sinks.old in
-        faced result memory.new sinks.new ≡ t }
-{
-    let n = memory.len() / 4;
-    let mut room = [0u32; WORDS];
-    call_in(
-        &mut room[..n],
-        what,
-        program,
-        source,
-        memory,
-        readings,
-        sinks,
-    )
-}
-
-// The call in the smallest room that will do. More words than any room has are refused as none are, but
-// for 8's place.
-pub(crate) fn call_sized(
-    what: Call,
-    program: &[u8],
-    source: &[u8],
-    memory: &mut [u8],
-    readings: &[u32],
-    sinks: &mut [u32],
-) -> u64
-    requires { Level what source.now memory.old }
-    ensures { let p = program.now in let src = source.now in
-        let t = call_held what p src memory.old readings.now sinks.old in
-        faced result memory.new sinks.new ≡ t }
-{
-    let n = memory.len() / 4;
-    if MOST_WORDS < n {
-        let a = call_sized(
-            what,
-            program,
-            &source[..0],
-            &mut memory[..0],
-            readings,
-            sinks,
-        );
-        return with_place(a, 8, n);
+    // Whether memory gets the words in the room once the call has given this answer.
+    fn saves(self, answer: Answer) -> bool
+        ensures { result ≡ saves self.entry.call answer }
+    {
+        match self.call {
+            Call::Start | Call::Turn => true,
+            Call::Preview(_) => ran(answer),
+        }
     }
-    match n {
-        0..=64 => in_room::<64>(what, program, source, memory, readings, sinks),
-        65..=256 => in_room::<256>(what, program, source, memory, readings, sinks),
-        257..=1024 => in_room::<1024>(what, program, source, memory, readings, sinks),
-        1025..=4096 => in_room::<4096>(what, program, source, memory, readings, sinks),
-        4097..=8192 => in_room::<8192>(what, program, source, memory, readings, sinks),
-        _ => in_room::<MOST_WORDS>(what, program, source, memory, readings, sinks),
+
+    // The call in a room of as many words as memory has.
+    fn in_words(self, room: &mut [u32], memory: &mut [u8], sinks: &mut [u32]) -> Answer
+        requires room_len { length room.old ≡ length memory.old / 4 }
+        requires level { Level self.call memory.old }
+        ensures { let r = self.entry in
+            let t = call_held r.call r.program.now memory.old r.readings.now sinks.old in
+            turned result memory.new sinks.new ≡ t }
+    {
+        self.fill(memory, room);
+        let a = self.on_words(room, sinks);
+        if self.saves(a) {
+            save(room, memory);
+        }
+        a
+    }
+
+    // The call in the first words of a room of WORDS words. It stays a function of its own: merged into its caller,
+    // all six rooms would stand in one frame.
+    #[inline(never)]
+    fn in_room<const WORDS: usize>(self, memory: &mut [u8], sinks: &mut [u32]) -> Answer
+        requires room_enough { length memory.old / 4 ≤ WORDS }
+        requires room_few { WORDS ≤ MOST_WORDS }
+        requires level { Level self.call memory.old }
+        ensures { let r = self.entry in
+            let t = call_held r.call r.program.now memory.old r.readings.now sinks.old in
+            turned result memory.new sinks.new ≡ t }
+    {
+        let n = memory.len() / 4;
+        let mut room = [0u32; WORDS];
+        self.in_words(&mut room[..n], memory, sinks)
+    }
+
+    // The call in the smallest room that will do.
+    pub(crate) fn on_bytes(self, memory: &mut [u8], sinks: &mut [u32]) -> Answer
+        requires room_enough { length memory.old / 4 ≤ MOST_WORDS }
+        requires level { Level self.call memory.old }
+        ensures { let r = self.entry in
+            let t = call_held r.call r.program.now memory.old r.readings.now sinks.old in
+            turned result memory.new sinks.new ≡ t }
+    {
+        match memory.len() / 4 {
+            0..=64 => self.in_room::<64>(memory, sinks),
+            65..=256 => self.in_room::<256>(memory, sinks),
+            257..=1024 => self.in_room::<1024>(memory, sinks),
+            1025..=4096 => self.in_room::<4096>(memory, sinks),
+            4097..=8192 => self.in_room::<8192>(memory, sinks),
+            _ => self.in_room::<MOST_WORDS>(memory, sinks),
+        }
     }
 }

@@ -1,31 +1,30 @@
-use Rattle.std.proofs.Common.{not}
-use Rattle.std.proofs.Common.{ap}
-use Rattle.rig.proofs.Facing.{answer_faced}
-use Rattle.rig.proofs.Trying.{level, preview_told, unfit_told}
-use Rattle.value.proofs.Tests.{passed, refused, same_and, same_eq}
 use Rattle.std.specs.Prelude.{refl}
-use Rattle.std.proofs.Common.{sym, ◌∙◌, arith}
-use lib.Seq.{length-take-le}
+use Rattle.std.specs.Prelude.{◌≡◌}
+use Rattle.std.proofs.Common.{rules, sym, ◌∙◌}
+use Rattle.value.proofs.Tests.{same_and, same_eq}
+use Rattle.machine.specs.Clauses.{previewed}
+use Rattle.rig.specs.Face.{preview_bytes}
+use Rattle.rig.proofs.Facing.{preview_faced_lem, preview_told}
+use Rattle.rig.proofs.Unfit.{level, preview_unfit}
 use Rattle.rig.proofs.calls.remus_preview.Goals as goal
+use Rattle.rig.proofs.calls.remus_preview.Goals.{then-k-n, else-k-n}
 
-pub returns-then-not-k-n : goal.returns-then-not-k-n
-returns-then-not-k-n c = let fit = same_and (same_eq refl refl) c.words_legal.ensures in
-    let number = c.number in
-    let place = c.place in
-    let told = answer_faced c.pack.ensures _ _ refl number.ensures place.ensures in
-    rw told
-    (unfit_told _ _ _ _ _ (λ i. omega (arith, c.slice_known-1.given i))
-    (λ i. omega (arith, c.slice_known-2-1.given i)) (refused fit (ap not c.if-not-k-n.true)) _
-    c.unfit-a.ensures)
-
-pub slice_bounds-sink_in-end : goal.slice_bounds-sink_in-end
-slice_bounds-sink_in-end c = sym (length-take-le _ _ (omega arith))
-
-pub sink_in-requires : goal.sink_in-requires
-sink_in-requires c = let fit = same_and (same_eq refl refl) c.words_legal.ensures in record { room_len = length-take-le _ _ (omega arith) ∙ c.min-j.ensures; runs = tt; level = level c.args.memory.now c.args.work.now (passed fit (ap not c.if-not-k-n.false)) }
+pub call_pairs-a-requires : goal.call_pairs-a-requires
+call_pairs-a-requires c =
+    let fit = same_and (same_eq refl refl) c.words_legal.ensures in
+    let both = level c.args.memory.now c.args.work.now (sym fit ∙ c.if-k-n.true) in
+    record { runs = tt; room_enough = both.0; level = both.1 }
 
 pub returns : goal.returns
-returns c = let fit = same_and (same_eq refl refl) c.words_legal.ensures in
-    c.sink_in.ensures
-    ∙ preview_told _ _ _ _ _ (λ i. omega (arith, c.slice_known-1.given i))
-    (passed fit (ap not c.if-not-k-n.false))
+returns c =
+    let fit = same_and (same_eq refl refl) c.words_legal.ensures in
+    let a = c.args in
+    let after = c.if-k-n in
+    let told : previewed after.a after.work after.sinks
+    ≡ preview_bytes a.program.now a.memory.now a.work.now a.readings.now a.sinks.now = elim c.if-k-n.branch [
+      | then-k-n w ↦ rw (w.a-is, w.work-is, w.sinks-is) (preview_told _ _ _ _ _ _ _ _ (λ i. search rules)
+          (level a.memory.now a.work.now (sym fit ∙ w.if-k-n.true)).1 w.call_pairs-a.ensures)
+      | else-k-n w ↦ rw (w.a-is, w.work-is, w.sinks-is) (preview_unfit _ _ _ _ _ (λ i. search rules) (λ i. search rules)
+          (sym fit ∙ w.if-k-n.false) _ w.unfit-a.ensures)
+    ] in
+    preview_faced_lem c.pack.ensures _ _ _ _ told c.number.ensures c.place.ensures
