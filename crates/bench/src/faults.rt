@@ -4,7 +4,7 @@ ghost use Rattle.std.specs.Prelude.{◌<◌};
 
 use crate::programs::{NEST, TOGGLE};
 use crate::turns::put_turn;
-use image::put;
+use program::put;
 use std::io;
 
 // A turn of the toggle on its image after two turns, one word of it changed. Main is at 2, minus at 33,

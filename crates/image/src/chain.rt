@@ -5,10 +5,10 @@ ghost use Rattle.program.specs.Bytes as B;
 ghost use Rattle.image.specs.Memory as M;
 ghost use Rattle.image.specs.Passes as P;
 
-use crate::table::{is_start, put_byte};
+use crate::table::is_start;
 use crate::tiled::Tiled;
 use crate::words::{next, reactor, used};
-use program::{byte, reactors, shape_of};
+use program::{byte, put, reactors, shape_of};
 
 // Whether c is a deployment above its owner o and below the one before it on the chain.
 pub(crate) fn linked(table: &[u8], o: u32, last: u32, c: u32) -> bool
@@ -46,7 +46,7 @@ impl Tiled<'_> {
             if !joins(self.program, &seen, s, r) {
                 return false;
             }
-            put_byte(&mut seen, r as usize, 1);
+            put(&mut seen, r as usize, 1);
             last = c;
             c = next(self.memory, c);
         }

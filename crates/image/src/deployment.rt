@@ -5,9 +5,9 @@ ghost use Rattle.program.specs.Location as L;
 ghost use Rattle.image.specs.Memory as M;
 ghost use Rattle.image.specs.Clauses.{deploy_fits};
 
-use crate::words::{SLOTS_AT, pair, put, reactor, set_used, used, word};
+use crate::words::{SLOTS_AT, pair, reactor, set_used, used, word};
 use crate::zero::zero_at;
-use program::{HEAD_WORDS, size_of, slot_at};
+use program::{HEAD_WORDS, put, size_of, slot_at};
 use value::Value;
 
 // The index of location l's two words, in the deployment at a.

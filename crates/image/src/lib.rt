@@ -26,7 +26,7 @@ pub use soundness::sound;
 pub use sweep::sound_by;
 pub use tiling::counts_at;
 pub use words::{
-    MAIN_AT, MOST_DEPTH, MOST_TURNS, MOST_WORDS, SLOTS_AT, next, pair, pair_within, put, put_pair,
+    MAIN_AT, MOST_DEPTH, MOST_TURNS, MOST_WORDS, SLOTS_AT, next, pair, pair_within, put_pair,
     put_pair_within, reactor, set_turns, set_used, set_wired, turns, used, wired, word,
 };
 pub use zero::wipe;

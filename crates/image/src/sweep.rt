@@ -18,11 +18,11 @@ use crate::chain::{joins, linked};
 use crate::commands::makes_at;
 use crate::deployment::zero_around;
 use crate::soundness::{main_first, sound};
-use crate::table::{TABLE_BYTES, mark_start, put_byte, put_table_byte, table_byte};
+use crate::table::{TABLE_BYTES, mark_start, put_table_byte, table_byte};
 use crate::tiling::counts_at;
 use crate::words::{MAIN_AT, MOST_TURNS, next, pair, reactor, turns, used, wired};
 use crate::zero::zero_at;
-use program::{Counts, legal, reactors};
+use program::{Counts, legal, put, reactors};
 use value::Value;
 
 // The byte of a deployment that is named at depth 1, and at depth 64.
@@ -79,7 +79,7 @@ fn sweep_chain(
         if !joins(program, &seen, s, r) {
             return false;
         }
-        put_byte(&mut seen, r as usize, 1);
+        put(&mut seen, r as usize, 1);
         last = c;
         c = next(memory, c);
     }

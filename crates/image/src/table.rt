@@ -3,19 +3,10 @@
 ghost use Rattle.std.specs.Prelude.{◌≡◌, set};
 ghost use Rattle.image.specs.Passes as P;
 
-use program::byte;
+use program::{byte, put};
 
 // 16,384 words, rounded up.
 pub(crate) const TABLE_BYTES: usize = 5462;
-
-// Stores v at `i`, and nothing past the end.
-pub(crate) fn put_byte(bytes: &mut [u8], i: usize, v: u8)
-    ensures { bytes.new ≡ set bytes.old i v }
-{
-    if i < bytes.len() {
-        bytes[i] = v;
-    }
-}
 
 // The entry of the deployment at c, and 0 past the end.
 pub(crate) fn table_byte(table: &[u8], c: u32) -> u8
@@ -28,7 +19,7 @@ pub(crate) fn table_byte(table: &[u8], c: u32) -> u8
 pub(crate) fn put_table_byte(table: &mut [u8], c: u32, v: u8)
     ensures { table.new ≡ P.with_table_byte table.old c v }
 {
-    put_byte(table, (c / 3) as usize, v)
+    put(table, (c / 3) as usize, v)
 }
 
 // What marks a start: in which of its three words it is.

@@ -3,7 +3,7 @@ ghost use Rattle.std.specs.Prelude.{◌+◌, ◌<◌, ◌≡◌, length, set};
 ghost use Rattle.value.specs.Value.{value};
 ghost use Rattle.image.specs.Memory as M;
 
-use program::HEAD_WORDS;
+use program::{HEAD_WORDS, put};
 use value::Value;
 
 pub const MAIN_AT: u32 = 2;
@@ -24,15 +24,6 @@ pub fn word(memory: &[u32], i: usize) -> u32
     ensures { result ≡ M.word memory.now i }
 {
     memory.get(i).copied().unwrap_or(0)
-}
-
-// Stores v at `i`, and nothing past the end.
-pub fn put(memory: &mut [u32], i: usize, v: u32)
-    ensures { memory.new ≡ set memory.old i v }
-{
-    if i < memory.len() {
-        memory[i] = v;
-    }
 }
 
 // The two words from `i` on, which are there, as a value.

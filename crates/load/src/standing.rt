@@ -6,7 +6,7 @@ ghost use Rattle.load.specs.Clauses.{blank, byte_bit, state};
 ghost use Rattle.load.specs.Scan as S;
 
 use crate::{Location, Locations, Scan};
-use program::{MOST_LOCATIONS, byte};
+use program::{MOST_LOCATIONS, byte, put};
 
 // A deployment that awaits its React has WAITING and a bit for each source that is supplied.
 impl Scan {
@@ -111,15 +111,6 @@ impl Locations {
             ((n : ℕ) → state self.new n ≡ S.stand (before n) l s (S.kind_at (before n) l)) }
     {
         put(&mut self.standing, l as usize, s);
-    }
-}
-
-// Makes v the entry of location l, unless it lies past the table.
-pub(crate) fn put(table: &mut [u8], l: usize, v: u8)
-    ensures { table.new ≡ set table.old l v }
-{
-    if l < table.len() {
-        table[l] = v;
     }
 }
 

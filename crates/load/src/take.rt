@@ -188,11 +188,7 @@ impl Progress {
         ensures counted { IfSome result (λ q. q.results ≡ self.results) }
     {
         let m = known.made(c)?;
-        locations.stand(
-            known.sources as usize + self.next,
-            m.standing,
-            m.kind,
-        );
+        locations.stand(known.sources as usize + self.next, m.standing, m.kind);
         Some(Progress {
             next: self.next + 1,
             results: self.results,

@@ -15,8 +15,8 @@ ghost use Rattle.machine.specs.Clauses.{did, acted, Acts, Declares, Here, Stands
 use crate::Outcome;
 use crate::command::give;
 use answer::Refusal;
-use image::{MOST_DEPTH, next, pair_within, put, put_pair, reactor, set_used, used, word};
-use program::{fact, reactors};
+use image::{MOST_DEPTH, next, pair_within, put_pair, reactor, set_used, used, word};
+use program::{fact, put, reactors};
 use value::Value;
 
 // Whether so many words are left behind u.

@@ -34,7 +34,7 @@ loop-preserved c = let loop = c.loop in
           loop.invariant.2 t
           (chain_further _ _ _ _ _ _ _ left _ _ _ _ _ _ (omega arith) (omega arith)
           c.reactor-r.ensures
-          (passed c.joins.ensures (ap not c.if-not-joins.false)) c.put_byte.ensures
+          (passed c.joins.ensures (ap not c.if-not-joins.false)) c.put.ensures
           c.next-c.ensures linked f)),
     )
 

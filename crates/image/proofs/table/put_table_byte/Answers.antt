@@ -3,4 +3,4 @@ use Rattle.image.proofs.table.put_table_byte.Goals as goal
 
 pub returns : goal.returns
 unfolding with_table_byte
-returns c = c.put_byte.ensures
+returns c = c.put.ensures

@@ -94,7 +94,7 @@ exec-requires t c = let at_after = c.after-here in
     record { at_in_bounds = omega arith; reaches = rw at_note.ensures reach; workable = g.left.workable }
 
 pub overflow_add-n : goal.overflow_add-n
-overflow_add-n t c =  let at_loop = c.loop-j in
+overflow_add-n t c = let at_loop = c.loop-j in
     let pre = c.requires in
     let g = at_loop.invariant.2 in
     let most = short _ _ _ _ _ _ _ _ _ pre.loaded _ _ _ _ g in

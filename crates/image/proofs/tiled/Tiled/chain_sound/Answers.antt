@@ -27,7 +27,7 @@ pub loop-preserved : goal.loop-preserved
 loop-preserved c = let l = c.loop in
     chain_next _ _ _ _ _ _ _ _ _ (c.reactors-end.result - (l.counter + 1) + 1) (omega arith) (omega arith)
     (passed c.linked.ensures (ap not c.if-not-linked.false)) _ c.reactor-r.ensures _ _
-    (passed c.joins.ensures (ap not c.if-not-joins.false)) c.put_byte.ensures c.next-c.ensures ∙ l.invariant
+    (passed c.joins.ensures (ap not c.if-not-joins.false)) c.put.ensures c.next-c.ensures ∙ l.invariant
 
 pub returns : goal.returns
 returns c = same_lt refl refl ∙ chain_last _ _ _ _ _ _ _ _ _ (omega arith) ∙ c.loop.invariant
