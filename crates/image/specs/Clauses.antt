@@ -25,6 +25,7 @@ deploy_fits p m r old = pick (used m + size_of p r ≤? 4294967295) (deploy p m 
 unfoldable pub made_of : ℕ → ℕ → Made
 made_of code x = pick (code =? 1) (deployment x) (pick (code =? 2) (point x) (pick (code =? 11) (held x) nought))
 
+-- the same, of the enum that the code has
 unfoldable pub made : Makes → Made
 made (Deployment x) = deployment x
 made (Point x) = point x
