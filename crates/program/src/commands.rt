@@ -84,6 +84,7 @@ impl Code {
     }
 }
 
+// The codes as bytes.
 impl Command {
     pub const ALLOC_MONO: u8 = Code::AllocMono as u8;
 
