@@ -1,5 +1,6 @@
 pub mod Accepted
 pub mod Bits
+pub mod Found
 pub mod Told
 pub mod Stands
 pub mod Shapes

@@ -1,5 +1,5 @@
 // The bytes of the header and the tables: which are legal, and which is the first that is not.
-ghost use Rattle.std.specs.Prelude.{ℕ, ◌+◌, ◌-◌, ◌≤◌, ◌<◌, ◌≡◌, not, length};
+ghost use Rattle.std.specs.Prelude.{ℕ, ◌+◌, ◌-◌, ◌≤◌, ◌<◌, ◌≡◌, ◌≢◌, not, length};
 ghost use Rattle.value.specs.Test.{sweep, ◌and◌, ◌or◌, ◌<?◌, ◌=?◌};
 ghost use Rattle.program.specs.Bytes as B;
 ghost use Rattle.load.specs.Tables.{between, header_legal, port_legal, shape_legal, main_legal, entry_legal};
@@ -30,33 +30,26 @@ fn header_legal(program: &[u8], i: u8) -> bool
     }
 }
 
-// Whether every byte of the header is legal.
+// Whether every byte of the header is legal. This loop and those below that answer a truth have no way out: where a
+// program is accepted there is none to take.
 pub(crate) fn header_passes(program: &[u8]) -> bool
     ensures { result ≡ (sweep (header_legal program.now) 0 8 =? 8) }
 {
-    let counts = header_legal(program, 0)
-        & header_legal(program, 1)
-        & header_legal(program, 2)
-        & header_legal(program, 3);
-    counts
-        & header_legal(program, 4)
-        & header_legal(program, 5)
-        & header_legal(program, 6)
-        & header_legal(program, 7)
+    let mut all = true;
+    for i in 0..Header::BYTES {
+        all &= header_legal(program, i);
+    }
+    all
 }
 
-// The first byte of the header that is not legal; 8 if there is none.
+// The first byte of the header that is not legal.
 pub(crate) fn header_fault(program: &[u8]) -> u8
+    requires { sweep (header_legal program.now) 0 8 ≢ 8 }
     ensures { result ≡ sweep (header_legal program.now) 0 8 }
 {
-    let mut i: u8 = 0;
-    while i < Header::BYTES {
-        if !header_legal(program, i) {
-            return i;
-        }
-        i = i + 1;
-    }
-    i
+    (0..Header::BYTES)
+        .find(|i| !header_legal(program, *i))
+        .unwrap()
 }
 
 // Whether k will do as kind byte j of the `count` ports of shape s: a lower kind, and zero past them.
@@ -86,18 +79,15 @@ fn shape_legal(program: &[u8], s: u8, k: u8) -> bool
     port_legal(s, sinks_in(program, s), k - 9, x)
 }
 
-// Whether main may have shape s: it has no sources, and none of its sinks is of a reactor kind. This loop and those
-// below that answer a truth have no way out: where a program is accepted there is none to take.
+// Whether main may have shape s: it has no sources, and none of its sinks is of a reactor kind.
 fn main_fits(program: &[u8], s: u8) -> bool
     requires { B.shape_at program.now s + 16 ≤ length program.now }
     ensures { result ≡ main_legal program.now s }
 {
     let at = shape_at(program, s) as usize;
     let mut all = program[at] == 0;
-    let mut x: u8 = 0;
-    while x < Header::MOST_SINKS {
-        all = all & (program[at + 9 + x as usize] < 2);
-        x = x + 1;
+    for x in 0..Header::MOST_SINKS {
+        all &= program[at + 9 + x as usize] < 2;
     }
     all
 }
@@ -162,10 +152,8 @@ fn globals_pass(program: &[u8]) -> bool
 {
     let n = globals(program);
     let mut all = true;
-    let mut i: u8 = 0;
-    while i < n {
-        all = all & (program[8 + i as usize] < 2);
-        i = i + 1;
+    for i in 0..n {
+        all &= program[8 + i as usize] < 2;
     }
     all
 }
@@ -176,11 +164,9 @@ fn ports_pass(program: &[u8], at: usize, s: u8, n: u8) -> bool
     ensures { result ≡ (sweep (λ (x : ℕ). port_legal s n x (B.byte program.now (at + x))) 0 7 =? 7) }
 {
     let mut all = true;
-    let mut x: u8 = 0;
-    while x < Header::MOST_SOURCES {
+    for x in 0..Header::MOST_SOURCES {
         let most = if x < n { s + 1 } else { 0 };
-        all = all & (program[at + x as usize] <= most);
-        x = x + 1;
+        all &= program[at + x as usize] <= most;
     }
     all
 }
@@ -205,11 +191,9 @@ fn shapes_pass(program: &[u8]) -> bool
     let n = shapes(program);
     let mut at = shape_at(program, 0) as usize;
     let mut all = true;
-    let mut s: u8 = 0;
-    while s < n {
-        all = all & shape_passes(program, at, s);
-        at = at + 16;
-        s = s + 1;
+    for s in 0..n {
+        all &= shape_passes(program, at, s);
+        at += 16;
     }
     all
 }
@@ -233,11 +217,9 @@ fn entries_pass(program: &[u8]) -> bool
     let n = reactors(program);
     let mut at = entry_at(program, 0);
     let mut all = true;
-    let mut r: u8 = 0;
-    while r < n {
-        all = all & entry_passes(program, at, r);
-        at = at + 4;
-        r = r + 1;
+    for r in 0..n {
+        all &= entry_passes(program, at, r);
+        at += 4;
     }
     all
 }
@@ -251,19 +233,15 @@ pub(crate) fn tables_pass(program: &[u8]) -> bool
     globals_pass(program) & shapes_pass(program) & entries_pass(program)
 }
 
-// The first byte of the tables that is not legal; the byte after them if there is none.
+// The first byte of the tables that is not legal.
 pub(crate) fn table_fault(program: &[u8]) -> u16
-    requires { B.tables_end program.now ≤ length program.now }
+    requires inside { B.tables_end program.now ≤ length program.now }
+    requires fault { let p = program.now in
+        sweep (table_legal p) 8 (B.tables_end p - 8) ≢ B.tables_end p }
     ensures { let p = program.now in
         result ≡ sweep (table_legal p) 8 (B.tables_end p - 8) }
 {
-    let end = tables_end(program);
-    let mut i: u16 = 8;
-    while i < end {
-        if !table_legal(program, i) {
-            return i;
-        }
-        i = i + 1;
-    }
-    i
+    (8..tables_end(program))
+        .find(|i| !table_legal(program, *i))
+        .unwrap()
 }

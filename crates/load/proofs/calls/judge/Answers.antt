@@ -5,7 +5,7 @@ use Rattle.load.proofs.TableBytes.{few_reactors, legal_tables, some_reactor}
 use Rattle.load.proofs.Loops.{not_fine}
 use Rattle.load.specs.Check.{check_of, checked}
 use Rattle.answer.specs.declared.Refusal.TheVariants.{TableByte}
-use Rattle.value.proofs.Tests.{both?, eq!, eq?, eq×, goes, le!, le?, le×, passed, refused, stops}
+use Rattle.value.proofs.Tests.{both?, eq!, eq?, eq×, eq×?, goes, le!, le?, le×, passed, refused, stops}
 use Rattle.load.proofs.calls.judge.Goals as goal
 
 pub returns-then-not-length_legal : goal.returns-then-not-length_legal
@@ -22,6 +22,12 @@ returns-then-not-header_passes c = let at_header_passes = c.header_passes in
           (ap (λ (h : ℕ). Err (TableByte h)) c.header_fault.ensures));
       facts = not_fine;
     }
+
+pub header_fault-requires : goal.header_fault-requires
+header_fault-requires c = eq×? (refused c.header_passes.ensures (ap not c.if-not-header_passes.true))
+
+pub table_fault-requires-clause-fault : goal.table_fault-requires-clause-fault
+table_fault-requires-clause-fault c = eq×? (refused c.tables_pass.ensures (ap not c.if-not-tables_pass.true))
 
 pub returns-then-n-end : goal.returns-then-n-end
 unfolding check_of checked

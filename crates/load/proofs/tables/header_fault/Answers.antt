@@ -1,27 +1,18 @@
-use Rattle.std.proofs.Common.{not}
-use Rattle.std.proofs.Common.{ap}
-use Rattle.std.specs.Prelude.{refl}
-use Rattle.std.proofs.Common.{sym, ◌∙◌, arith}
+use Rattle.std.specs.Prelude.{◌≡◌, true, false, refl}
+use Rattle.std.proofs.Common.{arith, rules, tests}
+use Rattle.std.proofs.lemmas.Iterator.{first_from_Range}
+use Rattle.load.proofs.Found.{found}
 use Rattle.load.specs.Tables.{header_legal}
-use Rattle.value.proofs.Sweeps.{sweep_done, sweep_found, sweep_next}
-use Rattle.value.proofs.Tests.{passed, refused}
 use Rattle.load.proofs.tables.header_fault.Goals as goal
 
-pub loop-i-init : goal.loop-i-init
-loop-i-init c = (refl, omega arith)
-
-pub returns-then-not-header_legal : goal.returns-then-not-header_legal
-returns-then-not-header_legal c = sweep_found (header_legal (c.args.program.now)) _ 8 (omega arith)
-    (refused c.header_legal.ensures (ap not c.if-not-header_legal.true)) ∙ sym c.loop-i.invariant.0
-
-pub loop-i-preserved : goal.loop-i-preserved
-loop-i-preserved c = (
-  c.loop-i.invariant.0
-      ∙ sweep_next (header_legal (c.args.program.now)) _ 8 (omega arith)
-      (passed c.header_legal.ensures (ap not c.if-not-header_legal.false)),
-  omega arith,
-)
+pub unwrap-requires : goal.unwrap-requires
+unwrap-requires c = let p = c.args.program.now in
+    let first = first_from_Range _ _ _ c.find.result (λ i. header_legal p i ≡ false) (λ i. header_legal p i ≡ true)
+    c.find.ensures.ran (λ x q k. grind (arith, tests)) (λ x q k. (search rules, grind (arith, tests))) in
+    rw (found (header_legal p) 0 8 8 refl _ first c.requires)
 
 pub returns : goal.returns
-returns c = sweep_done (header_legal (c.args.program.now)) _ 8 (omega arith) ∙ sym
-    c.loop-i.invariant.0
+returns c = let p = c.args.program.now in
+    let first = first_from_Range _ _ _ c.find.result (λ i. header_legal p i ≡ false) (λ i. header_legal p i ≡ true)
+    c.find.ensures.ran (λ x q k. grind (arith, tests)) (λ x q k. (search rules, grind (arith, tests))) in
+    let e = found (header_legal p) 0 8 8 refl _ first c.requires in cc
