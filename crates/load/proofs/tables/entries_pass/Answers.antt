@@ -9,7 +9,7 @@ use Rattle.load.proofs.tables.entries_pass.Goals as goal
 
 pub loop-r-init : goal.loop-r-init
 unfolding sweep ◌=?◌
-loop-r-init c = (refl, omega arith, c.entry_at-at.ensures.is)
+loop-r-init c = (refl, c.entry_at-at.ensures.is)
 
 pub entry_passes-all-requires : goal.entry_passes-all-requires
 entry_passes-all-requires c = let at_reactors = c.reactors-n in
@@ -17,7 +17,7 @@ entry_passes-all-requires c = let at_reactors = c.reactors-n in
     let pre = c.requires in
     let p = args.program.now in
     let inside = entry_inside p c.loop-r.r (omega (arith, at_reactors.ensures)) (pre) in
-    (c.loop-r.invariant.2, omega (arith, c.loop-r.invariant.2, inside))
+    (c.loop-r.invariant.1, omega (arith, c.loop-r.invariant.1, inside))
 
 pub overflow_add-at : goal.overflow_add-at
 overflow_add-at c = let at_loop = c.loop-r in
@@ -25,15 +25,14 @@ overflow_add-at c = let at_loop = c.loop-r in
     let args = c.args in
     let pre = c.requires in
     let p = args.program.now in
-    omega (arith, at_loop.invariant.2, entry_inside p at_loop.r (omega (arith, at_reactors.ensures)) (pre))
+    omega (arith, at_loop.invariant.1, entry_inside p at_loop.r (omega (arith, at_reactors.ensures)) (pre))
 
 pub loop-r-preserved : goal.loop-r-preserved
 loop-r-preserved c = let at_loop = c.loop-r in
     let args = c.args in
     let p = args.program.now in (
       same_and at_loop.invariant.0 c.entry_passes-all.ensures ∙ sweep_more (λ (r : ℕ). sweep (entry_legal p r) 0 4 =? 4) _,
-      omega arith,
-      omega (arith, at_loop.invariant.2, entry_next p at_loop.r),
+      omega (arith, at_loop.invariant.1, entry_next p at_loop.r),
     )
 
 pub returns : goal.returns

@@ -1,4 +1,4 @@
-use Rattle.std.specs.Prelude.{ℕ, ◌-◌, ◌≤◌, ◌≡◌}
+use Rattle.std.specs.Prelude.{ℕ, ◌≡◌}
 use Rattle.load.specs.Tables.{entry_legal}
 use Rattle.program.specs.Bytes.{entry_at}
 use Rattle.value.specs.Test.{◌=?◌, sweep}
@@ -6,7 +6,4 @@ use Rattle.load.proofs.tables.entries_pass.Given as goal
 
 abbrev pub invariant-loop-r : goal.invariant-loop-r
 invariant-loop-r l =
-    (l.all ≡ (sweep (λ (r : ℕ). sweep (entry_legal l.program r) 0 4 =? 4) 0 l.r =? l.r)) × (l.r ≤ l.n) × (l.at ≡ entry_at l.program l.r)
-
-abbrev pub decreases-loop-r : goal.decreases-loop-r
-decreases-loop-r l = l.n - l.r
+    (l.all ≡ (sweep (λ (r : ℕ). sweep (entry_legal l.program r) 0 4 =? 4) 0 l.r =? l.r)) × (l.at ≡ entry_at l.program l.r)

@@ -9,7 +9,7 @@ use Rattle.load.proofs.tables.globals_pass.Goals as goal
 
 pub loop-i-init : goal.loop-i-init
 unfolding sweep ◌=?◌
-loop-i-init c = (refl, omega arith)
+loop-i-init c = refl
 
 pub bounds-program-i : goal.bounds-program-i
 bounds-program-i c = let at_globals = c.globals-n in
@@ -22,11 +22,11 @@ unfolding byte
 loop-i-preserved c = let at_loop = c.loop-i in
     let args = c.args in
     let p = args.program.now in
-    (same_and at_loop.invariant.0 (same_lt refl refl) ∙ sweep_more (λ (i : ℕ). byte p (8 + i) <? 2) _, omega arith)
+    same_and at_loop.invariant (same_lt refl refl) ∙ sweep_more (λ (i : ℕ). byte p (8 + i) <? 2) _
 
 pub returns : goal.returns
 returns c = let at_globals = c.globals-n in
     let args = c.args in
     let p = args.program.now in
-    c.loop-i.invariant.0 ∙ ap (λ (n : ℕ). sweep (λ (i : ℕ). byte p (8 + i) <? 2) 0 n =? n)
+    c.loop-i.invariant ∙ ap (λ (n : ℕ). sweep (λ (i : ℕ). byte p (8 + i) <? 2) 0 n =? n)
     (omega (arith, at_globals.ensures))

@@ -13,11 +13,8 @@ bounds-program-at c = omega (arith, c.shape_at-at.ensures.is, c.requires)
 
 pub loop-x-init : goal.loop-x-init
 unfolding sweep ◌=?◌ sources_in byte
-loop-x-init c = let args = c.args in (
-  same_eq (ap (λ (i : ℕ). get_or (args.program.now) i 0) c.shape_at-at.ensures.is) refl ∙ sym
-      (and_true _),
-  omega arith,
-)
+loop-x-init c = let args = c.args in
+    same_eq (ap (λ (i : ℕ). get_or (args.program.now) i 0) c.shape_at-at.ensures.is) refl ∙ sym (and_true _)
 
 pub overflow_add-all : goal.overflow_add-all
 overflow_add-all c = let at_shape_at = c.shape_at-at in
@@ -40,17 +37,15 @@ loop-x-preserved c = let at_loop = c.loop-x in
     let at_shape_at = c.shape_at-at in
     let args = c.args in
     let p = args.program.now in
-    let x = at_loop.x in (
-      same_and at_loop.invariant.0 (same_lt (ap (λ (i : ℕ). get_or p (i + 9 + x) 0) at_shape_at.ensures.is) refl)
+    let x = at_loop.x in
+      same_and at_loop.invariant (same_lt (ap (λ (i : ℕ). get_or p (i + 9 + x) 0) at_shape_at.ensures.is) refl)
           ∙ and_right (sources_in p args.s =? 0) _ _
           ∙ ap (λ (t : Bool). (sources_in p args.s =? 0) and t)
-          (sweep_more (λ (x : ℕ). sink_kind p args.s x <? 2) x),
-      omega arith,
-    )
+          (sweep_more (λ (x : ℕ). sink_kind p args.s x <? 2) x)
 
 pub returns : goal.returns
 unfolding main_legal
 returns c = let args = c.args in
     let p = args.program.now in
-    c.loop-x.invariant.0 ∙ ap (λ (n : ℕ). (sources_in p args.s =? 0) and
+    c.loop-x.invariant ∙ ap (λ (n : ℕ). (sources_in p args.s =? 0) and
     (sweep (λ (x : ℕ). sink_kind p args.s x <? 2) 0 n =? n)) (omega arith)

@@ -13,7 +13,7 @@ use Rattle.load.proofs.tables.ports_pass.Goals.{then-x-n, else-x-n}
 
 pub loop-x-init : goal.loop-x-init
 unfolding sweep ◌=?◌
-loop-x-init c = (refl, omega arith)
+loop-x-init c = refl
 
 pub overflow_add-all : goal.overflow_add-all
 overflow_add-all c = omega (arith, c.requires)
@@ -32,14 +32,11 @@ loop-x-preserved c = let at_loop = c.loop-x in
     elim c.if-x-n.branch [
       | then-x-n w ↦ ap (leb k) w.most-is ∙ same_le refl refl ∙ port_low args.s args.n x k w.if-x-n.true
       | else-x-n w ↦ ap (leb k) w.most-is ∙ same_le refl refl ∙ port_past args.s args.n x k w.if-x-n.false
-    ] in (
-      same_and at_loop.invariant.0 legal ∙ sweep_more (λ (x : ℕ). port_legal args.s args.n x (byte p (args.at + x)))
-          _,
-      omega arith,
-    )
+    ] in
+    same_and at_loop.invariant legal ∙ sweep_more (λ (x : ℕ). port_legal args.s args.n x (byte p (args.at + x))) _
 
 pub returns : goal.returns
 returns c = let args = c.args in
     let p = args.program.now in
-    c.loop-x.invariant.0 ∙ ap (λ (n : ℕ). sweep (λ (x : ℕ). port_legal args.s args.n x (byte p (args.at + x)))
+    c.loop-x.invariant ∙ ap (λ (n : ℕ). sweep (λ (x : ℕ). port_legal args.s args.n x (byte p (args.at + x)))
     0 n =? n) (omega arith)

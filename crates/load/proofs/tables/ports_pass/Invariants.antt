@@ -1,12 +1,8 @@
-use Rattle.std.specs.Prelude.{ℕ, ◌+◌, ◌-◌, ◌≤◌, ◌≡◌}
+use Rattle.std.specs.Prelude.{ℕ, ◌+◌, ◌≡◌}
 use Rattle.load.specs.Tables.{port_legal}
 use Rattle.program.specs.Bytes.{byte}
 use Rattle.value.specs.Test.{◌=?◌, sweep}
 use Rattle.load.proofs.tables.ports_pass.Given as goal
 
 abbrev pub invariant-loop-x : goal.invariant-loop-x
-invariant-loop-x l = (l.all ≡ (sweep (λ (x : ℕ). port_legal l.s l.n x (byte l.program (l.at + x))) 0 l.x =? l.x)) ×
-    (l.x ≤ 7)
-
-abbrev pub decreases-loop-x : goal.decreases-loop-x
-decreases-loop-x l = 7 - l.x
+invariant-loop-x l = (l.all ≡ (sweep (λ (x : ℕ). port_legal l.s l.n x (byte l.program (l.at + x))) 0 l.x =? l.x))

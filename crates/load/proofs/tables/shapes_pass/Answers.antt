@@ -9,7 +9,7 @@ use Rattle.load.proofs.tables.shapes_pass.Goals as goal
 
 pub loop-s-init : goal.loop-s-init
 unfolding sweep ◌=?◌
-loop-s-init c = (refl, omega arith, c.shape_at-at.ensures.is)
+loop-s-init c = (refl, c.shape_at-at.ensures.is)
 
 pub shape_passes-all-requires : goal.shape_passes-all-requires
 shape_passes-all-requires c = let at_shapes = c.shapes-n in
@@ -17,7 +17,7 @@ shape_passes-all-requires c = let at_shapes = c.shapes-n in
     let pre = c.requires in
     let p = args.program.now in
     let inside = shape_inside p c.loop-s.s (omega (arith, at_shapes.ensures)) (pre) in
-    (c.loop-s.invariant.2, omega (arith, c.loop-s.invariant.2, inside), omega arith)
+    (c.loop-s.invariant.1, omega (arith, c.loop-s.invariant.1, inside), omega arith)
 
 pub overflow_add-at : goal.overflow_add-at
 overflow_add-at c = let at_loop = c.loop-s in
@@ -25,7 +25,7 @@ overflow_add-at c = let at_loop = c.loop-s in
     let args = c.args in
     let pre = c.requires in
     let p = args.program.now in
-    omega (arith, at_loop.invariant.2, shape_inside p at_loop.s (omega (arith, at_shapes.ensures)) (pre))
+    omega (arith, at_loop.invariant.1, shape_inside p at_loop.s (omega (arith, at_shapes.ensures)) (pre))
 
 pub loop-s-preserved : goal.loop-s-preserved
 loop-s-preserved c = let at_loop = c.loop-s in
@@ -33,8 +33,7 @@ loop-s-preserved c = let at_loop = c.loop-s in
     let p = args.program.now in (
       same_and at_loop.invariant.0 c.shape_passes-all.ensures ∙ sweep_more (λ (s : ℕ). sweep (shape_legal p s) 0 16 =? 16)
           _,
-      omega arith,
-      omega (arith, at_loop.invariant.2, shape_next p at_loop.s),
+      omega (arith, at_loop.invariant.1, shape_next p at_loop.s),
     )
 
 pub returns : goal.returns
