@@ -1,4 +1,4 @@
-use Rattle.std.specs.Prelude.{refl, Ok}
+use Rattle.std.specs.Prelude.{◌<◌, refl, Ok}
 use Rattle.answer.proofs.Handed.{handed_on}
 use Rattle.std.proofs.Common.{◌∙◌, ap, arith}
 use Rattle.machine.proofs.BeforeCommand.{begun, stopped_there, all_inside, counted, fits, found, goes}
@@ -9,6 +9,7 @@ use Rattle.machine.proofs.Opening.{legal}
 use Rattle.machine.proofs.FactLaws.{told}
 use Rattle.program.specs.Bytes.{commands_in}
 use Rattle.machine.proofs.run.+run.Goals as goal
+use Rattle.machine.proofs.run.+run.Goals.{in-Given, in-Move, in-Call+in_ok-run-in-Call}
 
 pub enter-requires : goal.enter-requires
 enter-requires t c = let at_reactor = c.reactor in
@@ -102,46 +103,6 @@ overflow_add-n t c = let at_loop = c.loop-j in
     let in_loop : c.loop-j.j < c.commands_r-end.result = omega arith in
     omega arith
 
-pub loop-j-preserved-in-Given : goal.loop-j-preserved-in-Given
-loop-j-preserved-in-Given t c = let at_exec = c.exec in
-    let at_after = c.after-here in
-    let at_note = c.note in
-    let at_loop = c.loop-j in
-    let pre = c.requires in
-    let g = at_loop.invariant.2 in
-    let in_loop : c.loop-j.j < c.commands_r-end.result = omega arith in
-    let known = pre.loaded in
-    let code = c.in_ok-exec.ensures _ _ known.facts g.legal (here_at _ _ _ _ _ _ _ _ _ known _ _ _ _ g)
-    (omega arith)
-    (fits _ _ _ _ _ _ _ _ _ known _ _ _ _ g in_loop) (own _ _ _ _ _ _ _ _ _ known _ _ _ _ g in_loop _
-    at_after.ensures.is)
-    (rw at_note.ensures (noted_loc _ _ _ _ _ _ _ _ _ known _ _ _ _ g in_loop)) in (
-      at_exec.auto.memory ∙ at_loop.invariant.0,
-      at_loop.invariant.1,
-      going_given _ _ _ _ _ _ _ _ _ known _ _ _ _ g
-          in_loop _ _ _ code at_note.ensures (ap Ok c.in-Given.is),
-    )
-
-pub loop-j-preserved-in-Move : goal.loop-j-preserved-in-Move
-loop-j-preserved-in-Move t c = let at_exec = c.exec in
-    let at_after = c.after-here in
-    let at_note = c.note in
-    let at_loop = c.loop-j in
-    let pre = c.requires in
-    let g = at_loop.invariant.2 in
-    let in_loop : c.loop-j.j < c.commands_r-end.result = omega arith in
-    let known = pre.loaded in
-    let code = c.in_ok-exec.ensures _ _ known.facts g.legal (here_at _ _ _ _ _ _ _ _ _ known _ _ _ _ g)
-    (omega arith)
-    (fits _ _ _ _ _ _ _ _ _ known _ _ _ _ g in_loop) (own _ _ _ _ _ _ _ _ _ known _ _ _ _ g in_loop _
-    at_after.ensures.is)
-    (rw at_note.ensures (noted_loc _ _ _ _ _ _ _ _ _ known _ _ _ _ g in_loop)) in (
-      at_exec.auto.memory ∙ at_loop.invariant.0,
-      at_loop.invariant.1,
-      going_move _ _ _ _ _ _ _ _ _ known _ _ _ _ g in_loop
-          _ _ _ code at_note.ensures (ap Ok c.in-Move.is),
-    )
-
 pub run-requires : goal.run-requires
 run-requires t c = let at_exec = c.exec in
     let at_after = c.after-here in
@@ -169,29 +130,6 @@ lay-requires-in-Call t c = let at_run = c.run in
     let most = short _ _ _ _ _ _ _ _ _ pre.loaded _ _ _ _ g in
     let in_loop : c.loop-j.j < c.commands_r-end.result = omega arith in
     record { n_in_bounds = omega arith; n_bound = omega arith }
-
-pub loop-j-preserved : goal.loop-j-preserved
-loop-j-preserved t c = let at_run = c.run in
-    let at_exec = c.exec in
-    let at_after = c.after-here in
-    let at_note = c.note in
-    let at_loop = c.loop-j in
-    let pre = c.requires in
-    let g = at_loop.invariant.2 in
-    let in_loop : c.loop-j.j < c.commands_r-end.result = omega arith in
-    let known = pre.loaded in
-    let code = c.in_ok-exec.ensures _ _ known.facts g.legal (here_at _ _ _ _ _ _ _ _ _ known _ _ _ _ g)
-    (omega arith)
-    (fits _ _ _ _ _ _ _ _ _ known _ _ _ _ g in_loop) (own _ _ _ _ _ _ _ _ _ known _ _ _ _ g in_loop _
-    at_after.ensures.is)
-    (rw at_note.ensures (noted_loc _ _ _ _ _ _ _ _ _ known _ _ _ _ g in_loop)) in
-    let placed = c.lay-in-Call.ensures _ (begins_at _ _ _ _ _ _ _ _ _ known _ _ _ _ g) g.is_first
-    (let e = g.is_end in omega arith) in (
-      at_run.auto.memory ∙ at_exec.auto.memory ∙ at_loop.invariant.0,
-      at_loop.invariant.1,
-      going_call _ _ _ _ _ _ _ _ _ known _ _ _ _ g in_loop _ _ at_loop.slots.before code _ (ap Ok c.in-Call.is) _ _
-          c.in_ok-run-in-Call.ensures c.lay-in-Call.new.self.whole placed,
-    )
 
 pub returns-in_err-run-in-Call : goal.returns-in_err-run-in-Call
 returns-in_err-run-in-Call t c = let at_run = c.run in
@@ -260,3 +198,36 @@ shape_of-memory t c = let at_enter = c.enter in
 
 pub shape_of-memory-in_err-enter : goal.shape_of-memory-in_err-enter
 shape_of-memory-in_err-enter t c = cc
+
+-- what is run on after a command: the next one, with one result more, or as many, or after a nested run
+pub loop-j-preserved : goal.loop-j-preserved
+loop-j-preserved t c = let loop = c.loop-j in
+    let g = loop.invariant.2 in
+    let in_loop : loop.j < c.commands_r-end.result = omega arith in
+    let known = c.requires.loaded in
+    let kept = c.exec.auto.memory ∙ loop.invariant.0 in
+    let code = c.in_ok-exec.ensures _ _ known.facts g.legal (here_at _ _ _ _ _ _ _ _ _ known _ _ _ _ g)
+    (omega arith)
+    (fits _ _ _ _ _ _ _ _ _ known _ _ _ _ g in_loop) (own _ _ _ _ _ _ _ _ _ known _ _ _ _ g in_loop _
+    c.after-here.ensures.is)
+    (rw c.note.ensures (noted_loc _ _ _ _ _ _ _ _ _ known _ _ _ _ g in_loop)) in
+    elim c.match-branch-3.branch [
+      | in-Given w ↦ rw (w.memory-is, w.slots-is, w.n-is) (
+        kept,
+        loop.invariant.1,
+        going_given _ _ _ _ _ _ _ _ _ known _ _ _ _ g in_loop _ _ _ code c.note.ensures (ap Ok w.in-Given.is),
+      )
+      | in-Move w ↦ rw (w.memory-is, w.slots-is, w.n-is) (
+        kept,
+        loop.invariant.1,
+        going_move _ _ _ _ _ _ _ _ _ known _ _ _ _ g in_loop _ _ _ code c.note.ensures (ap Ok w.in-Move.is),
+      )
+      | in-Call+in_ok-run-in-Call w ↦ rw (w.memory-is, w.slots-is, w.n-is) (
+        w.run.auto.memory ∙ kept,
+        loop.invariant.1,
+        going_call _ _ _ _ _ _ _ _ _ known _ _ _ _ g in_loop _ _ loop.slots.before code _ (ap Ok w.in-Call.is) _ _
+            w.in_ok-run-in-Call.ensures w.lay-in-Call.new.self.whole
+            (w.lay-in-Call.ensures _ (begins_at _ _ _ _ _ _ _ _ _ known _ _ _ _ g) g.is_first
+            (let e = g.is_end in omega arith)),
+      )
+    ]
