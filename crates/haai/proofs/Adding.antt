@@ -7,11 +7,12 @@ use Rattle.program.specs.Bytes.{byte}
 use Rattle.program.specs.Command.{Cmd}
 use Rattle.program.specs.Encode.{encode_all}
 use Rattle.program.proofs.Encode.{length-encode_all}
+use Rattle.haai.specs.declared.Size.{Size}
+use Rattle.haai.specs.Tables.{size_at, size_length}
 use Rattle.haai.specs.Syntax.{Expr, Exprs, apply, Definition}
 use Rattle.haai.specs.Names.{Opened, Known, no_definition, with_pile, add_expr, add_definition}
 use Rattle.haai.specs.Emit.{allocates, declares, location_of, locations_of, applied, runs, runs_all, sinks_from}
 use Rattle.haai.specs.Emit.{declared, running, first_r, sequence_d, sequence_r, code_of}
-use Rattle.haai.specs.Tables.{declared_from, running_from}
 use Rattle.haai.specs.Writing.{put_commands, place_d, place_r, first_at}
 use Rattle.haai.specs.declared.Cursor.{Cursor}
 use Rattle.haai.proofs.Lists.{snoc_last, length_runs_all, length_sinks, length_locations}
@@ -24,7 +25,7 @@ use Rattle.haai.proofs.Apt.{Inside}
 use Rattle.haai.proofs.Hindsight.{Exact, Good}
 use Rattle.haai.proofs.Laying.{base_of, Laying, Pointed, fits, begins, lays_more, both_change, both_d, both_r}
 
-module _ (count : ℕ) (sizes : List ℕ) (end : ℕ) (old : List ℕ) (room : first_at sizes end count ≤ length old) (n : ℕ)
+module _ (count : ℕ) (sizes : List Size) (end : ℕ) (old : List ℕ) (room : first_at sizes end count ≤ length old) (n : ℕ)
     (k : Known) (out ls : List ℕ) (lay : Laying count sizes end old k out ls) (good : Good n count sizes k)
     (i : Inside k) (c : Cursor) (p : Pointed sizes end c k) (deep : length k.pile ≤ 16) where
   abbrev s : ℕ
@@ -34,7 +35,7 @@ module _ (count : ℕ) (sizes : List ℕ) (end : ℕ) (old : List ℕ) (room : f
   base = base_of sizes k
 
   abbrev D : ℕ
-  D = byte sizes (declared_from + length k.definitions)
+  D = (size_at sizes (length k.definitions)).declared
 
   abbrev Next : Known → List ℕ → List ℕ → Type 0
   Next = Laying count sizes end old
@@ -135,7 +136,7 @@ module _ (count : ℕ) (sizes : List ℕ) (end : ℕ) (old : List ℕ) (room : f
   pub lays_definition : k.pile ≡ [] → After (add_definition k)
       → Next (add_definition k)
       (put_commands out (place_r c) (sinks_from 0 (locations_of base 0 k.body))) ls
-  unfolding add_definition put_commands first_at place_d place_r emitted_d emitted_r calls_open steps_open declared running
+  unfolding add_definition put_commands first_at size_length place_d place_r emitted_d emitted_r calls_open steps_open declared running
       first_r sequence_d sequence_r
   lays_definition e after =
       let j = length k.definitions in
@@ -143,7 +144,7 @@ module _ (count : ℕ) (sizes : List ℕ) (end : ℕ) (old : List ℕ) (room : f
       let x = last_exact after in
       let a = x.calls in
       let b = x.runs in
-      let R = byte sizes (running_from + j) in
+      let R = (size_at sizes j).running in
       let amid = lay.inside i in
       let q : base ≡ first_r d = omega arith in
       let ED = sequence_d d in

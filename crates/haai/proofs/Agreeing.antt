@@ -6,20 +6,24 @@ use Rattle.std.specs.Prelude.{Bool, false, List, [], ◌∷◌, length, get_or}
 use lib.ListN.{get_or-eq_default}
 use Rattle.value.specs.Test.{pick, ◌<?◌, ◌=?◌, ◌and◌, ◌or◌}
 use Rattle.value.proofs.Tests.{lt!, lt×, either!, left×, yes, no, below}
-use Rattle.program.specs.Bytes.{byte}
+use Rattle.haai.specs.declared.Size.{Size}
+use Rattle.haai.specs.declared.Application.{Application}
+use Rattle.haai.specs.declared.Knowing.{Knowing}
 use Rattle.haai.specs.Word.{among, same_word, taken_words, time_word}
 use Rattle.haai.specs.Syntax as S
-use Rattle.haai.specs.Syntax.{Operator, sign, Expr, Exprs, constant, count_of, Definition}
+use Rattle.haai.specs.Syntax.{sign, Expr, Exprs, constant, count_of, Definition}
+use Rattle.haai.specs.declared.Operator.{Operator}
+use Rattle.haai.specs.declared.Operator.TheVariants.{Sign, Reactor as AReactor}
 use Rattle.haai.specs.Names.{Opened, Known, nothing, unless, meant, fit_operand, operator_of, no_definition}
 use Rattle.haai.specs.Names.{definition_of, callable, takes, with_pile, add_expr, add_operator, add_reactor, add_source}
 use Rattle.haai.specs.Names.{add_parameter, closed, add_definition, learn}
 use Rattle.haai.specs.Emit.{declares, declares_all, calls, steps, steps_all}
-use Rattle.haai.specs.Places.{word_of, names_at, sources_in, parameters_in, reactors_in, operator_code, operator_in}
+use Rattle.haai.specs.Places.{word_of, names_at, sources_in, parameters_in, reactors_in, applied_by, operator_in}
 use Rattle.haai.specs.Places.{blamed, Held, held}
-use Rattle.haai.specs.Tables.{counted, callable_in, takes_in, Grove, grove, grounded, spent, whole_grove, open_grove}
-use Rattle.haai.specs.Tables.{Kept, first_tally, first_tree, with_names, with_grove, is_parameter}
+use Rattle.haai.specs.Tables.{size_at, counted, innermost, callable_in, takes_in, Grove, grove, grounded, spent, whole_grove, open_grove}
+use Rattle.haai.specs.Tables.{first_tally, first_tree, with_names, with_grove, is_parameter}
 use Rattle.haai.specs.Tables.{fits_operand, operand_kept, constant_kept, operator_kept, apply_kept, define_kept}
-use Rattle.haai.specs.Tables.{learnt, Rows}
+use Rattle.haai.specs.Tables.{learnt, Sizes}
 use Rattle.haai.specs.declared.Role.{Role}
 use Rattle.haai.specs.declared.Role.TheVariants.{Source, Reactor, Parameter, Operand, Constant}
 use Rattle.haai.specs.declared.Role.TheVariants.{Operator as AnOperator, Apply, Define, Fixed}
@@ -29,32 +33,32 @@ use Rattle.haai.proofs.Formed.{nth}
 use Rattle.haai.proofs.Counting.{Ported}
 use Rattle.haai.proofs.Placed.{length_names}
 use Rattle.haai.proofs.Imaged.{Named, NamedHeld, named_source, named_reactor, named_parameter, operator_same}
-use Rattle.haai.proofs.Shallow.{SignFit, SignsFit, operator_sign, Ready}
+use Rattle.haai.proofs.Shallow.{Ready}
 use Rattle.haai.proofs.Counts.{counted_exact, counted_more, counted_eq}
 use Rattle.haai.proofs.Grown.{calls_open, steps_open, PileIs, Grown}
 use Rattle.haai.proofs.Growing.{GrownIn, calls_one, meant_calls, meant_steps, grown_whole, grown_open}
-use Rattle.haai.proofs.Growing.{innermost_row, grown_close, grown_define}
+use Rattle.haai.proofs.Growing.{innermost_is, grown_close, grown_define}
 
-pub record Agree (t : List ℕ) (k : Known) (x : Kept) : Type 0 where
+pub record Agree (t : List ℕ) (k : Known) (x : Knowing) : Type 0 where
   pub named : Named t k x.tally x.places
-  pub grown : Grown k x.tree x.table x.pile
+  pub grown : Grown k x.tree x.sizes x.pile
 
-agree_names : (t : List ℕ) (k : Known) (x : Kept) (h : Held) (u : Tree) → NamedHeld t k h
-    → Grown k u x.table x.pile
+agree_names : (t : List ℕ) (k : Known) (x : Knowing) (h : Held) (u : Tree) → NamedHeld t k h
+    → Grown k u x.sizes x.pile
     → Agree t k (with_names x h u)
 unfolding with_names
 agree_names t k x (held v ps) u n g = record { named = n; grown = g }
 
-agree_grove : (t : List ℕ) (k : Known) (x : Kept) (v : Tally) (g : Grove) → Named t k v x.places
-    → GrownIn k x.table g
+agree_grove : (t : List ℕ) (k : Known) (x : Knowing) (v : Tally) (g : Grove) → Named t k v x.places
+    → GrownIn k x.sizes g
     → Agree t k (with_grove x v g)
 unfolding with_grove
 agree_grove t k x v (grove u pl) n h = record { named = n; grown = h }
 
-pub agree_begins : (t : List ℕ) (x : Kept) → x.tally ≡ first_tally (length t) → x.tree ≡ first_tree
+pub agree_begins : (t : List ℕ) (x : Knowing) → x.tally ≡ first_tally (length t) → x.tree ≡ first_tree
     → length x.places ≡ 287
-    → length x.table ≡ 128
-    → length x.pile ≡ 48
+    → length x.sizes ≡ 32
+    → length x.pile ≡ 16
     → Agree t (nothing (length t)) x
 unfolding nothing names_at calls_open steps_open calls declares_all steps_all count_of
 agree_begins t x v u ps tb pl =
@@ -74,14 +78,14 @@ agree_begins t x v u ps tb pl =
             fits = (omega arith, (omega arith, (omega arith, omega arith)));
           });
       grown =
-          subst (λ (y : Tree). Grown k y x.table x.pile) (sym u)
+          subst (λ (y : Tree). Grown k y x.sizes x.pile) (sym u)
           (record {
             definitions = refl;
             count = z;
             level = refl;
             calls = z;
             steps = z;
-            rows = λ j l. absurd (omega arith);
+            sizes = λ j l. absurd (omega arith);
             pile = tt;
             long_table = tb;
             long_pile = pl;
@@ -147,43 +151,32 @@ none_past ds j l = ap (λ (d : Definition). d.parameters) (get_or-eq_default ds 
 abbrev AllPorted : Known → Type 0
 AllPorted k = (j : ℕ) → j < length k.definitions → Ported (nth k.definitions j)
 
-module _ (k : Known) (u : Tree) (tb pl : List ℕ) (h : Grown k u tb pl) where
-  at_reactor : (j : ℕ) → callable_in u.definitions tb (4 + j) ≡ ((j <? u.definitions) and (byte tb (32 + j) =? 1))
-  unfolding callable_in ◌or◌
-  at_reactor j =
-      let e : 4 + j - 4 ≡ j = omega arith in
-      let f : (4 + j <? 4) ≡ false = lt× (omega arith) in
-      ap (λ (b : Bool). b or ((4 + j - 4 <? u.definitions) and (byte tb (32 + (4 + j - 4)) =? 1))) f
-      ∙ ap (λ (i : ℕ). (i <? u.definitions) and (byte tb (32 + i) =? 1)) e
-
-  pub callable_same : (o : Operator) → SignFit o → callable_in u.definitions tb (operator_code o) ≡ callable k o
-  unfolding operator_code callable definition_of callable_in
-  callable_same (sign o) l = either! _ (lt! l)
-  callable_same (S.reactor j) l = at_reactor j ∙ by (below j (length k.definitions))
+module _ (k : Known) (u : Tree) (tb : List Size) (pl : List Application) (h : Grown k u tb pl) where
+  pub callable_same : (o : Operator) → callable_in u.definitions tb o ≡ callable k (applied_by o)
+  unfolding applied_by callable definition_of callable_in
+  callable_same (Sign o) = refl
+  callable_same (AReactor j) = by (below j (length k.definitions))
     where
       by : (j < length k.definitions) ⊎ (length k.definitions ≤ j)
-          → ((j <? u.definitions) and (byte tb (32 + j) =? 1))
+          → ((j <? u.definitions) and ((size_at tb j).sinks =? 1))
           ≡ ((j <? length k.definitions) and (count_of (get_or k.definitions j no_definition).body =? 1))
-      by (inl m) = ap₂ (λ (x y : ℕ). (j <? x) and (y =? 1)) h.definitions (h.rows j m).sinks
+      by (inl m) = ap₂ (λ (x y : ℕ). (j <? x) and (y =? 1)) h.definitions (h.sizes j m).sinks
       by (inr m) = let e = h.definitions in left× _ (lt× (omega arith)) ∙ sym (left× _ (lt× m))
 
-  pub takes_same : (o : Operator) → SignFit o → takes_in u.definitions tb (operator_code o) ≡ takes k o
-  unfolding operator_code takes_in takes definition_of
-  takes_same (sign o) l = sym (yes _ (lt! l) refl)
-  takes_same (S.reactor j) l = sym (no 2 (lt× (omega arith)) (by (below j (length k.definitions))))
+  pub takes_same : (o : Operator) → takes_in u.definitions tb o ≡ takes k (applied_by o)
+  unfolding applied_by takes_in takes definition_of
+  takes_same (Sign o) = refl
+  takes_same (AReactor j) = sym (by (below j (length k.definitions)))
     where
       by : (j < length k.definitions) ⊎ (length k.definitions ≤ j)
           → (get_or k.definitions j no_definition).parameters
-          ≡ pick (4 + j - 4 <? u.definitions) (byte tb (4 + j - 4)) 0
-      by (inl m) =
-          let e : j ≡ 4 + j - 4 = omega arith in
-          let d = h.definitions in
-          yes 0 (lt! (omega arith)) (sym (h.rows j m).parameters ∙ ap (byte tb) e)
+          ≡ pick (j <? u.definitions) (size_at tb j).parameters 0
+      by (inl m) = let d = h.definitions in yes 0 (lt! (omega arith)) (sym (h.sizes j m).parameters)
       by (inr m) =
           let d = h.definitions in
           no _ (lt× (omega arith)) (none_past k.definitions j m)
 
-takes_small : (k : Known) → AllPorted k → (o : Operator) → takes k o < 200
+takes_small : (k : Known) → AllPorted k → (o : S.Operator) → takes k o < 200
 unfolding takes definition_of
 takes_small k done (sign o) = omega arith
 takes_small k done (S.reactor j) = by (below j (length k.definitions))
@@ -196,7 +189,7 @@ takes_small k done (S.reactor j) = by (below j (length k.definitions))
 -- ---- a word in its role
 
 -- the tree does not look at names
-grown_by : (k k₂ : Known) (u : Tree) (tb pl : List ℕ) → k.definitions ≡ k₂.definitions → k.body ≡ k₂.body
+grown_by : (k k₂ : Known) (u : Tree) (tb : List Size) (pl : List Application) → k.definitions ≡ k₂.definitions → k.body ≡ k₂.body
     → k.pile ≡ k₂.pile
     → Grown k u tb pl
     → Grown k₂ u tb pl
@@ -207,13 +200,13 @@ grown_by k k₂ u tb pl d b p h =
       level = h.level ∙ ap length p;
       calls = h.calls ∙ ap₂ (λ (x : Exprs) (y : List Opened). counted (calls_open x y)) b p;
       steps = h.steps ∙ ap₂ (λ (x : Exprs) (y : List Opened). counted (steps_open x y)) b p;
-      rows = subst (Rows tb) d h.rows;
+      sizes = subst (Sizes tb) d h.sizes;
       pile = subst (PileIs pl) p h.pile;
       long_table = h.long_table;
       long_pile = h.long_pile;
     }
 
-module _ (t : List ℕ) (a : ℕ) (k : Known) (x : Kept) (g : Agree t k x) where
+module _ (t : List ℕ) (a : ℕ) (k : Known) (x : Knowing) (g : Agree t k x) where
   abbrev w : List ℕ
   w = word_of t a
 
@@ -230,7 +223,7 @@ module _ (t : List ℕ) (a : ℕ) (k : Known) (x : Kept) (g : Agree t k x) where
       let c = length_names t x.places v.sources 0 in
       let d = ap (λ (y : List (List ℕ)). length y) n.sources in
       agree_names t _ x _ u (named_source t a k v x.places n (omega arith))
-      (grown_by k _ u x.table x.pile refl refl refl g.grown)
+      (grown_by k _ u x.sizes x.pile refl refl refl g.grown)
 
   agree_reactor : length k.reactors < 32 → Agree t (learn k a w Reactor) (learnt t a w x Reactor)
   unfolding learn learnt add_reactor grounded calls_open steps_open calls declares_all steps_all count_of
@@ -247,7 +240,7 @@ module _ (t : List ℕ) (a : ℕ) (k : Known) (x : Kept) (g : Agree t k x) where
         level = refl;
         calls = z;
         steps = z;
-        rows = h.rows;
+        sizes = h.sizes;
         pile = tt;
         long_table = h.long_table;
         long_pile = h.long_pile;
@@ -260,7 +253,7 @@ module _ (t : List ℕ) (a : ℕ) (k : Known) (x : Kept) (g : Agree t k x) where
       let c = length_names t x.places v.names 63 in
       let d = ap (λ (y : List (List ℕ)). length y) n.others in
       agree_names t _ x _ u (named_parameter t a k v x.places n (omega arith))
-      (grown_by k _ u x.table x.pile refl refl refl g.grown)
+      (grown_by k _ u x.sizes x.pile refl refl refl g.grown)
 
   parameter_same : is_parameter t w x ≡ among k.parameters w
   unfolding is_parameter parameters_in
@@ -284,10 +277,10 @@ module _ (t : List ℕ) (a : ℕ) (k : Known) (x : Kept) (g : Agree t k x) where
   agree_expr f e v₂ r n c s l =
       let h = g.grown in
       agree_grove t _ x v₂ _ n
-      (grown_whole k f e (spent u 0 r) x.table x.pile k.pile h.definitions h.count h.level
+      (grown_whole k f e (spent u 0 r) x.sizes x.pile k.pile h.definitions h.count h.level
       (counted_more u.calls _ 0 (calls_one e) h.calls (ap counted (sym c)))
       (counted_more u.steps _ r (steps e) h.steps (ap counted s))
-      h.rows
+      h.sizes
       h.pile
       h.long_table
       h.long_pile
@@ -317,42 +310,40 @@ module _ (t : List ℕ) (a : ℕ) (k : Known) (x : Kept) (g : Agree t k x) where
   agree_operator l =
       let h = g.grown in
       let o = operator_of k w in
-      let e : operator_in (names_at t x.places 31 v.reactors) w ≡ operator_code o
-      = ap (λ (y : List (List ℕ)). operator_in y w) g.named.reactors ∙ operator_same k w in
-      let c = callable_same k u x.table x.pile h o (operator_sign k w) in
+      let f = operator_in (names_at t x.places 31 v.reactors) w in
+      let e : applied_by f ≡ o
+      = ap (λ (y : List (List ℕ)). applied_by (operator_in y w)) g.named.reactors ∙ operator_same k w in
       agree_grove t (add_operator k a o) x _ _
       (named_pile t k v x.places g.named _ _ k.body _
-      (same_fault (ap (callable_in u.definitions x.table) e ∙ c) refl g.named.fault))
-      (subst (λ (y : ℕ). GrownIn (add_operator k a o) x.table (open_grove u y a x.pile)) (sym e)
-      (grown_open k a o u x.table x.pile h l))
+      (same_fault (callable_same k u x.sizes x.pile h f ∙ ap (callable k) e) refl g.named.fault))
+      (grown_open k a f o u x.sizes x.pile e h l)
 
-  agree_close : AllPorted k → SignsFit k.pile → length k.pile ≤ 16
-      → (o : Opened) (os : List Opened) → k.pile ≡ o ∷ os
-      → Agree t (closed k (o ∷ os)) (apply_kept t a w x)
+  agree_close : AllPorted k → length k.pile ≤ 16 → (o : Opened) (os : List Opened) → k.pile ≡ o ∷ os
+      → Agree t (closed k (o ∷ os)) (apply_kept x)
   unfolding apply_kept blamed closed
-  agree_close done signs l o os e =
+  agree_close done l o os e =
       let h = g.grown in
       let f = o.operator in
-      let fit : SignFit f = (subst SignsFit e signs).0 in
       let pile : PileIs x.pile (o ∷ os) = subst (PileIs x.pile) e h.pile in
-      let row = innermost_row k u x.table x.pile h o os e in
-      let first : 3 * length os + 0 ≡ 3 * length os = omega arith in
-      let code = row 0 ∙ ap (λ (j : ℕ). get_or x.pile j 0) first ∙ pile.0 in
-      let takes_eq = ap (takes_in u.definitions x.table) code ∙ takes_same k u x.table x.pile h f fit in
-      let test = ap₂ (λ (y z : ℕ). y =? z) (row 2 ∙ pile.2) takes_eq
+      let b = innermost u x.pile in
+      let same = innermost_is k u x.sizes x.pile h o os e in
+      let code : applied_by b.operator ≡ f = ap (λ (y : Application). applied_by y.operator) same ∙ pile.0 in
+      let many = ap (λ (y : Application). y.operands) same ∙ pile.2 in
+      let takes_eq = takes_same k u x.sizes x.pile h b.operator ∙ ap (takes k) code in
+      let test = ap₂ (λ (y z : ℕ). y =? z) many takes_eq
       ∙ counted_eq (count_of o.operands) (takes k f) (takes_small k done f) in
       agree_grove t _ x _ _
-      (named_expr t k v x.places g.named _ _ os _ (same_fault test (row 1 ∙ pile.1) g.named.fault))
-      (grown_close k _ u x.table x.pile h o os e fit l)
+      (named_expr t k v x.places g.named _ _ os _
+      (same_fault test (ap (λ (y : Application). y.at) same ∙ pile.1) g.named.fault))
+      (grown_close k _ u x.sizes x.pile h o os e l)
 
-  agree_apply : AllPorted k → SignsFit k.pile → Ready k Apply
-      → Agree t (learn k a w Apply) (learnt t a w x Apply)
+  agree_apply : AllPorted k → Ready k Apply → Agree t (learn k a w Apply) (learnt t a w x Apply)
   unfolding learn learnt
-  agree_apply done signs l = by k.pile refl
+  agree_apply done l = by k.pile refl
     where
-      by : (os : List Opened) → k.pile ≡ os → Agree t (closed k os) (apply_kept t a w x)
+      by : (os : List Opened) → k.pile ≡ os → Agree t (closed k os) (apply_kept x)
       by [] e = let z = ap (λ (y : List Opened). length y) e in let m = l.0 in absurd (omega arith)
-      by (o ∷ os) e = agree_close done signs l.1 o os e
+      by (o ∷ os) e = agree_close done l.1 o os e
 
   agree_define : Ready k Define → Agree t (learn k a w Define) (learnt t a w x Define)
   unfolding learn learnt define_kept
@@ -361,21 +352,21 @@ module _ (t : List ℕ) (a : ℕ) (k : Known) (x : Kept) (g : Agree t k x) where
       let d = ap (λ (y : List (List ℕ)). length y) g.named.parameters in
       record {
         named = named_defined t k v x.places g.named;
-        grown = grown_define k u x.table x.pile g.grown _ (sym c ∙ d) l.0 l.2 l.3;
+        grown = grown_define k u x.sizes x.pile g.grown _ (sym c ∙ d) l.0 l.2 l.3;
       }
 
   agree_fixed : Agree t (learn k a w Fixed) (learnt t a w x Fixed)
   unfolding learn learnt
   agree_fixed = g
 
-  pub agree_learn : AllPorted k → SignsFit k.pile → (r : Role) → Ready k r
+  pub agree_learn : AllPorted k → (r : Role) → Ready k r
       → Agree t (learn k a w r) (learnt t a w x r)
-  agree_learn done signs Source l = agree_source l
-  agree_learn done signs Reactor l = agree_reactor l
-  agree_learn done signs Parameter l = agree_parameter l
-  agree_learn done signs Operand l = agree_operand l
-  agree_learn done signs (Constant n) l = agree_constant n l
-  agree_learn done signs AnOperator l = agree_operator l
-  agree_learn done signs Apply l = agree_apply done signs l
-  agree_learn done signs Define l = agree_define l
-  agree_learn done signs Fixed l = agree_fixed
+  agree_learn done Source l = agree_source l
+  agree_learn done Reactor l = agree_reactor l
+  agree_learn done Parameter l = agree_parameter l
+  agree_learn done Operand l = agree_operand l
+  agree_learn done (Constant n) l = agree_constant n l
+  agree_learn done AnOperator l = agree_operator l
+  agree_learn done Apply l = agree_apply done l
+  agree_learn done Define l = agree_define l
+  agree_learn done Fixed l = agree_fixed

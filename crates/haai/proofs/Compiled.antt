@@ -2,21 +2,24 @@
 use Rattle.std.specs.Prelude.{ℕ, ◌+◌, ◌*◌, ◌≤◌, ◌<◌, ◌≡◌, refl, true, false, List, ◌++◌, length}
 use Rattle.std.proofs.Common.{sym, ◌∙◌, ap, arith}
 use Rattle.value.proofs.Tests.{goes, stops, eq!, eq×, le!, le×}
-use lib.ListN.{length-append}
+use lib.ListN.{length-append, take}
+use Rattle.std.proofs.lemmas.List.{length-take-le}
 use Rattle.image.specs.Memory.{patch}
 use Rattle.image.proofs.Memory.Patch.{patch-length}
 use Rattle.std.specs.Prelude.{Ok, Err}
 use Rattle.answer.specs.declared.Refusal.TheVariants.{TextForm, TextName, OutputSpace}
+use Rattle.haai.specs.declared.Size.{Size}
 use Rattle.haai.specs.Grammar.{Formed, items, fault, form_of}
 use Rattle.haai.specs.Names.{Known, fault_of, text_of}
 use Rattle.haai.specs.Syntax.{Text}
 use Rattle.haai.specs.Emit.{code_of, program_of, within_limits}
 use Rattle.haai.specs.Compile.{refused, written, by_names, by_form, compile_of}
 use Rattle.haai.specs.Clauses.{check_of, compiled, right}
-use Rattle.haai.specs.Tables.{items_of, known_by, rows_fit, rows_length}
+use Rattle.haai.specs.Tables.{items_of, known_by, Sizes, sizes_fit, sizes_length}
 use Rattle.haai.specs.Writing.{tables_of, Clean, Writable}
 use Rattle.haai.specs.declared.Found.{Found}
-use Rattle.haai.proofs.Sizes.{fits_limits, length_is_code}
+use Rattle.std.specs.Prelude.{Err}
+use Rattle.haai.proofs.Sizes.{fits_limits, length_is_code, sizes_within}
 use Rattle.haai.proofs.Tabling.{length_tables, tables_code, program_put}
 
 -- ---- 16
@@ -77,33 +80,43 @@ module _ (out : List ℕ) (x : Text) where
         ∙ ap (λ (o : List ℕ). compiled (Ok (length (program_of x))) o) e
         ∙ goes _ _ limits (goes _ _ (le! room) refl)
 
--- ---- a text without fault, by what is found of it
+-- ---- a text without fault, by what is found of it: the sizes of its definitions are zs
 
-module _ (t : List ℕ) (f : Found) (tb : List ℕ) (h : Clean t f tb) where
+module _ (t : List ℕ) (f : Found) (tb : List Size) (h : Clean t f tb) where
   abbrev k : Known
   k = known_by (length t) (form_of t)
 
   abbrev x : Text
   x = text_of k
 
-  pub limits_found : rows_fit tb 0 f.definitions ≡ within_limits k.definitions
-  limits_found = fits_limits tb k.definitions h.found.rows f.definitions h.found.definitions
+  abbrev pub zs : List Size
+  zs = take f.definitions tb
+
+  pub long : length zs ≡ f.definitions
+  long = let a = h.found.few in let b = h.found.long in length-take-le f.definitions tb (omega arith)
+
+  same : length zs ≡ length k.definitions
+  same = long ∙ h.found.definitions
+
+  sizes : Sizes zs k.definitions
+  sizes = sizes_within tb k.definitions f.definitions h.found.definitions h.found.sizes
+
+  pub limits_found : sizes_fit zs ≡ within_limits k.definitions
+  limits_found = fits_limits zs k.definitions same sizes
 
   module _ (limits : within_limits k.definitions ≡ true) where
-    code_found : rows_length tb 0 f.definitions ≡ length (code_of k.definitions)
-    code_found =
-        length_is_code tb k.definitions h.found.rows f.definitions h.found.definitions limits
+    code_found : sizes_length zs ≡ length (code_of k.definitions)
+    code_found = length_is_code zs k.definitions same sizes limits
 
-    pub whole_found : (n : ℕ) → n ≡ 8 + f.sources + 20 * f.definitions + rows_length tb 0 f.definitions
-        → n ≡ length (program_of x)
+    pub whole_found : (n : ℕ) → n ≡ 8 + f.sources + 20 * f.definitions + sizes_length zs → n ≡ length (program_of x)
     unfolding text_of
     whole_found n e =
-        let tables = tables_of tb f.definitions f.sources in
+        let tables = tables_of zs f.sources in
         let a = code_found in
-        let b = length_tables tb f.definitions f.sources in
+        let b = length_tables zs f.sources in
         let c = length-append tables (code_of k.definitions) in
-        let d = tables_code tb x h.found.rows limits f.definitions f.sources h.found.definitions
-        h.found.sources in
+        let d = tables_code zs x sizes limits f.sources same h.found.sources in
+        let l = long in
         let z : n ≡ length (tables ++ code_of k.definitions) = omega arith in
         z ∙ ap length d
 
@@ -112,25 +125,31 @@ module _ (t : List ℕ) (f : Found) (tb : List ℕ) (h : Clean t f tb) where
       code_fits : end + length (code_of k.definitions) ≤ length out
       code_fits =
           let a = code_found in
-          let b = whole_found (end + rows_length tb 0 f.definitions) (omega arith) in
+          let b = whole_found (end + sizes_length zs) (omega arith) in
           omega arith
 
-      pub tables_fit : (f.definitions ≤ 32) × ((f.sources ≤ 31) × (end ≤ length out))
-      tables_fit = let a = code_fits in (h.found.few, (h.found.few_sources, omega arith))
+      pub tables_fit : (length zs ≤ 32) × ((f.sources ≤ 31) × (8 + f.sources + 20 * length zs ≤ length out))
+      tables_fit =
+          let a = code_fits in
+          let l = long in
+          let n = h.found.few in
+          (omega arith, (h.found.few_sources, omega arith))
 
-      module _ (mid : List ℕ) (m : mid ≡ patch out 0 (tables_of tb f.definitions f.sources)) where
+      module _ (mid : List ℕ) (m : mid ≡ patch out 0 (tables_of zs f.sources)) where
         pub writable : Writable t tb end mid
         writable =
-            let a = length_tables tb f.definitions f.sources in
+            let a = length_tables zs f.sources in
             let b = code_fits in
-            let c = patch-length out 0 (tables_of tb f.definitions f.sources) (omega arith) in
+            let l = long in
+            let c = patch-length out 0 (tables_of zs f.sources) (omega arith) in
             let d = ap length m in
             let g = h.found.few_sources in
             let n = h.found.few in
             record {
               right = h.right;
               clean = sym h.found.fault ∙ h.clean;
-              rows = h.found.rows;
+              sizes = h.found.sizes;
+              long = h.found.long;
               limits = limits;
               early = omega arith;
               room = omega arith;
@@ -141,5 +160,5 @@ module _ (t : List ℕ) (f : Found) (tb : List ℕ) (h : Clean t f tb) where
         unfolding text_of
         put_found new w =
             let a = code_fits in
-            program_put tb x h.found.rows limits f.definitions f.sources h.found.definitions
-            h.found.sources out mid new end e (omega arith) m w
+            let l = long in
+            program_put zs x sizes limits f.sources same h.found.sources out mid new end (omega arith) (omega arith) m w

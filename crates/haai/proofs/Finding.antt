@@ -2,12 +2,13 @@
 use Rattle.std.specs.Prelude.{ℕ, ◌-◌, ◌≤◌, ◌<◌, ◌≡◌, List, length}
 use Rattle.std.proofs.Common.{sym, ◌∙◌, ap, subst, arith}
 use Rattle.value.specs.Test.{◌=?◌}
+use Rattle.haai.specs.declared.Knowing.{Knowing}
 use Rattle.haai.specs.Grammar.{takes, refuses}
 use Rattle.haai.specs.Word.{word_start, word_end, bytes_of, class_of}
 use Rattle.haai.specs.Grammar.{step_of, form_of}
 use Rattle.haai.specs.Names.{Known, unless, fault_of}
 use Rattle.haai.specs.Places.{word_of}
-use Rattle.haai.specs.Tables.{Kept, learnt, known_by, found_of, FoundIs}
+use Rattle.haai.specs.Tables.{learnt, known_by, found_of, FoundIs}
 use Rattle.haai.specs.declared.Found.{Found}
 use Rattle.haai.specs.declared.Reading.{Reading}
 use Rattle.haai.specs.declared.Role.{Role}
@@ -16,7 +17,7 @@ use Rattle.haai.proofs.Placed.{length_names}
 use Rattle.haai.proofs.Imaged.{Named}
 use Rattle.haai.proofs.Gathering.{Gathering, gather_ends, gather_on, gather_refused, gather_taken}
 
-module _ (t : List ℕ) (s : Reading) (a : ℕ) (x : Kept) (h : Gathering t s a x) (l : a < length t) where
+module _ (t : List ℕ) (s : Reading) (a : ℕ) (x : Knowing) (h : Gathering t s a x) (l : a < length t) where
   module _ (e : ℕ) (q : e ≡ word_end t a) where
     pub gather_further : (b : ℕ) → b ≡ word_start t e → a < b
     gather_further b p = gather_on t s a x h l b (p ∙ ap (word_start t) q)
@@ -25,7 +26,7 @@ module _ (t : List ℕ) (s : Reading) (a : ℕ) (x : Kept) (h : Gathering t s a 
     gather_stops p =
         absurd (gather_refused t s a x h l (ap (λ (n : ℕ). step_of s (class_of (bytes_of t a n))) (sym q) ∙ p))
 
-    pub gather_goes : (b : ℕ) (r : Role) (s₂ : Reading) (y : Kept) → b ≡ word_start t e
+    pub gather_goes : (b : ℕ) (r : Role) (s₂ : Reading) (y : Knowing) → b ≡ word_start t e
         → step_of s (class_of (bytes_of t a e)) ≡ takes r s₂
         → y ≡ learnt t a (bytes_of t a e) x r
         → Gathering t s₂ b y
@@ -44,9 +45,9 @@ same_fault t k v ps h =
     ∙ ap (λ (n : ℕ). unless (length k.parameters =? 0) n v.fault) h.at
     ∙ ap (λ (n : ℕ). unless (length k.parameters =? 0) k.at n) h.fault
 
-pub gather_found : (t : List ℕ) (s : Reading) (a : ℕ) (x : Kept) → Gathering t s a x → length t ≤ a → (f : Found)
+pub gather_found : (t : List ℕ) (s : Reading) (a : ℕ) (x : Knowing) → Gathering t s a x → length t ≤ a → (f : Found)
     → f ≡ found_of x.tally x.tree
-    → FoundIs (known_by (length t) (form_of t)) f x.table
+    → FoundIs (known_by (length t) (form_of t)) f x.sizes
 unfolding found_of
 gather_found t s a x h l f e =
     let k = known_by (length t) (form_of t) in
@@ -56,12 +57,13 @@ gather_found t s a x h l f e =
     let definitions = end.grown.definitions in
     let few_sources = end.counted.few_sources in
     let few = end.counted.few in
-    subst (λ (y : Found). FoundIs k y x.table) (sym e)
+    subst (λ (y : Found). FoundIs k y x.sizes) (sym e)
     (record {
       fault = same_fault t k x.tally x.places n;
       sources = sources;
       definitions = definitions;
       few_sources = omega arith;
       few = omega arith;
-      rows = end.grown.rows;
+      sizes = end.grown.sizes;
+      long = end.grown.long_table;
     })

@@ -5,6 +5,7 @@ use Rattle.std.proofs.Common.{sym, ◌∙◌, ap, subst}
 use Rattle.std.specs.Prelude.{length}
 use Rattle.std.proofs.Common.{arith}
 use Rattle.value.proofs.Tests.{both?, pick_any}
+use Rattle.haai.specs.declared.Knowing.{Knowing}
 use Rattle.haai.specs.Grammar.{Step, takes, refuses}
 use Rattle.haai.specs.Word.{Word, word_start, word_end, bytes_of, class_of}
 use Rattle.haai.specs.Grammar.{begin, step_of, whole, Item, Formed, items, fault, with_item, taken, form_from}
@@ -12,7 +13,7 @@ use Rattle.haai.specs.Grammar.{form_of}
 use Rattle.haai.specs.Clauses.{Room, check_of, right as right_form}
 use Rattle.haai.specs.Names.{Known, nothing, learn, learn_all}
 use Rattle.haai.specs.Places.{word_of, Fits}
-use Rattle.haai.specs.Tables.{Kept, first_tally, first_tree, learnt, items_of, known_by}
+use Rattle.haai.specs.Tables.{first_tally, first_tree, learnt, items_of, known_by}
 use Rattle.haai.specs.declared.Reading.{Reading}
 use Rattle.haai.specs.declared.Role.{Role}
 use Rattle.haai.proofs.Ahead.{Ahead, ahead, at_first, first_words, at_last, word_at, onward, words_ahead}
@@ -58,7 +59,7 @@ last_form n s k r =
 
 module _ (t : List ℕ) where
   -- The pass is at the word that begins at a, with the form read up to there.
-  pub record Gathering (s : Reading) (a : ℕ) (x : Kept) : Type 0 where
+  pub record Gathering (s : Reading) (a : ℕ) (x : Knowing) : Type 0 where
     pub known : Known
     pub words : Ahead t a
     pub same : known_by (length t) (form_of t) ≡ learn_all known (items_of (form_from (length t) (ahead t words) s))
@@ -68,14 +69,14 @@ module _ (t : List ℕ) where
     pub small : Small s
     pub shallow : Shallow s known
     pub named : Named t known x.tally x.places
-    pub grown : Grown known x.tree x.table x.pile
+    pub grown : Grown known x.tree x.sizes x.pile
 
-  pub gather_begins : (s : Reading) (a : ℕ) (x : Kept) → s ≡ begin → a ≡ word_start t 0 → check_of (form_of t) ≡ right_form
+  pub gather_begins : (s : Reading) (a : ℕ) (x : Knowing) → s ≡ begin → a ≡ word_start t 0 → check_of (form_of t) ≡ right_form
       → x.tally ≡ first_tally (length t)
       → x.tree ≡ first_tree
       → length x.places ≡ 287
-      → length x.table ≡ 128
-      → length x.pile ≡ 48
+      → length x.sizes ≡ 32
+      → length x.pile ≡ 16
       → Gathering s a x
   unfolding form_of known_by begin
   gather_begins s a x e f r v u ps tb pl =
@@ -97,22 +98,22 @@ module _ (t : List ℕ) where
         grown = g.grown;
       }
 
-  pub begins_known : (s : Reading) (a : ℕ) (x : Kept) (e : s ≡ begin) (f : a ≡ word_start t 0)
+  pub begins_known : (s : Reading) (a : ℕ) (x : Knowing) (e : s ≡ begin) (f : a ≡ word_start t 0)
       (r : check_of (form_of t) ≡ right_form) (v : x.tally ≡ first_tally (length t)) (u : x.tree ≡ first_tree)
-      (ps : length x.places ≡ 287) (tb : length x.table ≡ 128) (pl : length x.pile ≡ 48)
+      (ps : length x.places ≡ 287) (tb : length x.sizes ≡ 32) (pl : length x.pile ≡ 16)
       → (gather_begins s a x e f r v u ps tb pl).known ≡ nothing (length t)
   unfolding gather_begins
   begins_known s a x e f r v u ps tb pl = refl
 
   -- what is known of a text when its words are all read
-  pub record Gathered (s : Reading) (x : Kept) : Type 0 where
+  pub record Gathered (s : Reading) (x : Knowing) : Type 0 where
     pub complete : whole s ≡ true
     pub named : Named t (known_by (length t) (form_of t)) x.tally x.places
-    pub grown : Grown (known_by (length t) (form_of t)) x.tree x.table x.pile
+    pub grown : Grown (known_by (length t) (form_of t)) x.tree x.sizes x.pile
     pub counted : Counted (length t) s (known_by (length t) (form_of t))
     pub flat : length (known_by (length t) (form_of t)).pile ≡ 0
 
-  module _ (s : Reading) (a : ℕ) (x : Kept) (h : Gathering s a x) where
+  module _ (s : Reading) (a : ℕ) (x : Knowing) (h : Gathering s a x) where
     pub gather_fits : Fits x.tally × Room s
     gather_fits = (h.named.fits, room s h.small)
 
@@ -133,7 +134,7 @@ module _ (t : List ℕ) where
         record {
           complete = f.0;
           named = subst (λ (k : Known). Named t k x.tally x.places) e h.named;
-          grown = subst (λ (k : Known). Grown k x.tree x.table x.pile) e h.grown;
+          grown = subst (λ (k : Known). Grown k x.tree x.sizes x.pile) e h.grown;
           counted = subst (λ (k : Known). Counted (length t) s k) e h.counted;
           flat =
               subst (λ (k : Known). length k.pile ≡ 0) e
@@ -194,7 +195,7 @@ module _ (t : List ℕ) where
           (class_of w) (class_ok n w) in
           let g : Agree t k x = record { named = h.named; grown = h.grown } in
           let on = ready r s₂ q in
-          let after = agree_learn t a k x g c.done h.shallow.signs_fit r on.0 in
+          let after = agree_learn t a k x g c.done r on.0 in
           record {
             known = learn k a w r;
             words = onward t h.words l b e;

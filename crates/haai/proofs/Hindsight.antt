@@ -8,12 +8,13 @@ use lib.ListN.{length-append, get_or-eq_default}
 use Rattle.value.specs.Test.{◌=?◌}
 use Rattle.value.proofs.Tests.{eq?, below}
 use Rattle.program.specs.Bytes.{byte}
+use Rattle.haai.specs.declared.Size.{Size}
+use Rattle.haai.specs.Tables.{size_at}
 use Rattle.haai.specs.Syntax.{Operator, sign, reactor, Expr, Exprs, constant, apply, count_of, Definition}
 use Rattle.haai.specs.Names.{Opened, Known, unless, fresh, meant, fit_operand, operator_of, no_definition}
 use Rattle.haai.specs.Names.{definition_of, callable, takes, add_source, add_reactor, add_parameter, with_pile}
 use Rattle.haai.specs.Names.{add_expr, add_operator, closed, add_definition, learn}
 use Rattle.haai.specs.Emit.{allocates, steps, declared, running}
-use Rattle.haai.specs.Tables.{declared_from, running_from}
 use Rattle.haai.specs.declared.Role.{Role}
 use Rattle.haai.specs.declared.Role.TheVariants.{Source, Reactor, Parameter, Operand, Constant}
 use Rattle.haai.specs.declared.Role.TheVariants.{Operator as AnOperator, Apply, Define, Fixed}
@@ -32,22 +33,22 @@ none_in [] e = refl
 none_in (x ∷ xs) e = absurd (omega arith)
 
 -- row j is exact, and within the limits
-pub record Exact (sizes : List ℕ) (d : Definition) (j : ℕ) : Type 0 where
-  pub calls : byte sizes (declared_from + j) ≡ declared d
-  pub runs : byte sizes (running_from + j) ≡ running d
+pub record Exact (sizes : List Size) (d : Definition) (j : ℕ) : Type 0 where
+  pub calls : (size_at sizes j).declared ≡ declared d
+  pub runs : (size_at sizes j).running ≡ running d
   pub few_d : declared d ≤ 32
   pub few_r : running d ≤ 128
 
 -- inside definition j, with the body b and the open applications os so far
-pub record Midst (count : ℕ) (sizes : List ℕ) (j : ℕ) (b : Exprs) (os : List Opened) : Type 0 where
+pub record Midst (count : ℕ) (sizes : List Size) (j : ℕ) (b : Exprs) (os : List Opened) : Type 0 where
   pub more : j < count
-  pub calls : calls_open b os ≤ byte sizes (declared_from + j)
-  pub steps : steps_open b os ≤ byte sizes (running_from + j)
-  pub few_d : byte sizes (declared_from + j) ≤ 32
-  pub few_r : byte sizes (running_from + j) ≤ 128
+  pub calls : calls_open b os ≤ (size_at sizes j).declared
+  pub steps : steps_open b os ≤ (size_at sizes j).running
+  pub few_d : (size_at sizes j).declared ≤ 32
+  pub few_r : (size_at sizes j).running ≤ 128
   pub few : FewOpen b os
 
-module _ (n count : ℕ) (sizes : List ℕ) where
+module _ (n count : ℕ) (sizes : List Size) where
   pub record Good (k : Known) : Type 0 where
     pub clean : k.fault ≡ n
     pub exact : (j : ℕ) → j < length k.definitions → Exact sizes (nth k.definitions j) j

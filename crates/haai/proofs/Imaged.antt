@@ -1,17 +1,17 @@
 -- What is known of names, by its places in the text: `Named` relates what the definition knows to a tally and its
 -- places, and each name that is taken in keeps it.
-use Rattle.std.specs.Prelude.{ℕ, ◌+◌, ◌-◌, ◌<◌, ◌≡◌, refl, not, List, [], ◌∷◌, ◌++◌}
+use Rattle.std.specs.Prelude.{ℕ, zero, suc, ◌+◌, ◌-◌, ◌<◌, ◌≡◌, refl, not, List, [], ◌∷◌, ◌++◌}
 use Rattle.std.proofs.Common.{sym, ◌∙◌, ap, ap₂, inl, inr}
 use Rattle.std.specs.Prelude.{length, set}
 use Rattle.std.proofs.Common.{arith}
 use lib.ListN.{length-set}
 use Rattle.value.specs.Test.{guard}
-use Rattle.value.proofs.Tests.{cases, goes, stops}
-use Rattle.haai.specs.Word.{position, among, signs}
-use Rattle.haai.specs.Syntax.{global}
+use Rattle.value.proofs.Tests.{cases, goes, stops, lt?}
+use Rattle.haai.specs.Word.{position, among, signs, sign_at, sign_number}
+use Rattle.haai.specs.Syntax.{sign, global}
 use Rattle.haai.specs.Names.{Known, meant, operator_of, fresh, unless, add_source, add_reactor, add_parameter}
 use Rattle.haai.specs.Places.{word_of, names_at, sources_in, reactors_in, names_in, parameters_in, Fits, Held, held}
-use Rattle.haai.specs.Places.{source_held, reactor_held, parameter_held, operator_code, operator_in, expr_of, global_in}
+use Rattle.haai.specs.Places.{source_held, reactor_held, parameter_held, applied_by, operator_in, expr_of, global_in}
 use Rattle.haai.specs.Places.{meant_in}
 use Rattle.haai.specs.declared.Tally.{Tally}
 use Rattle.haai.proofs.Placed.{names_kept, names_more}
@@ -107,12 +107,24 @@ module _ (t : List ℕ) (a : ℕ) (k : Known) (v : Tally) (ps : List ℕ) (h : N
 
 -- ---- what a name means
 
-pub operator_same : (k : Known) (w : List ℕ) → operator_in k.reactors w ≡ operator_code (operator_of k w)
-unfolding operator_in operator_code operator_of
+-- the sign at a place is the one with its number
+pub sign_place : (n : ℕ) → n < 4 → sign_number (sign_at n) ≡ n
+unfolding sign_number sign_at
+sign_place zero l = refl
+sign_place (suc zero) l = refl
+sign_place (suc (suc zero)) l = refl
+sign_place (suc (suc (suc zero))) l = refl
+sign_place (suc (suc (suc (suc n)))) l = absurd (omega arith)
+
+pub operator_same : (k : Known) (w : List ℕ) → applied_by (operator_in k.reactors w) ≡ operator_of k w
+unfolding operator_in applied_by operator_of among
 operator_same k w =
     cases (among signs w)
-    (λ e. sym (stops _ (ap not e) refl) ∙ ap operator_code (stops _ (ap not e) refl))
-    (λ e. sym (goes _ _ (ap not e) refl) ∙ ap operator_code (goes _ _ (ap not e) refl))
+    (λ e.
+    sym (ap applied_by (stops _ (ap not e) refl))
+    ∙ ap (λ (n : ℕ). sign n) (sign_place (position signs w) (lt? e))
+    ∙ stops _ (ap not e) refl)
+    (λ e. sym (ap applied_by (goes _ _ (ap not e) refl)) ∙ goes _ _ (ap not e) refl)
 
 global_same : (k : Known) (w : List ℕ)
     → expr_of (global_in k.sources w)

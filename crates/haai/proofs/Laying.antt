@@ -8,10 +8,11 @@ use Rattle.program.specs.Bytes.{byte}
 use Rattle.program.specs.Command.{Cmd}
 use Rattle.program.specs.Encode.{encode_all}
 use Rattle.program.proofs.Encode.{length-encode_all}
+use Rattle.haai.specs.declared.Size.{Size}
+use Rattle.haai.specs.Tables.{size_at, size_length}
 use Rattle.haai.specs.Syntax.{Exprs, Definition}
 use Rattle.haai.specs.Names.{Opened, Known, with_pile}
 use Rattle.haai.specs.Emit.{commands_of, code_of}
-use Rattle.haai.specs.Tables.{declared_from, running_from}
 use Rattle.haai.specs.Writing.{put_commands, place_d, place_r, first_at}
 use Rattle.haai.specs.declared.Cursor.{Cursor}
 use Rattle.haai.proofs.Formed.{nth}
@@ -26,9 +27,9 @@ use Rattle.haai.proofs.Hindsight.{Exact, Good}
 
 -- ---- where a definition's commands begin
 
-module _ (sizes : List ℕ) (end : ℕ) where
+module _ (sizes : List Size) (end : ℕ) where
   first_more : (j d : ℕ) → first_at sizes end j ≤ first_at sizes end (d + j)
-  unfolding first_at
+  unfolding first_at size_length
   first_more j zero = let z : 0 + j ≡ j = omega arith in rw z (omega arith)
   first_more j (suc d) =
       let z : suc d + j ≡ suc (d + j) = omega arith in
@@ -42,7 +43,7 @@ module _ (sizes : List ℕ) (end : ℕ) where
 
   first_from : (ds : List Definition) (i : ℕ) → ((j : ℕ) → j < length ds → Exact sizes (nth ds j) (i + j))
       → first_at sizes end (i + length ds) ≡ first_at sizes end i + length (code_of ds)
-  unfolding first_at code_of
+  unfolding first_at size_length code_of
   first_from [] i h = let z : i + 0 ≡ i = omega arith in rw z (omega arith)
   first_from (d ∷ ds) i h =
       let z : i + suc (length ds) ≡ suc i + length ds = omega arith in
@@ -64,7 +65,7 @@ module _ (sizes : List ℕ) (end : ℕ) where
   -- the code of ds ends there
   pub first_is : (ds : List Definition) → ((j : ℕ) → j < length ds → Exact sizes (nth ds j) j)
       → first_at sizes end (length ds) ≡ end + length (code_of ds)
-  unfolding first_at
+  unfolding first_at size_length
   first_is ds h =
       let z : 0 + length ds ≡ length ds = omega arith in
       ap (first_at sizes end) (sym z)
@@ -118,24 +119,24 @@ module _ (out : List ℕ) (F D R : ℕ) (ED ER dc rc : List Cmd) (p_d p_r : ℕ)
 -- ---- the output so far
 
 -- the location of the first R command of the present definition
-abbrev pub base_of : List ℕ → Known → ℕ
-base_of sizes k = length k.parameters + byte sizes (declared_from + length k.definitions)
+abbrev pub base_of : List Size → Known → ℕ
+base_of sizes k = length k.parameters + (size_at sizes (length k.definitions)).declared
 
 -- c says where the next commands go
-pub record Pointed (sizes : List ℕ) (end : ℕ) (c : Cursor) (k : Known) : Type 0 where
+pub record Pointed (sizes : List Size) (end : ℕ) (c : Cursor) (k : Known) : Type 0 where
   pub first : c.first ≡ first_at sizes end (length k.definitions)
   pub parameters : c.parameters ≡ length k.parameters
-  pub declared : c.declared ≡ byte sizes (declared_from + length k.definitions)
+  pub declared : c.declared ≡ (size_at sizes (length k.definitions)).declared
   pub calls : c.calls ≡ calls_open k.body k.pile
   pub steps : c.steps ≡ steps_open k.body k.pile
 
-module _ (count : ℕ) (sizes : List ℕ) (end : ℕ) (old : List ℕ) where
+module _ (count : ℕ) (sizes : List Size) (end : ℕ) (old : List ℕ) where
   -- inside a definition
   pub record Amid (k : Known) (out ls : List ℕ) : Type 0 where
     pub D : Stands out (first_at sizes end (length k.definitions)) (encode_all (emitted_d k.body k.pile))
     pub R :
         Stands out
-        (first_at sizes end (length k.definitions) + 8 * byte sizes (declared_from + length k.definitions))
+        (first_at sizes end (length k.definitions) + 8 * (size_at sizes (length k.definitions)).declared)
         (encode_all (emitted_r (length k.parameters) (base_of sizes k) k.body k.pile))
     pub noted : Noted ls (base_of sizes k) k.body k.pile
 
@@ -168,12 +169,12 @@ module _ (count : ℕ) (sizes : List ℕ) (end : ℕ) (old : List ℕ) where
         ≡ emitted_r (length k.parameters) (base_of sizes k) k.body k.pile ++ rc
         → length ls₂ ≡ 119 → Noted ls₂ (base_of sizes k) b os
         → Laying (with_pile k f b os) (put_commands (put_commands out (place_d c) dc) (place_r c) rc) ls₂
-    unfolding with_pile place_d place_r first_at
+    unfolding with_pile place_d place_r first_at size_length
     lays_more f b os dc rc ls₂ after e_d e_r long noted =
         let s = length k.parameters in
         let base = base_of sizes k in
-        let D = byte sizes (declared_from + j) in
-        let R = byte sizes (running_from + j) in
+        let D = (size_at sizes j).declared in
+        let R = (size_at sizes j).running in
         let ED = emitted_d k.body k.pile in
         let ER = emitted_r s base k.body k.pile in
         let amid = lay.inside i in

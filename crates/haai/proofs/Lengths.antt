@@ -8,11 +8,14 @@ use Rattle.program.specs.Command.{Cmd}
 use Rattle.program.specs.Encode.{encode}
 use Rattle.program.proofs.Encode.{length-encode}
 use Rattle.image.proofs.Memory.Patch.{patch-length}
+use Rattle.haai.specs.declared.Knowing.{Knowing}
 use Rattle.haai.specs.Writing.{put_command, put_commands, Added, added, add_give, add_meant, add_call, add_applied}
 use Rattle.haai.specs.Writing.{add_sinks, add_operand, add_constant, add_apply, adds}
 use Rattle.haai.specs.declared.Cursor.{Cursor}
 use Rattle.haai.specs.declared.Meant.{Meant}
 use Rattle.haai.specs.declared.Meant.TheVariants.{Parameter as AParameter, Global}
+use Rattle.haai.specs.declared.Operator.{Operator}
+use Rattle.haai.specs.declared.Operator.TheVariants.{Sign, Reactor as AReactor}
 use Rattle.haai.specs.declared.Role.{Role}
 use Rattle.haai.specs.declared.Role.TheVariants.{Source, Reactor, Parameter, Operand, Constant}
 use Rattle.haai.specs.declared.Role.TheVariants.{Operator as AnOperator, Apply, Define, Fixed}
@@ -49,21 +52,20 @@ module _ (n : ℕ) where
     meant_long entry (AParameter i) = (h, length-set ls entry _ ∙ l)
     meant_long entry (Global g) = give_long entry _
 
-    applied_long : (o i m entry : ℕ) → Long (add_applied c o i m ls entry out)
+    applied_long : (o : Operator) (i m entry : ℕ) → Long (add_applied c o i m ls entry out)
     unfolding add_applied add_call added
-    applied_long o i m entry =
-        pick_any Long (o <? 4) (λ e. give_long entry _)
-        (λ e. (puts_long _ _ _ (put_long out _ _ h), length-set ls entry _ ∙ l))
+    applied_long (Sign o) i m entry = give_long entry _
+    applied_long (AReactor j) i m entry = (puts_long _ _ _ (put_long out _ _ h), length-set ls entry _ ∙ l)
 
-    pub adds_long : (t w : List ℕ) (v : Tally) (u : Tree) (ps pl : List ℕ) (r : Role)
-        → Long (adds t w v u ps pl c ls out r)
+    pub adds_long : (t w : List ℕ) (x : Knowing) (r : Role)
+        → Long (adds t w x c ls out r)
     unfolding adds added add_operand add_constant add_apply add_sinks
-    adds_long t w v u ps pl Source = (h, l)
-    adds_long t w v u ps pl Reactor = (h, l)
-    adds_long t w v u ps pl Parameter = (h, l)
-    adds_long t w v u ps pl Operand = meant_long _ _
-    adds_long t w v u ps pl (Constant x) = give_long _ _
-    adds_long t w v u ps pl AnOperator = (h, l)
-    adds_long t w v u ps pl Apply = applied_long _ _ _ _
-    adds_long t w v u ps pl Define = (puts_long _ out _ h, l)
-    adds_long t w v u ps pl Fixed = (h, l)
+    adds_long t w x Source = (h, l)
+    adds_long t w x Reactor = (h, l)
+    adds_long t w x Parameter = (h, l)
+    adds_long t w x Operand = meant_long _ _
+    adds_long t w x (Constant y) = give_long _ _
+    adds_long t w x AnOperator = (h, l)
+    adds_long t w x Apply = applied_long _ _ _ _
+    adds_long t w x Define = (puts_long _ out _ h, l)
+    adds_long t w x Fixed = (h, l)

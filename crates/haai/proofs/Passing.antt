@@ -5,6 +5,8 @@ use Rattle.std.proofs.Common.{sym, ◌∙◌, ap, subst, arith}
 use Rattle.value.specs.Test.{◌=?◌}
 use Rattle.value.proofs.Tests.{both?, le?}
 use Rattle.image.specs.Memory.{patch}
+use Rattle.haai.specs.declared.Size.{Size}
+use Rattle.haai.specs.declared.Knowing.{Knowing}
 use Rattle.haai.specs.Grammar.{takes}
 use Rattle.haai.specs.Word.{word_start, word_end, bytes_of, class_of}
 use Rattle.haai.specs.Grammar.{begin, step_of, whole, form_of}
@@ -12,7 +14,7 @@ use Rattle.haai.specs.Clauses.{check_of, right as right_form}
 use Rattle.haai.specs.Names.{Known, nothing, fault_of, learn}
 use Rattle.haai.specs.Emit.{code_of, declared, running}
 use Rattle.haai.specs.Places.{word_of}
-use Rattle.haai.specs.Tables.{Kept, first_tally, first_tree, learnt, known_by}
+use Rattle.haai.specs.Tables.{first_tally, first_tree, learnt, known_by}
 use Rattle.haai.specs.Writing.{first_at, cursor_of, Added, added, adds, Writable}
 use Rattle.haai.specs.declared.Cursor.{Cursor}
 use Rattle.haai.specs.declared.Reading.{Reading}
@@ -32,7 +34,7 @@ use Rattle.haai.proofs.Laying.{Laying, first_is}
 use Rattle.haai.proofs.Wording.{word_lays}
 use Rattle.haai.proofs.Lengths.{adds_long}
 
-module _ (t sizes : List ℕ) (end : ℕ) (old : List ℕ) where
+module _ (t : List ℕ) (sizes : List Size) (end : ℕ) (old : List ℕ) where
   abbrev all : Known
   all = known_by (length t) (form_of t)
 
@@ -43,7 +45,7 @@ module _ (t sizes : List ℕ) (end : ℕ) (old : List ℕ) where
   Lays k out ls = Good (length t) count sizes k → Laying count sizes end old k out ls
 
   -- the pass is at the word that begins at a, with the form read up to there
-  pub record Passing (s : Reading) (a : ℕ) (x : Kept) (ls out : List ℕ) : Type 0 where
+  pub record Passing (s : Reading) (a : ℕ) (x : Knowing) (ls out : List ℕ) : Type 0 where
     pub gathering : Gathering t s a x
     pub sane : Sane (length t) gathering.known
     pub long_out : length out ≡ length old
@@ -60,9 +62,9 @@ module _ (t sizes : List ℕ) (end : ℕ) (old : List ℕ) where
         inside = λ i. absurd (omega arith);
       }
 
-  pub pass_begins : (s : Reading) (a : ℕ) (x : Kept) (ls : List ℕ) → s ≡ begin → a ≡ word_start t 0
+  pub pass_begins : (s : Reading) (a : ℕ) (x : Knowing) (ls : List ℕ) → s ≡ begin → a ≡ word_start t 0
       → check_of (form_of t) ≡ right_form → x.tally ≡ first_tally (length t) → x.tree ≡ first_tree
-      → length x.places ≡ 287 → length x.table ≡ 128 → length x.pile ≡ 48 → length ls ≡ 119
+      → length x.places ≡ 287 → length x.sizes ≡ 32 → length x.pile ≡ 16 → length ls ≡ 119
       → Passing s a x ls old
   pass_begins s a x ls e f r v u ps tb pl l =
       let k = sym (begins_known t s a x e f r v u ps tb pl) in
@@ -77,7 +79,7 @@ module _ (t sizes : List ℕ) (end : ℕ) (old : List ℕ) where
   module _ (able : Writable t sizes end old) where
     exact : (j : ℕ) → j < count → Exact sizes (nth all.definitions j) j
     exact j l =
-        let r = able.rows j l in
+        let r = able.sizes j l in
         let m = limits all.definitions able.limits j l in
         let few_d = m.0 in
         let few_r = m.1 in
@@ -91,7 +93,7 @@ module _ (t sizes : List ℕ) (end : ℕ) (old : List ℕ) where
     last : first_at sizes end count ≡ end + length (code_of all.definitions)
     last = first_is sizes end all.definitions exact
 
-    module _ (s : Reading) (a : ℕ) (x : Kept) (ls out : List ℕ) (h : Passing s a x ls out) where
+    module _ (s : Reading) (a : ℕ) (x : Knowing) (ls out : List ℕ) (h : Passing s a x ls out) where
       pub pass_few : x.tree.definitions ≤ 32
       pass_few = let d = h.gathering.grown.definitions in let f = h.gathering.counted.few in omega arith
 
@@ -119,7 +121,7 @@ module _ (t sizes : List ℕ) (end : ℕ) (old : List ℕ) where
 
           abbrev more : Added
           more =
-              adds t (word_of t a) x.tally x.tree x.places x.pile cursor ls out r
+              adds t (word_of t a) x cursor ls out r
 
           lays_after : Lays after more.output more.locations
           unfolding word_of
@@ -135,7 +137,7 @@ module _ (t sizes : List ℕ) (end : ℕ) (old : List ℕ) where
               in
               let fits = able.room in
               let q = last in
-              word_lays count sizes end old (omega arith) n t k x.tally x.tree x.places x.table x.pile
+              word_lays count sizes end old (omega arith) n t k x
               (first_at sizes end x.tree.definitions) out ls h.gathering.named h.gathering.grown refl
               (h.laying before) before a (word_of t a) r c.few_sources c.few apt ready g
               (sane_after.clean g.clean)
@@ -146,8 +148,7 @@ module _ (t sizes : List ℕ) (end : ℕ) (old : List ℕ) where
           pass_next b e =
               let known = sym (taken_known t s a x h.gathering l b r s₂ e step) in
               let long =
-              adds_long (length old) cursor ls out h.long_out h.long_ls t (word_of t a) x.tally x.tree
-              x.places x.pile r
+              adds_long (length old) cursor ls out h.long_out h.long_ls t (word_of t a) x r
               in
               record {
                 gathering = gather_taken t s a x h.gathering l b r s₂ e step;
@@ -158,20 +159,20 @@ module _ (t sizes : List ℕ) (end : ℕ) (old : List ℕ) where
               }
 
         -- the word ends before e, as the code has it
-        pub pass_goes : (e : ℕ) → e ≡ word_end t a → (b : ℕ) (r : Role) (s₂ : Reading) (y : Kept)
+        pub pass_goes : (e : ℕ) → e ≡ word_end t a → (b : ℕ) (r : Role) (s₂ : Reading) (y : Knowing)
             (ls₂ out₂ : List ℕ) → b ≡ word_start t e → step_of s (class_of (bytes_of t a e)) ≡ takes r s₂
             → y ≡ learnt t a (bytes_of t a e) x r
-            → added out₂ ls₂ ≡ adds t (bytes_of t a e) x.tally x.tree x.places x.pile cursor ls out r
+            → added out₂ ls₂ ≡ adds t (bytes_of t a e) x cursor ls out r
             → Passing s₂ b y ls₂ out₂
         unfolding word_of added
         pass_goes e q b r s₂ y ls₂ out₂ p f g m =
             let w : bytes_of t a e ≡ word_of t a = ap (bytes_of t a) q in
-            let same = m ∙ ap (λ (z : List ℕ). adds t z x.tally x.tree x.places x.pile cursor ls out r) w in
+            let same = m ∙ ap (λ (z : List ℕ). adds t z x cursor ls out r) w in
             let next =
             pass_next r s₂ (ap (λ (z : List ℕ). step_of s (class_of z)) (sym w) ∙ f) b
             (p ∙ ap (word_start t) q)
             in
-            subst (λ (z : Kept). Passing s₂ b z ls₂ out₂)
+            subst (λ (z : Knowing). Passing s₂ b z ls₂ out₂)
             (sym (g ∙ ap (λ (z : List ℕ). learnt t a z x r) w))
             (subst (λ (z : Added). Passing s₂ b (learnt t a (word_of t a) x r) z.locations z.output) (sym same)
             next)

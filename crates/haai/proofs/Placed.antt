@@ -1,15 +1,23 @@
 -- Laws of names by their places: the first that is a word, one name more, and what a new place leaves as it was.
 use Rattle.std.specs.Prelude.{ℕ, zero, suc, ◌+◌, ◌-◌, ◌≤◌, ◌<◌, ◌≡◌, refl, ◌⊎◌, Bool, true}
 use Rattle.std.proofs.Common.{sym, ◌∙◌, ap, inl, inr}
+use Rattle.std.specs.Prelude.{not, drop}
+use Rattle.std.specs.List.{position_or_len}
 use Rattle.std.specs.Prelude.{false, List, [], ◌∷◌, ◌++◌, length, get_or, set, take}
 use Rattle.std.proofs.Common.{arith}
 use lib.ListN.{drop_of_length-le}
-use lib.Seq.{get_or-set_same, get_or-set_other}
+use lib.Seq.{get_or-set_same, get_or-set_other, drop-cons}
 use Rattle.value.specs.Test.{◌<?◌, ◌=?◌, ◌or◌}
-use Rattle.value.proofs.Tests.{cases, yes, no, eq!, eq×, lt!, lt×, lt?, same_test}
+use Rattle.value.proofs.Tests.{cases, goes, stops, yes, no, eq!, eq×, lt!, lt×, lt?, lt×?, same_test}
 use Rattle.haai.specs.Word.{same_word, position, among, bytes_of, word_end}
 use Rattle.haai.specs.Names.{unless}
-use Rattle.haai.specs.Places.{place_at, word_of, names_at, blamed, held}
+use Rattle.std.specs.Prelude.{cond, Option, Some, None}
+use Rattle.std.specs.Option.{unwrap_or}
+use Rattle.std.proofs.Common.{ap₂}
+use lib.Dec.{ltb}
+use Rattle.value.specs.Test.{pick}
+use Rattle.haai.specs.Clauses.{words_at, place_in}
+use Rattle.haai.specs.Places.{place_at, word_of, names_at, held}
 use Rattle.haai.specs.declared.Tally.{Tally}
 use Rattle.haai.proofs.Words.{position_here, position_next, position_none}
 
@@ -39,47 +47,40 @@ module _ (t ps : List ℕ) where
   unfolding names_at
   one n i = refl
 
-  module _ (w : List ℕ) (from n i : ℕ) where
-    abbrev pub rest : ℕ
-    rest = position (names_at t ps (from + i) (n - i)) w
+words_none : (t ps : List ℕ) → words_at t (take 0 ps) ≡ []
+unfolding words_at
+words_none t [] = refl
+words_none t (a ∷ ps) = refl
 
-    first : i < n
-        → names_at t ps (from + i) (n - i)
-        ≡ word_of t (place_at ps (from + i)) ∷ names_at t ps (from + (i + 1)) (n - (i + 1))
-    first h =
-        let e : n - i ≡ suc (n - (i + 1)) = omega arith in
-        let f : from + i + 1 ≡ from + (i + 1) = omega arith in
-        ap (λ (k : ℕ). names_at t ps (from + i) k) e
-        ∙ one (n - (i + 1)) (from + i)
-        ∙ ap (λ (k : ℕ). word_of t (place_at ps (from + i)) ∷ names_at t ps k (n - (i + 1))) f
+words_one : (t : List ℕ) (n a : ℕ) (ps : List ℕ) → words_at t (take (suc n) (a ∷ ps)) ≡ word_of t a ∷ words_at t (take n ps)
+unfolding words_at
+words_one t n a ps = refl
 
-    pub found_from_start : position (names_at t ps from n) w ≡ 0 + position (names_at t ps (from + 0) (n - 0)) w
-    found_from_start =
-        let e : from + 0 ≡ from = omega arith in
-        let f : n - 0 ≡ n = omega arith in
-        let y = ap (λ (k : ℕ). position (names_at t ps k n) w) (sym e) in
-        let z = ap (λ (k : ℕ). position (names_at t ps (from + 0) k) w) (sym f) in
-        omega arith
+-- the words that begin at n places from i on
+pub words_are : (t ps : List ℕ) (n i : ℕ) → i + n ≤ length ps → words_at t (take n (drop i ps)) ≡ names_at t ps i n
+unfolding names_at place_at
+words_are t ps zero i l = words_none t (drop i ps)
+words_are t ps (suc n) i l =
+    let f : i + 1 ≡ suc i = omega arith in
+    let d : drop i ps ≡ get_or ps i 0 ∷ drop (i + 1) ps = rw f (drop-cons ps i 0 (omega arith)) in
+    ap (λ (qs : List ℕ). words_at t (take (suc n) qs)) d
+    ∙ words_one t n (get_or ps i 0) (drop (i + 1) ps)
+    ∙ ap (λ (l : List (List ℕ)). word_of t (get_or ps i 0) ∷ l) (words_are t ps n (i + 1) (omega arith))
 
-    pub found_here : i < n → same_word (word_of t (place_at ps (from + i))) w ≡ true → i ≡ i + rest
-    found_here h e =
-        let z : 0 ≡ rest = position_here _ _ w e ∙ ap (λ (l : List (List ℕ)). position l w) (sym (first h)) in
-        omega arith
+-- the first of the words at these places that is w
+pub position_at : (t w : List ℕ) (ps : List ℕ)
+    → position (words_at t ps) w ≡ position_or_len (λ a. same_word (word_of t a) w) ps
+unfolding words_at position
+position_at t w [] = refl
+position_at t w (a ∷ ps) =
+    cases (same_word (word_of t a) w)
+    (λ e. sym (stops _ (ap not e) refl) ∙ rw e)
+    (λ e. sym (goes _ _ (ap not e) refl) ∙ rw e (ap (λ (n : ℕ). 1 + n) (position_at t w ps)))
 
-    pub found_later : i < n → same_word (word_of t (place_at ps (from + i))) w ≡ false
-        → i + rest ≡ i + 1 + position (names_at t ps (from + (i + 1)) (n - (i + 1))) w
-    found_later h e =
-        let next = position (names_at t ps (from + (i + 1)) (n - (i + 1))) w in
-        let y = ap (λ (l : List (List ℕ)). position l w) (sym (first h)) in
-        let z : 1 + next ≡ rest = position_next _ _ w _ e refl ∙ y in
-        omega arith
-
-    pub found_nowhere : n ≤ i → i ≡ i + rest
-    unfolding names_at
-    found_nowhere h =
-        let e : n - i ≡ 0 = omega arith in
-        let z : 0 ≡ rest = position_none w ∙ ap (λ (k : ℕ). position (names_at t ps (from + i) k) w) (sym e) in
-        omega arith
+pub length_words : (t ps : List ℕ) → length (words_at t ps) ≡ length ps
+unfolding words_at
+length_words t [] = refl
+length_words t (a ∷ ps) = ap suc (length_words t ps)
 
 -- ---- a word among two lists
 
@@ -148,40 +149,6 @@ names_more t ps (suc n) i a h =
     let g = get_or-set_other ps (i + 1 + n) i a 0 (λ q. omega arith) in
     rw (e, f, g) (ap (λ (l : List (List ℕ)). word_of t (get_or ps i 0) ∷ l) (names_more t ps n (i + 1) a (omega arith)))
 
--- ---- faults
-
-module _ (v : Tally) (q : ℕ) (ok : Bool) where
-  abbrev pub faulted : ℕ → Tally
-  faulted f =
-      record {
-        fault = f;
-        sources = v.sources;
-        reactors = v.reactors;
-        names = v.names;
-        own = v.own;
-        at = v.at;
-      }
-
-  with_fault : {f : ℕ} → f ≡ unless ok q v.fault → faulted f ≡ blamed ok q v
-  unfolding blamed
-  with_fault e = ap (λ (f : ℕ). faulted f) e
-
-  pub blame_none : ok ≡ true → v ≡ blamed ok q v
-  unfolding unless
-  blame_none e = with_fault (yes _ e refl)
-
-  pub blame_later : ok ≡ false → v.fault ≤ q → v ≡ blamed ok q v
-  unfolding unless
-  blame_later e l = with_fault (no _ e (no _ (lt× l) refl))
-
-  pub blame_lower : ok ≡ false → q < v.fault → faulted q ≡ blamed ok q v
-  unfolding unless
-  blame_lower e l = with_fault (no _ e (yes _ (lt! l) refl))
-
-  pub blamed_fault : (k : Tally) → k ≡ blamed ok q v → (t : Bool) → ok ≡ t → k.fault ≡ unless t q v.fault
-  unfolding blamed
-  blamed_fault k e t f = ap (λ (x : Tally). x.fault) e ∙ ap (λ (b : Bool). unless b q v.fault) f
-
 pub held_same : {v u : Tally} {ps qs : List ℕ} → v ≡ u → ps ≡ qs → held v ps ≡ held u qs
 held_same p q = λ i. held (p i) (q i)
 
@@ -194,15 +161,47 @@ position_le (x ∷ xs) w =
     (λ e. let z = position_here x xs w e in omega arith)
     (λ e. let z = position_next x xs w _ e refl in let l = position_le xs w in omega arith)
 
-pub place_le : (t ps w : List ℕ) (i n p : ℕ) → p ≡ position (names_at t ps i n) w → p ≤ n
-place_le t ps w i n p e = let l = position_le (names_at t ps i n) w in let z = length_names t ps n i in omega arith
+-- ---- the code's place of a word, if it is there
 
--- the code's place, against how many names there are
-module _ (t ps w : List ℕ) (i n p : ℕ) (e : p ≡ position (names_at t ps i n) w) where
-  pub place_among : p < n → among (names_at t ps i n) w ≡ true
-  unfolding among
-  place_among h = let z = length_names t ps n i in lt! (omega arith)
+cond_pick : {A : Type 0} (b : Bool) (x y : A) → cond b x y ≡ pick b x y
+unfolding pick
+cond_pick true x y = refl
+cond_pick false x y = refl
 
-  pub place_not_among : n ≤ p → among (names_at t ps i n) w ≡ false
-  unfolding among
-  place_not_among h = let z = length_names t ps n i in lt× (omega arith)
+pub place_found : (t w ps : List ℕ)
+    → cond (ltb (position_or_len (λ a. same_word (word_of t a) w) ps) (length ps))
+    (Some (position_or_len (λ a. same_word (word_of t a) w) ps)) None
+    ≡ place_in (words_at t ps) w
+unfolding place_in among ◌<?◌
+place_found t w ps =
+    let p = sym (position_at t w ps) in
+    let n = sym (length_words t ps) in
+    ap₂ (λ (i j : ℕ). cond (ltb i j) (Some i) None) p n
+    ∙ cond_pick (ltb (position (words_at t ps) w) (length (words_at t ps))) (Some (position (words_at t ps) w)) None
+
+module _ (ns : List (List ℕ)) (w : List ℕ) where
+  pub found_at : (p : ℕ) → Some p ≡ place_in ns w → (among ns w ≡ true) × (p ≡ position ns w)
+  unfolding place_in
+  found_at p e =
+      cases (among ns w)
+      (λ q. let z : Some p ≡ Some (position ns w) = e ∙ sym (yes _ q refl) in (q, cc))
+      (λ q. let z : Some p ≡ None = e ∙ sym (no _ q refl) in absurd (cc))
+
+  pub found_none : None ≡ place_in ns w → among ns w ≡ false
+  unfolding place_in
+  found_none e =
+      cases (among ns w)
+      (λ q. let z : None ≡ Some (position ns w) = e ∙ sym (yes _ q refl) in absurd (cc))
+      (λ q. q)
+
+  -- after them all where there is none
+  pub found_or : (n : ℕ) → n ≡ length ns → unwrap_or (place_in ns w) n ≡ position ns w
+  unfolding place_in among
+  found_or n e =
+      cases (position ns w <? length ns)
+      (λ q. ap (λ (o : Option ℕ). unwrap_or o n) (sym (yes {z = Some (position ns w)} None q refl)))
+      (λ q.
+      let l : length ns ≤ position ns w = lt×? q in
+      let m = position_le ns w in
+      let z : n ≡ position ns w = omega arith in
+      ap (λ (o : Option ℕ). unwrap_or o n) (sym (no {z = None} (Some (position ns w)) q refl)) ∙ z)

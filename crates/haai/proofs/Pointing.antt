@@ -4,9 +4,11 @@ use Rattle.std.proofs.Common.{sym, ◌∙◌, ap}
 use Rattle.std.proofs.Common.{arith}
 use Rattle.value.specs.Test.{pick, ◌<?◌, ◌≤?◌}
 use Rattle.value.proofs.Tests.{pick_any, lt×?, le!, le×, eq!, eq×, yes, no}
-use Rattle.program.specs.Bytes.{byte}
+use Rattle.haai.specs.declared.Size.{Size}
+use Rattle.haai.specs.declared.Application.{Application}
+use Rattle.haai.specs.Tables.{size_at}
 use Rattle.haai.specs.Names.{Opened, Known}
-use Rattle.haai.specs.Tables.{counted, innermost, declared_from}
+use Rattle.haai.specs.Tables.{counted, opened_at}
 use Rattle.haai.specs.Writing.{deployment_loc, location_r, first_at, cursor_of, operands_so_far, few, entry_for}
 use Rattle.haai.specs.Writing.{next_entry, outer_entry}
 use Rattle.haai.specs.declared.Cursor.{Cursor}
@@ -14,6 +16,7 @@ use Rattle.haai.specs.declared.Tally.{Tally}
 use Rattle.haai.specs.declared.Tree.{Tree}
 use Rattle.haai.proofs.Placed.{length_names}
 use Rattle.haai.proofs.Imaged.{Named}
+use Rattle.haai.proofs.Growing.{innermost_is}
 use Rattle.haai.proofs.Grown.{calls_open, steps_open, PileIs, Grown}
 use Rattle.haai.proofs.Counts.{counted_exact}
 use Rattle.haai.proofs.Noting.{top_count}
@@ -22,7 +25,7 @@ use Rattle.haai.proofs.Laying.{base_of, Pointed}
 
 -- ---- the cursor
 
-module _ (count : ℕ) (sizes : List ℕ) (end : ℕ) (t : List ℕ) (k : Known) (v : Tally) (u : Tree) (ps tb pl : List ℕ)
+module _ (count : ℕ) (sizes : List Size) (end : ℕ) (t : List ℕ) (k : Known) (v : Tally) (u : Tree) (ps : List ℕ) (tb : List Size) (pl : List Application)
     (first : ℕ) where
   pub pointed : Named t k v ps → Grown k u tb pl
       → Midst count sizes (length k.definitions) k.body k.pile
@@ -36,12 +39,12 @@ module _ (count : ℕ) (sizes : List ℕ) (end : ℕ) (t : List ℕ) (k : Known)
       record {
         first = at;
         parameters = sym (length_names t ps (v.names - v.own) (63 + v.own)) ∙ ap length named.parameters;
-        declared = ap (λ (j : ℕ). byte sizes (declared_from + j)) grown.definitions;
+        declared = ap (λ (j : ℕ). (size_at sizes j).declared) grown.definitions;
         calls = grown.calls ∙ counted_exact (calls_open k.body k.pile) (omega arith);
         steps = grown.steps ∙ counted_exact (steps_open k.body k.pile) (omega arith);
       }
 
-module _ (count : ℕ) (sizes : List ℕ) (end : ℕ) (k : Known) (c : Cursor) (p : Pointed sizes end c k)
+module _ (count : ℕ) (sizes : List Size) (end : ℕ) (k : Known) (c : Cursor) (p : Pointed sizes end c k)
     (m : Midst count sizes (length k.definitions) k.body k.pile) (seven : length k.parameters ≤ 7) where
   pub location_is : (x : ℕ) → x ≤ 8 → location_r c x ≡ base_of sizes k + (steps_open k.body k.pile + x)
   unfolding location_r
@@ -78,7 +81,7 @@ entry_is i m l n e f h =
     let c = few_exact m (omega arith) in
     omega arith
 
-module _ (k : Known) (u : Tree) (tb pl : List ℕ) (h : Grown k u tb pl) where
+module _ (k : Known) (u : Tree) (tb : List Size) (pl : List Application) (h : Grown k u tb pl) where
   so_far : (os : List Opened) → k.pile ≡ os → operands_so_far u pl ≡ counted (top_count k.body os)
   unfolding operands_so_far top_count
   so_far [] e =
@@ -89,9 +92,9 @@ module _ (k : Known) (u : Tree) (tb pl : List ℕ) (h : Grown k u tb pl) where
   so_far (o ∷ os) e =
       let l = h.level in
       let z : length k.pile ≡ suc (length os) = ap length e in
-      let x : innermost u 2 ≡ 3 * length os + 2 = omega arith in
       let q : PileIs pl (o ∷ os) = rw e at h.pile in
-      sym (no _ (eq× (λ w. omega arith)) refl) ∙ ap (λ (j : ℕ). get_or pl j 0) x ∙ q.2
+      sym (no _ (eq× (λ w. omega arith)) refl)
+      ∙ ap (λ (y : Application). y.operands) (innermost_is k u tb pl h o os e) ∙ q.2
 
   pub next_entry_lem : top_count k.body k.pile < 7
       → next_entry u pl ≡ 7 * length k.pile + top_count k.body k.pile
@@ -101,7 +104,7 @@ module _ (k : Known) (u : Tree) (tb pl : List ℕ) (h : Grown k u tb pl) where
       (so_far k.pile refl) l
 
   outer : (o : Opened) (os : List Opened) → k.pile ≡ o ∷ os
-      → pick (u.level ≤? 1) u.count (get_or pl (3 * (u.level - 2) + 2) 0) ≡ counted (top_count k.body os)
+      → pick (u.level ≤? 1) u.count (opened_at pl (u.level - 2)).operands ≡ counted (top_count k.body os)
   unfolding top_count
   outer o [] e =
       let l = h.level in
@@ -112,9 +115,9 @@ module _ (k : Known) (u : Tree) (tb pl : List ℕ) (h : Grown k u tb pl) where
       let l = h.level in
       let z : length k.pile ≡ suc (suc (length os)) = ap length e in
       let y : 1 < u.level = omega arith in
-      let x : 3 * (u.level - 2) + 2 ≡ 3 * length os + 2 = omega arith in
+      let x : u.level - 2 ≡ length os = omega arith in
       let q : PileIs pl (o ∷ o₂ ∷ os) = rw e at h.pile in
-      sym (no _ (le× y) refl) ∙ ap (λ (j : ℕ). get_or pl j 0) x ∙ q.3.2
+      sym (no _ (le× y) refl) ∙ ap (λ (j : ℕ). (opened_at pl j).operands) x ∙ q.3.2
 
   pub outer_entry_lem : (o : Opened) (os : List Opened) → k.pile ≡ o ∷ os → top_count k.body os < 7
       → outer_entry u pl ≡ 7 * length os + top_count k.body os

@@ -4,6 +4,7 @@ use Rattle.std.proofs.Common.{sym, ◌∙◌, ap, ap₂, ⊎_elim}
 use Rattle.std.specs.Prelude.{List, [], ◌∷◌, ◌++◌, length, get_or, set, take, drop, replicate}
 use Rattle.std.proofs.Common.{append_assoc, arith}
 use native.Mathlib.Numerals.{add-one}
+use Rattle.std.proofs.lemmas.List.{drop-drop}
 use lib.ListN.{take-append-drop, length-set, length-append, length-replicate}
 use lib.Seq.{take-suc-set, drop-set-lt}
 use Rattle.value.specs.Test.{pick, ◌≤?◌}
@@ -13,10 +14,11 @@ use Rattle.program.specs.Command.{Cmd, gives, supply, react, sink, consume}
 use Rattle.program.specs.Encode.{eight, encode, encode_give}
 use Rattle.image.specs.Memory.{patch}
 use Rattle.image.proofs.Memory.Patch.{patch-length}
+use Rattle.haai.specs.declared.Size.{Size}
+use Rattle.haai.specs.Tables.{no_size}
 use Rattle.haai.specs.Emit.{supplies, sinks_from, header_bytes}
-use Rattle.haai.specs.Tables.{sinks_from as sinks_row, declared_from, running_from}
 use Rattle.haai.specs.Writing.{put_eight, put_command, put_commands, place_r, deployment_loc, row_of, call_r, added, few}
-use Rattle.haai.specs.Writing.{first_at, shapes_by, entries_by, tables_of}
+use Rattle.haai.specs.Writing.{shapes_by, entries_by, tables_of}
 use Rattle.haai.specs.declared.Cursor.{Cursor}
 
 -- ---- stretches
@@ -56,77 +58,54 @@ patch_four m i a b c d h =
     ∙ patch_more (set m i a) (i + 1) (i + 2) b (c ∷ d ∷ []) (rw length-set (omega arith)) (omega arith)
     ∙ patch_more m i (i + 1) a (b ∷ c ∷ d ∷ []) (omega arith) refl
 
--- ---- rows put one after the other
+-- what a slice of m has become
+pub patch_mid : (m xs : List ℕ) (i n : ℕ) → n ≡ length xs → take i m ++ (xs ++ drop n (drop i m)) ≡ patch m i xs
+unfolding patch
+patch_mid m xs i n e =
+    ap (λ (k : ℕ). take i m ++ (xs ++ drop k (drop i m))) e
+    ∙ ap (λ (l : List ℕ). take i m ++ (xs ++ l)) (drop-drop (length xs) i m)
 
-unfoldable pub rows : (ℕ → List ℕ) → ℕ → ℕ → List ℕ
-rows r j zero = []
-rows r j (suc n) = r j ++ rows r (j + 1) n
+-- ---- shapes and entries, one after the other
 
--- the rows before j are in `out`, and the others follow from byte p on
-pub record Rowing (r : ℕ → List ℕ) (n at : ℕ) (old out : List ℕ) (j p : ℕ) : Type 0 where
-  pub rest : patch out p (rows r j (n - j)) ≡ patch old at (rows r 0 n)
-  pub within : j ≤ n
-  pub long : length out ≡ length old
+pub shapes_more : (zs : List Size) (j : ℕ) → j < length zs
+    → shapes_by (take (j + 1) zs)
+    ≡ shapes_by (take j zs) ++ ((get_or zs j no_size).parameters ∷ (get_or zs j no_size).sinks ∷ replicate 14 0)
+unfolding shapes_by
+shapes_more [] j h = absurd (omega arith)
+shapes_more (z ∷ zs) zero h = refl
+shapes_more (z ∷ zs) (suc j) h =
+    let e : suc j + 1 ≡ suc (j + 1) = omega arith in
+    rw e
+    (ap (λ (l : List ℕ). (z.parameters ∷ z.sinks ∷ replicate 14 0) ++ l) (shapes_more zs j (omega arith)))
 
-module _ (r : ℕ → List ℕ) (n at : ℕ) (old : List ℕ) where
-  pub rowing_begins : (p : ℕ) → p ≡ at → Rowing r n at old old 0 p
-  rowing_begins p e =
-      let f : n - 0 ≡ n = omega arith in
-      record { rest = rw (e, f); within = omega arith; long = refl }
+pub entries_more : (i : ℕ) (zs : List Size) (j : ℕ) → j < length zs
+    → entries_by i (take (j + 1) zs)
+    ≡ entries_by i (take j zs) ++ ((i + j) ∷ (get_or zs j no_size).declared ∷ (get_or zs j no_size).running ∷ 0 ∷ [])
+unfolding entries_by
+entries_more i [] j h = absurd (omega arith)
+entries_more i (z ∷ zs) zero h = let e : i + 0 ≡ i = omega arith in rw e
+entries_more i (z ∷ zs) (suc j) h =
+    let e : suc j + 1 ≡ suc (j + 1) = omega arith in
+    let f : i + suc j ≡ i + 1 + j = omega arith in
+    rw (e, f)
+    (ap (λ (l : List ℕ). i ∷ z.declared ∷ z.running ∷ 0 ∷ l) (entries_more (i + 1) zs j (omega arith)))
 
-  pub rowing_goes : (out new : List ℕ) (j p q : ℕ) → Rowing r n at old out j p → j < n → q ≡ p + length (r j) →
-      q ≤ length old → new ≡ patch out p (r j) → Rowing r n at old new (j + 1) q
-  unfolding rows
-  rowing_goes out new j p q f h e room m =
-      let s : n - j ≡ suc (n - (j + 1)) = omega arith in
-      let w : p + length (r j) ≤ length out = omega (arith, f.long) in
-      record {
-        rest =
-            ap (λ (x : List ℕ). patch x q (rows r (j + 1) (n - (j + 1)))) m
-            ∙ patch_on out p (r j) q (rows r (j + 1) (n - (j + 1))) w e
-            ∙ ap (λ (k : ℕ). patch out p (rows r j k)) (sym s) ∙ f.rest;
-        within = omega arith;
-        long = ap length m ∙ patch-length out p (r j) w ∙ f.long;
-      }
+pub length_shapes : (zs : List Size) → length (shapes_by zs) ≡ 16 * length zs
+unfolding shapes_by
+length_shapes [] = refl
+length_shapes (z ∷ zs) = simp length-append (omega (arith, length_shapes zs))
 
-  pub rowing_ends : (out : List ℕ) (j p : ℕ) → Rowing r n at old out j p → n ≤ j → out ≡ patch old at (rows r 0 n)
-  unfolding rows
-  rowing_ends out j p f h =
-      let s : n - j ≡ 0 = omega arith in
-      sym (patch_nothing out p) ∙ ap (λ (k : ℕ). patch out p (rows r j k)) (sym s) ∙ f.rest
+pub length_entries : (j : ℕ) (zs : List Size) → length (entries_by j zs) ≡ 4 * length zs
+unfolding entries_by
+length_entries j [] = refl
+length_entries j (z ∷ zs) = omega (arith, length_entries (j + 1) zs)
 
--- zeros, shapes and entries as rows
-unfoldable pub shape_row : List ℕ → ℕ → List ℕ
-shape_row tb j = byte tb j ∷ byte tb (sinks_row + j) ∷ replicate 14 0
-
-unfoldable pub entry_row : List ℕ → ℕ → List ℕ
-entry_row tb j = j ∷ byte tb (declared_from + j) ∷ byte tb (running_from + j) ∷ 0 ∷ []
-
-pub zero_rows : (j n : ℕ) → rows (λ _. 0 ∷ []) j n ≡ replicate n 0
-unfolding rows
-zero_rows j zero = refl
-zero_rows j (suc n) = ap (λ (l : List ℕ). 0 ∷ l) (zero_rows (j + 1) n)
-
-module _ (tb : List ℕ) where
-  pub shape_rows : (j n : ℕ) → rows (shape_row tb) j n ≡ shapes_by tb j n
-  unfolding rows shapes_by shape_row
-  shape_rows j zero = refl
-  shape_rows j (suc n) = ap (λ (l : List ℕ). shape_row tb j ++ l) (shape_rows (j + 1) n)
-
-  pub entry_rows : (j n : ℕ) → rows (entry_row tb) j n ≡ entries_by tb j n
-  unfolding rows entries_by entry_row
-  entry_rows j zero = refl
-  entry_rows j (suc n) = ap (λ (l : List ℕ). entry_row tb j ++ l) (entry_rows (j + 1) n)
-
-  pub length_shapes : (j n : ℕ) → length (shapes_by tb j n) ≡ 16 * n
-  unfolding shapes_by
-  length_shapes j zero = refl
-  length_shapes j (suc n) = simp length-append (omega (arith, length_shapes (j + 1) n))
-
-  pub length_entries : (j n : ℕ) → length (entries_by tb j n) ≡ 4 * n
-  unfolding entries_by
-  length_entries j zero = refl
-  length_entries j (suc n) = omega (arith, length_entries (j + 1) n)
+-- one more stretch put after those that are there
+module _ (old out new xs ys : List ℕ) (at p : ℕ) (e : out ≡ patch old at xs) (q : p ≡ at + length xs)
+    (room : p + length ys ≤ length old) (put : new ≡ patch out p ys) where
+  pub stretch_more : new ≡ patch old at (xs ++ ys)
+  stretch_more =
+      put ∙ ap (λ (m : List ℕ). patch m p ys) e ∙ patch_on old at xs p ys (omega arith) q
 
 -- ---- commands
 
@@ -149,48 +128,37 @@ module _ (out : List ℕ) (at code x a b v : ℕ) where
   unfolding put_eight put_command
   eight_is c e = ap (λ (l : List ℕ). pick (at + 8 ≤? length out) (patch out at l) out) e
 
-  -- four bytes and four bytes
-  pub eight_parts : (mid new : List ℕ) → at + 8 ≤ length out → mid ≡ patch out at (code ∷ x ∷ a ∷ b ∷ []) →
-      new ≡ patch mid (at + 4) (v % 256 ∷ v / 256 % 256 ∷ v / 65536 % 256 ∷ v / 16777216 % 256 ∷ []) →
-      new ≡ put_eight out at code x a b v
-  unfolding eight
-  eight_parts mid new h e f =
-      let four = v % 256 ∷ v / 256 % 256 ∷ v / 65536 % 256 ∷ v / 16777216 % 256 ∷ [] in
-      f ∙ ap (λ (m : List ℕ). patch m (at + 4) four) e
-      ∙ patch_on out at (code ∷ x ∷ a ∷ b ∷ []) (at + 4) four (omega arith) refl ∙ sym (eight_put h)
-
 -- a shape is two commands' bytes
-pub shape_put : (tb : List ℕ) (j : ℕ) (out mid new : List ℕ) (p x y : ℕ) → p + 16 ≤ length out → x ≡ byte tb j →
-    y ≡ byte tb (sinks_row + j) → mid ≡ put_eight out p x y 0 0 0 → new ≡ put_eight mid (p + 8) 0 0 0 0 0 →
-    new ≡ patch out p (shape_row tb j)
-unfolding shape_row eight
-shape_put tb j out mid new p x y h ex ey e f =
+pub shape_put : (out mid new : List ℕ) (p x y : ℕ) → p + 16 ≤ length out → mid ≡ put_eight out p x y 0 0 0
+    → new ≡ put_eight mid (p + 8) 0 0 0 0 0 → new ≡ patch out p (x ∷ y ∷ replicate 14 0)
+unfolding eight
+shape_put out mid new p x y h e f =
     let m = e ∙ eight_put out p x y 0 0 0 (omega arith) in
     let long = ap length e ∙ eight_length out p x y 0 0 0 in
     f ∙ eight_put mid (p + 8) 0 0 0 0 0 (omega (arith, long))
     ∙ ap (λ (o : List ℕ). patch o (p + 8) (eight 0 0 0 0 0)) m
     ∙ patch_on out p (eight x y 0 0 0) (p + 8) (eight 0 0 0 0 0) (omega arith) refl
-    ∙ ap₂ (λ (k l : ℕ). patch out p (k ∷ l ∷ replicate 14 0)) ex ey
 
 -- header, kinds, shapes and entries
-pub table_parts : (tb : List ℕ) (n g : ℕ) (out o₁ o₂ o₃ o₄ : List ℕ) → 8 + g + 20 * n ≤ length out →
-    o₁ ≡ put_eight out 0 1 n n g 0 → o₂ ≡ patch o₁ 8 (replicate g 0) → o₃ ≡ patch o₂ (8 + g) (shapes_by tb 0 n) →
-    o₄ ≡ patch o₃ (8 + g + 16 * n) (entries_by tb 0 n) → o₄ ≡ patch out 0 (tables_of tb n g)
+pub table_parts : (zs : List Size) (n g : ℕ) (out o₁ o₂ o₃ o₄ : List ℕ) → n ≡ length zs → 8 + g + 20 * n ≤ length out →
+    o₁ ≡ put_eight out 0 1 n n g 0 → o₂ ≡ patch o₁ 8 (replicate g 0) → o₃ ≡ patch o₂ (8 + g) (shapes_by zs) →
+    o₄ ≡ patch o₃ (8 + g + 16 * n) (entries_by 0 zs) → o₄ ≡ patch out 0 (tables_of zs g)
 unfolding tables_of header_bytes eight
-table_parts tb n g out o₁ o₂ o₃ o₄ h e₁ e₂ e₃ e₄ =
-    let zs = replicate {A = ℕ} g 0 in
-    let ss = shapes_by tb 0 n in
-    let es = entries_by tb 0 n in
-    let lz : length zs ≡ g = length-replicate g 0 in
-    let ls = length_shapes tb 0 n in
+table_parts zs n g out o₁ o₂ o₃ o₄ same h e₁ e₂ e₃ e₄ =
+    let gs = replicate {A = ℕ} g 0 in
+    let ss = shapes_by zs in
+    let es = entries_by 0 zs in
+    let lz : length gs ≡ g = length-replicate g 0 in
+    let ls = length_shapes zs in
     let long₁ = ap length e₁ ∙ eight_length out 0 1 n n g 0 in
-    let long₂ = ap length e₂ ∙ patch-length o₁ 8 zs (omega (arith, lz, long₁)) in
+    let long₂ = ap length e₂ ∙ patch-length o₁ 8 gs (omega (arith, lz, long₁)) in
     e₄ ∙ ap (λ (o : List ℕ). patch o (8 + g + 16 * n) es) e₃
     ∙ patch_on o₂ (8 + g) ss (8 + g + 16 * n) es (omega (arith, ls, long₁, long₂)) (omega (arith, ls))
     ∙ ap (λ (o : List ℕ). patch o (8 + g) (ss ++ es)) e₂
-    ∙ patch_on o₁ 8 zs (8 + g) (ss ++ es) (omega (arith, lz, long₁)) (omega (arith, lz))
-    ∙ ap (λ (o : List ℕ). patch o 8 (zs ++ (ss ++ es))) (e₁ ∙ eight_put out 0 1 n n g 0 (omega arith))
-    ∙ patch_on out 0 (eight 1 n n g 0) 8 (zs ++ (ss ++ es)) (omega arith) refl
+    ∙ patch_on o₁ 8 gs (8 + g) (ss ++ es) (omega (arith, lz, long₁)) (omega (arith, lz))
+    ∙ ap (λ (o : List ℕ). patch o 8 (gs ++ (ss ++ es))) (e₁ ∙ eight_put out 0 1 n n g 0 (omega arith))
+    ∙ patch_on out 0 (eight 1 n n g 0) 8 (gs ++ (ss ++ es)) (omega arith) refl
+    ∙ ap (λ (m : ℕ). patch out 0 (header_bytes m g ++ (gs ++ (ss ++ es)))) same
 
 pub puts_append : (out : List ℕ) (at j : ℕ) (cs ds : List Cmd) → j ≡ at + 8 * length cs →
     put_commands out at (cs ++ ds) ≡ put_commands (put_commands out at cs) j ds
@@ -293,8 +261,3 @@ few_above n h = no _ (lt× h) refl
 
 pub few_most : (n : ℕ) → few n ≤ 7
 few_most n = ⊎_elim (λ h. omega (arith, few_below n h)) (λ h. omega (arith, few_above n h)) (below n 7)
-
-pub first_more : (tb : List ℕ) (end j : ℕ) →
-    first_at tb end (j + 1) ≡ first_at tb end j + 8 * (byte tb (declared_from + j) + byte tb (running_from + j))
-unfolding first_at
-first_more tb end j = rw add-one

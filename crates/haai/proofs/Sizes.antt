@@ -1,54 +1,60 @@
--- The sizes that are read off the rows are those of the definitions; and the loops that read them.
-use Rattle.std.specs.Prelude.{ℕ, suc, ◌+◌, ◌-◌, ◌*◌, ◌≤◌, ◌<◌, ◌≡◌, refl, Bool, true}
-use Rattle.std.proofs.Common.{sym, ◌∙◌, ap, ap₂}
-use Rattle.std.specs.Prelude.{false, List, [], ◌∷◌, length, get_or}
+-- The sizes that are kept are those of the definitions; and what is read off them.
+use Rattle.std.specs.Prelude.{ℕ, zero, suc, ◌+◌, ◌*◌, ◌≤◌, ◌<◌, ◌≡◌, refl, Bool, true, false, List, [], ◌∷◌, length}
+use Rattle.std.specs.Prelude.{get_or, take, drop}
+use Rattle.std.specs.List.{list_all}
+use Rattle.std.proofs.Common.{sym, ◌∙◌, ap, ap₂, arith}
 use Rattle.std.proofs.lemmas.Bool.{false≢true}
-use Rattle.std.proofs.Common.{arith}
-use lib.ListN.{length-append}
+use lib.ListN.{length-append, drop_of_length-le}
+use lib.Seq.{drop-cons}
+use Rattle.std.proofs.lemmas.List.{get_or-take}
 use Rattle.value.specs.Test.{guard, ◌≤?◌, ◌and◌}
-use Rattle.value.proofs.Tests.{le?, both?, goes, stops, guards}
+use Rattle.value.proofs.Tests.{cases, le?, both?, goes, stops, guards}
 use Rattle.program.specs.Encode.{encode_all}
 use Rattle.program.proofs.Encode.{length-encode_all}
 use Rattle.haai.specs.Syntax.{Definition}
 use Rattle.haai.specs.Names.{no_definition}
 use Rattle.haai.specs.Emit.{declared, running, commands_of, code_of, within_limits}
-use Rattle.haai.specs.Tables.{RowIs, Rows, row_fits, rows_fit, row_length, rows_length}
+use Rattle.haai.specs.Tables.{no_size, size_at, SizeIs, Sizes, size_fits, sizes_fit, size_length, sizes_length}
+use Rattle.haai.specs.Writing.{first_at}
+use Rattle.haai.specs.declared.Size.{Size}
 use Rattle.haai.proofs.Program.{length_commands}
 use Rattle.haai.proofs.Counts.{counted_exact, counted_le}
 
 -- ---- the definitions
 
--- the rows from j on are those of ds
-abbrev pub RowsFrom : List ℕ → ℕ → List Definition → Type 0
-RowsFrom tb j ds = (i : ℕ) → i < length ds → RowIs tb (j + i) (get_or ds i no_definition)
+module _ (z : Size) (zs : List Size) (d : Definition) (ds : List Definition) (h : Sizes (z ∷ zs) (d ∷ ds)) where
+  pub first_size : SizeIs z d
+  unfolding size_at
+  first_size = h 0 (omega arith)
 
-module _ (tb : List ℕ) (j : ℕ) (d : Definition) (ds : List Definition) (h : RowsFrom tb j (d ∷ ds)) where
-  pub first_row : RowIs tb j d
-  first_row = let e : j + 0 ≡ j = omega arith in rw e at (h 0 (omega arith))
+  pub next_sizes : Sizes zs ds
+  unfolding size_at
+  next_sizes j l = h (suc j) (omega arith)
 
-  pub next_rows : RowsFrom tb (j + 1) ds
-  next_rows i l = let e : j + suc i ≡ j + 1 + i = omega arith in rw e at (h (suc i) (omega arith))
-
-row_fits_lem : (tb : List ℕ) (j : ℕ) (d : Definition) → RowIs tb j d
-    → row_fits tb j ≡ ((declared d ≤? 32) and (running d ≤? 128))
-unfolding row_fits
-row_fits_lem tb j d h =
+size_fits_lem : (z : Size) (d : Definition) → SizeIs z d → size_fits z ≡ ((declared d ≤? 32) and (running d ≤? 128))
+unfolding size_fits
+size_fits_lem z d h =
     ap₂ (λ (x y : ℕ). (x ≤? 32) and (y ≤? 128)) h.calls h.runs
     ∙ ap₂ ◌and◌ (counted_le (declared d) 32 (omega arith)) (counted_le (running d) 128 (omega arith))
 
-fits_from : (tb : List ℕ) (j : ℕ) (ds : List Definition) → RowsFrom tb j ds → rows_fit tb j (length ds) ≡ within_limits ds
-unfolding rows_fit within_limits
-fits_from tb j [] h = refl
-fits_from tb j (d ∷ ds) h =
-    ap₂ (λ x y. guard x false (λ _. y)) (row_fits_lem tb j d (first_row tb j d ds h))
-    (fits_from tb (j + 1) ds (next_rows tb j d ds h))
+pub fits_limits : (zs : List Size) (ds : List Definition) → length zs ≡ length ds → Sizes zs ds
+    → sizes_fit zs ≡ within_limits ds
+unfolding sizes_fit within_limits
+fits_limits [] [] e h = refl
+fits_limits [] (d ∷ ds) e h = absurd (omega arith)
+fits_limits (z ∷ zs) [] e h = absurd (omega arith)
+fits_limits (z ∷ zs) (d ∷ ds) e h =
+    ap₂ (λ x y. guard x false (λ _. y)) (size_fits_lem z d (first_size z zs d ds h))
+    (fits_limits zs ds (omega arith) (next_sizes z zs d ds h))
 
-code_from : (tb : List ℕ) (j : ℕ) (ds : List Definition) → RowsFrom tb j ds → within_limits ds ≡ true
-    → rows_length tb j (length ds) ≡ length (code_of ds)
-unfolding rows_length row_length code_of within_limits
-code_from tb j [] h w = refl
-code_from tb j (d ∷ ds) h w =
-    let r = first_row tb j d ds h in
+pub length_is_code : (zs : List Size) (ds : List Definition) → length zs ≡ length ds → Sizes zs ds
+    → within_limits ds ≡ true → sizes_length zs ≡ length (code_of ds)
+unfolding sizes_length size_length code_of within_limits
+length_is_code [] [] e h w = refl
+length_is_code [] (d ∷ ds) e h w = absurd (omega arith)
+length_is_code (z ∷ zs) [] e h w = absurd (omega arith)
+length_is_code (z ∷ zs) (d ∷ ds) e h w =
+    let r = first_size z zs d ds h in
     let limits = (guards (λ (b : Bool). b ≡ true) ((declared d ≤? 32) and (running d ≤? 128)) false _ false≢true).0 w in
     let small = both? limits.0 in
     let few_d : declared d ≤ 32 = le? small.0 in
@@ -56,75 +62,46 @@ code_from tb j (d ∷ ds) h w =
     let a = r.calls ∙ counted_exact (declared d) (omega arith) in
     let b = r.runs ∙ counted_exact (running d) (omega arith) in
     let c = length_commands d in
-    let e = length-encode_all (commands_of d) in
-    let f = length-append (encode_all (commands_of d)) (code_of ds) in
-    let g = code_from tb (j + 1) ds (next_rows tb j d ds h) limits.1 in omega arith
+    let f = length-encode_all (commands_of d) in
+    let g = length-append (encode_all (commands_of d)) (code_of ds) in
+    let i = length_is_code zs ds (omega arith) (next_sizes z zs d ds h) limits.1 in
+    omega arith
 
-module _ (tb : List ℕ) (ds : List Definition) (h : Rows tb ds) (n : ℕ) (e : n ≡ length ds) where
-  pub from_first : RowsFrom tb 0 ds
-  from_first i l = let z : 0 + i ≡ i = omega arith in rw z (h i l)
+-- ---- what the code reads
 
-  pub fits_limits : rows_fit tb 0 n ≡ within_limits ds
-  fits_limits = ap (λ (m : ℕ). rows_fit tb 0 m) e ∙ fits_from tb 0 ds from_first
+pub all_fit : (zs : List Size) → list_all size_fits zs ≡ sizes_fit zs
+unfolding sizes_fit
+all_fit [] = refl
+all_fit (z ∷ zs) =
+    cases (size_fits z)
+    (λ e. goes _ _ e (rw e (all_fit zs)))
+    (λ e. stops _ e (rw e refl))
 
-  pub length_is_code : within_limits ds ≡ true → rows_length tb 0 n ≡ length (code_of ds)
-  length_is_code w = ap (λ (m : ℕ). rows_length tb 0 m) e ∙ code_from tb 0 ds from_first w
+-- one size more
+pub length_next : (zs : List Size) (i : ℕ) → i < length zs
+    → sizes_length (drop i zs) ≡ size_length (get_or zs i no_size) + sizes_length (drop (i + 1) zs)
+unfolding sizes_length
+length_next zs i h = let e : i + 1 ≡ suc i = omega arith in rw (e, drop-cons zs i no_size h)
 
--- ---- the loops
+pub length_done : (zs : List Size) (i : ℕ) → length zs ≤ i → sizes_length (drop i zs) ≡ 0
+unfolding sizes_length
+length_done zs i h = rw (drop_of_length-le zs {i = i} h)
 
-module _ (tb : List ℕ) (n i : ℕ) where
-  -- the first i of n rows fit
-  pub record Fitted : Type 0 where
-    pub same : rows_fit tb 0 n ≡ rows_fit tb i (n - i)
-    pub most : i ≤ n
+-- the commands of definition j begin after those of the ones before
+take_next : (zs : List Size) (j : ℕ) → j < length zs
+    → sizes_length (take (suc j) zs) ≡ sizes_length (take j zs) + size_length (size_at zs j)
+unfolding sizes_length size_at
+take_next [] j h = absurd (omega arith)
+take_next (z ∷ zs) zero h = omega arith
+take_next (z ∷ zs) (suc j) h = let e = take_next zs j (omega arith) in omega arith
 
-  -- the first i of n rows take m bytes
-  pub record Summed (m : ℕ) : Type 0 where
-    pub same : rows_length tb 0 n ≡ m + rows_length tb i (n - i)
-    pub most : i ≤ n
-    pub few : m ≤ 4080 * i
+pub first_is_length : (zs : List Size) (end j : ℕ) → j ≤ length zs → end + sizes_length (take j zs) ≡ first_at zs end j
+unfolding first_at sizes_length
+first_is_length zs end zero h = omega arith
+first_is_length zs end (suc j) h =
+    let e = first_is_length zs end j (omega arith) in let f = take_next zs j (omega arith) in omega arith
 
-pub fitted_begins : (tb : List ℕ) (n : ℕ) → Fitted tb n 0
-fitted_begins tb n =
-    let e : n ≡ n - 0 = omega arith in record { same = ap (λ (m : ℕ). rows_fit tb 0 m) e; most = omega arith }
-
-pub summed_begins : (tb : List ℕ) (n : ℕ) → Summed tb n 0 0
-summed_begins tb n =
-    let e : n ≡ n - 0 = omega arith in
-    let f = ap (λ (m : ℕ). rows_length tb 0 m) e in
-    record { same = omega arith; most = omega arith; few = omega arith }
-
-module _ (tb : List ℕ) (n i : ℕ) (h : Fitted tb n i) where
-  pub fitted_ends : n ≤ i → true ≡ rows_fit tb 0 n
-  unfolding rows_fit
-  fitted_ends l = let e : n - i ≡ 0 = omega arith in sym (h.same ∙ ap (λ (m : ℕ). rows_fit tb i m) e)
-
-  module _ (l : i < n) where
-    fitted_one : rows_fit tb 0 n ≡ guard (row_fits tb i) false (λ _. rows_fit tb (i + 1) (n - (i + 1)))
-    unfolding rows_fit
-    fitted_one =
-        let e : n - i ≡ suc (n - (i + 1)) = omega arith in h.same ∙ ap (λ (m : ℕ). rows_fit tb i m) e
-
-    pub fitted_fails : row_fits tb i ≡ false → false ≡ rows_fit tb 0 n
-    fitted_fails e = stops _ e refl ∙ sym fitted_one
-
-    pub fitted_next : row_fits tb i ≡ true → Fitted tb n (i + 1)
-    fitted_next e = record { same = fitted_one ∙ sym (goes _ _ e refl); most = omega arith }
-
-module _ (tb : List ℕ) (n i m : ℕ) (h : Summed tb n i m) where
-  pub summed_ends : n ≤ i → m ≡ rows_length tb 0 n
-  unfolding rows_length
-  summed_ends l =
-      let e : n - i ≡ 0 = omega arith in
-      let f = ap (λ (x : ℕ). rows_length tb i x) e in
-      let g = h.same in omega arith
-
-  pub summed_next : i < n → (r : ℕ) → (r ≡ row_length tb i) × (r ≤ 4080) → Summed tb n (i + 1) (m + r)
-  unfolding rows_length
-  summed_next l r q =
-      let e : n - i ≡ suc (n - (i + 1)) = omega arith in
-      let f = ap (λ (x : ℕ). rows_length tb i x) e in
-      let g = h.same in
-      let few = h.few in
-      let a = q.0 in
-      let b = q.1 in record { same = omega arith; most = omega arith; few = omega arith }
+-- the sizes of the first n are those of the definitions
+pub sizes_within : (zs : List Size) (ds : List Definition) (n : ℕ) → n ≡ length ds → Sizes zs ds → Sizes (take n zs) ds
+unfolding size_at
+sizes_within zs ds n e h j l = let m : j < n = omega arith in rw (get_or-take n zs j no_size m) (h j l)

@@ -6,12 +6,16 @@ use Rattle.std.proofs.Common.{arith, subst}
 use Rattle.value.specs.Value.{number_kind}
 use Rattle.value.proofs.Tests.{lt!, lt×, yes, no}
 use Rattle.program.specs.Command.{alloc_mono, gives, react, constant, global, consume, primitive}
+use Rattle.haai.specs.declared.Size.{Size}
 use Rattle.haai.specs.Syntax as S
-use Rattle.haai.specs.Syntax.{Operator, sign, parameter, apply, count_of}
+use Rattle.haai.specs.Syntax.{sign, parameter, apply, count_of}
+use Rattle.haai.specs.Word.{sign_number}
+use Rattle.haai.specs.declared.Operator.{Operator}
+use Rattle.haai.specs.declared.Operator.TheVariants.{Sign, Reactor as AReactor}
 use Rattle.haai.specs.Names.{Opened, Known, add_expr, add_definition}
 use Rattle.haai.specs.Emit.{allocates, declares, own_steps, steps, location_of, locations_of, supplies, applied}
 use Rattle.haai.specs.Emit.{runs}
-use Rattle.haai.specs.Places.{operator_code, expr_of}
+use Rattle.haai.specs.Places.{applied_by, expr_of}
 use Rattle.haai.specs.Writing.{put_command, put_commands, place_d, place_r, deployment_loc, location_r, first_at, row_of}
 use Rattle.haai.specs.Writing.{Added, added, add_give, add_meant, call_r, add_call, add_applied, add_sinks}
 use Rattle.haai.specs.declared.Cursor.{Cursor}
@@ -30,8 +34,8 @@ use Rattle.haai.proofs.Pointing.{location_is, deployment_is}
 
 -- ---- an application's commands
 
-abbrev pub Callable : Operator → ℕ → Type 0
-Callable (sign o) n = (o < 4) × (n ≡ 2)
+abbrev pub Callable : S.Operator → ℕ → Type 0
+Callable (sign o) n = n ≡ 2
 Callable (S.reactor j) n = j < 256
 
 module _ (c : Cursor) (ls out : List ℕ) (i n entry : ℕ) (xs : List ℕ) (row : Stands ls i xs)
@@ -41,25 +45,23 @@ module _ (c : Cursor) (ls out : List ℕ) (i n entry : ℕ) (xs : List ℕ) (row
       let z : i + 0 ≡ i = omega arith in
       (ap (λ (j : ℕ). get_or ls j 0) (sym z) ∙ row 0 (omega arith), row 1 (omega arith))
 
-  pub applied_is : (f : Operator) → Callable f n
-      → add_applied c (operator_code f) i n ls entry out
-      ≡ added (put_commands (put_commands out (place_d c) (allocates f)) (place_r c) (applied (deployment_loc c) xs f))
-      (set ls entry (location_r c (own_steps f n - 1)))
-  unfolding add_applied operator_code add_give add_call call_r allocates applied own_steps put_commands
-  applied_is (sign o) h =
-      let r = first_of h.1 in
-      let z : o % 256 ≡ o = let l = h.0 in omega arith in
-      sym (yes _ (lt! h.0) refl)
-      ∙ ap (λ (x : ℕ). add_give c entry (gives (primitive x (get_or ls i 0) (get_or ls (i + 1) 0) 0)) ls out) z
-      ∙ ap₂ (λ (x y : ℕ). add_give c entry (gives (primitive o x y 0)) ls out) r.0 r.1
-  applied_is (S.reactor j) h =
-      let z : (4 + j - 4) % 256 ≡ j = omega arith in
+  pub applied_is : (f : Operator) → Callable (applied_by f) n
+      → add_applied c f i n ls entry out
+      ≡ added
+      (put_commands (put_commands out (place_d c) (allocates (applied_by f))) (place_r c)
+      (applied (deployment_loc c) xs (applied_by f)))
+      (set ls entry (location_r c (own_steps (applied_by f) n - 1)))
+  unfolding add_applied applied_by add_give add_call call_r allocates applied own_steps put_commands
+  applied_is (Sign o) h =
+      let r = first_of h in
+      ap₂ (λ (x y : ℕ). add_give c entry (gives (primitive (sign_number o) x y 0)) ls out) r.0 r.1
+  applied_is (AReactor j) h =
+      let z : j % 256 ≡ j = omega arith in
       let y : n + 2 - 1 ≡ n + 1 = omega arith in
       let r : row_of ls i n ≡ xs = ap (row_of ls i) (sym long) ∙ row_is ls i xs row in
       let b = deployment_loc c in
       let end = react b ∷ gives (consume 0 b) ∷ [] in
-      sym (no _ (lt× (omega arith)) refl)
-      ∙ ap₂
+      ap₂
       (λ (x : ℕ) (l : List ℕ).
       added (put_commands (put_command out (place_d c) (alloc_mono x)) (place_r c) (supplies b 0 l ++ end))
       (set ls entry (location_r c (n + 1)))) z r
@@ -68,14 +70,14 @@ module _ (c : Cursor) (ls out : List ℕ) (i n entry : ℕ) (xs : List ℕ) (row
       added (put_commands (put_command out (place_d c) (alloc_mono j)) (place_r c) (supplies b 0 xs ++ end))
       (set ls entry (location_r c x))) (sym y)
 
-own_some : (f : Operator) (n : ℕ) → (1 ≤ own_steps f n) × (own_steps f n ≤ n + 2)
+own_some : (f : S.Operator) (n : ℕ) → (1 ≤ own_steps f n) × (own_steps f n ≤ n + 2)
 unfolding own_steps
 own_some (sign o) n = (omega arith, omega arith)
 own_some (S.reactor j) n = (omega arith, omega arith)
 
 -- ---- expressions
 
-module _ (count : ℕ) (sizes : List ℕ) (end : ℕ) (old : List ℕ) (room : first_at sizes end count ≤ length old) (n : ℕ)
+module _ (count : ℕ) (sizes : List Size) (end : ℕ) (old : List ℕ) (room : first_at sizes end count ≤ length old) (n : ℕ)
     (k : Known) (out ls : List ℕ) (lay : Laying count sizes end old k out ls) (good : Good n count sizes k)
     (i : Inside k) (c : Cursor) (p : Pointed sizes end c k) (deep : length k.pile ≤ 16)
     (seven : length k.parameters ≤ 7) where
@@ -131,21 +133,23 @@ module _ (count : ℕ) (sizes : List ℕ) (end : ℕ) (old : List ℕ) (room : f
     pub apply_lays : (f entry : ℕ) → entry ≡ 7 * length os + top_count k.body os
         → Callable o.operator (count_of o.operands) → count_of o.operands ≤ 7
         → After (add_expr k f os (apply o.operator o.operands))
+        → (g : Operator) → applied_by g ≡ o.operator
         → Next (add_expr k f os (apply o.operator o.operands))
-        (add_applied c (operator_code o.operator) (7 * length (o ∷ os)) (count_of o.operands) ls entry out)
+        (add_applied c g (7 * length (o ∷ os)) (count_of o.operands) ls entry out)
     unfolding added
-    apply_lays f entry at fit few after =
+    apply_lays f entry at fit few after g same =
         let noted : Noted ls (base_of sizes k) k.body (o ∷ os) = rw e at (lay.inside i).noted in
         let q =
         applied_is c ls out (7 * length (o ∷ os)) (count_of o.operands) entry xs noted.0
-        (length_locations (base_of sizes k) (steps_open k.body os) o.operands) o.operator fit
+        (length_locations (base_of sizes k) (steps_open k.body os) o.operands) g
+        (subst (λ (y : S.Operator). Callable y (count_of o.operands)) (sym same) fit)
         in
         let d : deployment_loc c ≡ length k.parameters + calls_open k.body (o ∷ os) =
         deployment_is count sizes end k c p (good.inside i) seven
         ∙ ap (λ (y : List Opened). length k.parameters + calls_open k.body y) e
         in
         subst (Next (add_expr k f os (apply o.operator o.operands))) (sym q)
-        (rw d
+        (rw (same, d)
         (lays_applied count sizes end old room n k out ls lay good i c p deep f o os entry (location_r c (size - 1)) e
         after at (value_at_lem few)))
 

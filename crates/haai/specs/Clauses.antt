@@ -1,5 +1,5 @@
 -- What the contracts speak of beside the definitions: definitions cut as the code is cut.
-use Rattle.std.specs.Prelude.{ℕ, ◌+◌, ◌*◌, ◌<◌, Bool, List, length, Option, Some, None, Result, Ok, Err}
+use Rattle.std.specs.Prelude.{ℕ, ◌+◌, ◌*◌, ◌<◌, Bool, List, [], ◌∷◌, length, Option, Some, None, Result, Ok, Err}
 use Rattle.std.specs.Int.{w32}
 use Rattle.std.proofs.Common.{of_z}
 use Rattle.value.specs.Test.{pick, ◌<?◌, ◌=?◌, ◌and◌, ◌or◌}
@@ -7,6 +7,7 @@ use Rattle.answer.specs.Answer.{Answer}
 use Rattle.haai.specs.Word.{is_letter, is_digit, minus_byte, among, position, every, decimal, is_number, integer_of}
 use Rattle.haai.specs.Word.{signs, sign_at, taken_words, taken_at}
 use Rattle.haai.specs.Grammar.{Step, takes, refuses, most_brackets, deepened, Formed, items, fault}
+use Rattle.haai.specs.Places.{word_of}
 use Rattle.haai.specs.Compile.{Compilation}
 use Rattle.haai.specs.declared.Phase.TheVariants.{Operator}
 use Rattle.haai.specs.declared.Reading.{Reading}
@@ -40,6 +41,17 @@ sign_of w = pick (among signs w) (Some (sign_at (position signs w))) None
 
 unfoldable pub taken_of : List ℕ → Option Taken
 taken_of w = pick (among taken_words w) (Some (taken_at (position taken_words w))) None
+
+-- ---- names
+
+-- the words that begin at these places
+unfoldable pub words_at : List ℕ → List ℕ → List (List ℕ)
+words_at t [] = []
+words_at t (a ∷ ps) = word_of t a ∷ words_at t ps
+
+-- the first of the names that is w
+unfoldable pub place_in : List (List ℕ) → List ℕ → Option ℕ
+place_in ns w = pick (among ns w) (Some (position ns w)) None
 
 -- ---- the form
 

@@ -2,11 +2,14 @@
 -- reactors' at 31 to 62, those of the parameters' at 63 to 286.
 use Rattle.std.specs.Prelude.{ℕ, zero, suc, ◌+◌, ◌-◌, ◌≤◌, Bool, not, List, [], ◌∷◌, ◌++◌, get_or, set}
 use Rattle.value.specs.Test.{guard}
-use Rattle.haai.specs.Word.{word_end, bytes_of, position, among, signs}
+use Rattle.haai.specs.Word.{word_end, bytes_of, position, among, signs, sign_at, sign_number}
 use Rattle.haai.specs.Names.{unless, fresh}
-use Rattle.haai.specs.Syntax.{Operator, sign, reactor, Expr, parameter, global}
+use Rattle.haai.specs.Syntax as S
+use Rattle.haai.specs.Syntax.{sign, reactor, Expr, parameter, global}
 use Rattle.haai.specs.declared.Meant.{Meant}
 use Rattle.haai.specs.declared.Meant.TheVariants.{Parameter, Global}
+use Rattle.haai.specs.declared.Operator.{Operator}
+use Rattle.haai.specs.declared.Operator.TheVariants.{Sign, Reactor}
 use Rattle.haai.specs.declared.Tally.{Tally}
 
 abbrev pub reactors_from : ℕ
@@ -104,13 +107,12 @@ module _ (t : List ℕ) (a : ℕ) (w : List ℕ) (v : Tally) (ps : List ℕ) whe
 
 -- ---- what a name means
 
--- an operator as a number: a sign, or 4 and the reactor's number
-unfoldable pub operator_code : Operator → ℕ
-operator_code (sign o) = o
-operator_code (reactor j) = 4 + j
+unfoldable pub applied_by : Operator → S.Operator
+applied_by (Sign o) = sign (sign_number o)
+applied_by (Reactor j) = reactor j
 
-unfoldable pub operator_in : List (List ℕ) → List ℕ → ℕ
-operator_in rs w = guard (not (among signs w)) (position signs w) (λ _. 4 + position rs w)
+unfoldable pub operator_in : List (List ℕ) → List ℕ → Operator
+operator_in rs w = guard (not (among signs w)) (Sign (sign_at (position signs w))) (λ _. Reactor (position rs w))
 
 unfoldable pub expr_of : Meant → Expr
 expr_of (Parameter i) = parameter i

@@ -132,12 +132,18 @@ taken_number Source = 3
 abbrev pub signs : List (List ℕ)
 signs = (43 ∷ []) ∷ (minus_byte ∷ []) ∷ (42 ∷ []) ∷ (47 ∷ []) ∷ []
 
--- the sign at place n of these
+-- the sign at place n of these, and the place of one
 unfoldable pub sign_at : ℕ → Sign
 sign_at zero = Plus
 sign_at (suc zero) = Minus
 sign_at (suc (suc zero)) = Times
 sign_at (suc (suc (suc n))) = Divide
+
+unfoldable pub sign_number : Sign → ℕ
+sign_number Plus = 0
+sign_number Minus = 1
+sign_number Times = 2
+sign_number Divide = 3
 
 -- 8.5 A number has decimal digits, after a minus or none, and fits in 32 bits.
 unfoldable pub decimal : ℕ → List ℕ → ℕ

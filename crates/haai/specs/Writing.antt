@@ -5,7 +5,6 @@ use Rattle.std.specs.Prelude.{ℕ, zero, suc, ◌+◌, ◌-◌, ◌*◌, ◌%◌
 use Rattle.std.specs.Prelude.{get_or, set, replicate}
 use Rattle.value.specs.Test.{pick, ◌≤?◌, ◌<?◌, ◌=?◌}
 use Rattle.value.specs.Value.{number_kind}
-use Rattle.program.specs.Bytes.{byte}
 use Rattle.program.specs.Command.{Cmd, alloc_mono, gives, react, constant, global, consume, primitive}
 use Rattle.program.specs.Encode.{eight, encode}
 use Rattle.image.specs.Memory.{patch}
@@ -14,14 +13,20 @@ use Rattle.haai.specs.Names.{fault_of}
 use Rattle.haai.specs.Emit.{supplies, sinks_from, within_limits, code_of, header_bytes}
 use Rattle.haai.specs.Clauses.{check_of, right as right_form}
 use Rattle.haai.specs.Places.{sources_in, parameters_in, meant_in}
-use Rattle.haai.specs.Tables.{innermost, sinks_from as sinks_row, declared_from, running_from, known_by, Rows, FoundIs}
+use Rattle.haai.specs.Tables.{size_at, size_length, opened_at, innermost, known_by, Sizes, FoundIs}
+use Rattle.haai.specs.Word.{sign_number}
+use Rattle.haai.specs.declared.Application.{Application}
 use Rattle.haai.specs.declared.Cursor.{Cursor}
 use Rattle.haai.specs.declared.Found.{Found}
+use Rattle.haai.specs.declared.Knowing.{Knowing}
 use Rattle.haai.specs.declared.Meant.{Meant}
 use Rattle.haai.specs.declared.Meant.TheVariants.{Parameter as AParameter, Global}
+use Rattle.haai.specs.declared.Operator.{Operator}
+use Rattle.haai.specs.declared.Operator.TheVariants.{Sign, Reactor as AReactor}
 use Rattle.haai.specs.declared.Role.{Role}
 use Rattle.haai.specs.declared.Role.TheVariants.{Source, Reactor, Parameter, Operand, Constant}
 use Rattle.haai.specs.declared.Role.TheVariants.{Operator as AnOperator, Apply, Define, Fixed}
+use Rattle.haai.specs.declared.Size.{Size}
 use Rattle.haai.specs.declared.Tally.{Tally}
 use Rattle.haai.specs.declared.Tree.{Tree}
 
@@ -55,21 +60,21 @@ deployment_loc c = (c.parameters + c.calls) % 256
 unfoldable pub location_r : Cursor → ℕ → ℕ
 location_r c n = (c.parameters + c.declared + c.steps + n) % 256
 
--- where the commands of definition j begin, by the rows of the table tb; the tables end before byte `end`
-unfoldable pub first_at : List ℕ → ℕ → ℕ → ℕ
-first_at tb end zero = end
-first_at tb end (suc j) = first_at tb end j + 8 * (byte tb (declared_from + j) + byte tb (running_from + j))
+-- where the commands of definition j begin, by the sizes zs; the tables end before byte `end`
+unfoldable pub first_at : List Size → ℕ → ℕ → ℕ
+first_at zs end zero = end
+first_at zs end (suc j) = first_at zs end j + size_length (size_at zs j)
 
 -- no program's commands begin later
 abbrev pub most_first : ℕ
 most_first = 200000
 
-unfoldable pub cursor_of : List ℕ → ℕ → Tally → Tree → Cursor
-cursor_of tb first v u =
+unfoldable pub cursor_of : List Size → ℕ → Tally → Tree → Cursor
+cursor_of zs first v u =
     record {
       first = first;
       parameters = v.names - v.own;
-      declared = byte tb (declared_from + u.definitions);
+      declared = (size_at zs u.definitions).declared;
       calls = u.calls;
       steps = u.steps;
     }
@@ -82,8 +87,8 @@ row_of ls i zero = []
 row_of ls i (suc n) = get_or ls i 0 ∷ row_of ls (i + 1) n
 
 -- how many operands the innermost application has, or the body
-unfoldable pub operands_so_far : Tree → List ℕ → ℕ
-operands_so_far u pl = pick (u.level =? 0) u.count (get_or pl (innermost u 2) 0)
+unfoldable pub operands_so_far : Tree → List Application → ℕ
+operands_so_far u pl = pick (u.level =? 0) u.count (innermost u pl).operands
 
 -- no row has more than seven
 unfoldable pub few : ℕ → ℕ
@@ -94,7 +99,7 @@ unfoldable pub entry_for : ℕ → ℕ → ℕ
 entry_for i n = 7 * i + few n
 
 -- where the next value is noted
-unfoldable pub next_entry : Tree → List ℕ → ℕ
+unfoldable pub next_entry : Tree → List Application → ℕ
 next_entry u pl = entry_for u.level (operands_so_far u pl)
 
 -- ---- what a word adds: commands in D, commands in R, and the location of a value
@@ -125,34 +130,34 @@ add_call c j i n ls entry out =
     (set ls entry (location_r c (n + 1)))
 
 -- the application with operator o, whose n operands are in the row from i on
-unfoldable pub add_applied : Cursor → ℕ → ℕ → ℕ → List ℕ → ℕ → List ℕ → Added
-add_applied c o i n ls entry out =
-    pick (o <? 4) (add_give c entry (gives (primitive (o % 256) (get_or ls i 0) (get_or ls (i + 1) 0) 0)) ls out)
-    (add_call c (o - 4) i n ls entry out)
+unfoldable pub add_applied : Cursor → Operator → ℕ → ℕ → List ℕ → ℕ → List ℕ → Added
+add_applied c (Sign o) i n ls entry out =
+    add_give c entry (gives (primitive (sign_number o) (get_or ls i 0) (get_or ls (i + 1) 0) 0)) ls out
+add_applied c (AReactor j) i n ls entry out = add_call c j i n ls entry out
 
 -- the entry for an application at level u .level once it is whole
-unfoldable pub outer_entry : Tree → List ℕ → ℕ
+unfoldable pub outer_entry : Tree → List Application → ℕ
 outer_entry u pl =
-    entry_for (u.level - 1)
-    (pick (u.level ≤? 1) u.count (get_or pl (3 * (u.level - 2) + 2) 0))
+    entry_for (u.level - 1) (pick (u.level ≤? 1) u.count (opened_at pl (u.level - 2)).operands)
 
 -- the sinks of a definition with n expressions
 unfoldable pub add_sinks : Cursor → ℕ → List ℕ → List ℕ → Added
 add_sinks c n ls out = added (put_commands out (place_r c) (sinks_from 0 (row_of ls 0 n))) ls
 
-module _ (t w : List ℕ) (v : Tally) (u : Tree) (ps pl : List ℕ) (c : Cursor) (ls out : List ℕ) where
+-- the innermost application is whole
+unfoldable pub add_apply : Knowing → Cursor → List ℕ → List ℕ → Added
+add_apply x c ls out =
+    let a = innermost x.tree x.pile in
+    add_applied c a.operator (7 * x.tree.level) (few a.operands) ls (outer_entry x.tree x.pile) out
+
+module _ (t w : List ℕ) (x : Knowing) (c : Cursor) (ls out : List ℕ) where
   unfoldable pub add_operand : Added
   add_operand =
-      add_meant c (next_entry u pl) ls out (meant_in (parameters_in t ps v) (sources_in t ps v) w)
+      add_meant c (next_entry x.tree x.pile) ls out
+      (meant_in (parameters_in t x.places x.tally) (sources_in t x.places x.tally) w)
 
   unfoldable pub add_constant : ℕ → Added
-  add_constant n = add_give c (next_entry u pl) (gives (constant number_kind n)) ls out
-
-  unfoldable pub add_apply : Added
-  add_apply =
-      let o = get_or pl (innermost u 0) 0 in
-      let n = few (get_or pl (innermost u 2) 0) in
-      add_applied c o (7 * u.level) n ls (outer_entry u pl) out
+  add_constant n = add_give c (next_entry x.tree x.pile) (gives (constant number_kind n)) ls out
 
   -- the word w in its role
   unfoldable pub adds : Role → Added
@@ -162,39 +167,39 @@ module _ (t w : List ℕ) (v : Tally) (u : Tree) (ps pl : List ℕ) (c : Cursor)
   adds Operand = add_operand
   adds (Constant n) = add_constant n
   adds AnOperator = added out ls
-  adds Apply = add_apply
-  adds Define = add_sinks c (few u.count) ls out
+  adds Apply = add_apply x c ls out
+  adds Define = add_sinks c (few x.tree.count) ls out
   adds Fixed = added out ls
 
 -- ---- a text that can be written
 
--- a text without fault, of which f is found and tb has the rows
-pub record Clean (t : List ℕ) (f : Found) (tb : List ℕ) : Type 0 where
+-- a text without fault, of which f is found, with its definitions' sizes zs
+pub record Clean (t : List ℕ) (f : Found) (zs : List Size) : Type 0 where
   pub right : check_of (form_of t) ≡ right_form
-  pub found : FoundIs (known_by (length t) (form_of t)) f tb
+  pub found : FoundIs (known_by (length t) (form_of t)) f zs
   pub clean : f.fault ≡ length t
 
--- sizes are the rows of the text's definitions, the tables end before byte `end`, and the output has room for all
-pub record Writable (t sizes : List ℕ) (end : ℕ) (out : List ℕ) : Type 0 where
+-- zs has the sizes of the text's definitions, the tables end before byte `end`, and the output has room for all
+pub record Writable (t : List ℕ) (zs : List Size) (end : ℕ) (out : List ℕ) : Type 0 where
   pub right : check_of (form_of t) ≡ right_form
   pub clean : fault_of (known_by (length t) (form_of t)) ≡ length t
-  pub rows : Rows sizes (known_by (length t) (form_of t)).definitions
+  pub sizes : Sizes zs (known_by (length t) (form_of t)).definitions
+  pub long : length zs ≡ 32
   pub limits : within_limits (known_by (length t) (form_of t)).definitions ≡ true
   pub early : end ≤ 1000
   pub room : end + length (code_of (known_by (length t) (form_of t)).definitions) ≤ length out
 
 -- ---- the tables before the commands
 
--- the n shapes, and the n entries, from row j of the table tb on
-unfoldable pub shapes_by : List ℕ → ℕ → ℕ → List ℕ
-shapes_by tb j zero = []
-shapes_by tb j (suc n) = (byte tb j ∷ byte tb (sinks_row + j) ∷ replicate 14 0) ++ shapes_by tb (j + 1) n
+-- the shapes, and the entries from reactor j on, of definitions of these sizes
+unfoldable pub shapes_by : List Size → List ℕ
+shapes_by [] = []
+shapes_by (z ∷ zs) = (z.parameters ∷ z.sinks ∷ replicate 14 0) ++ shapes_by zs
 
-unfoldable pub entries_by : List ℕ → ℕ → ℕ → List ℕ
-entries_by tb j zero = []
-entries_by tb j (suc n) =
-    j ∷ byte tb (declared_from + j) ∷ byte tb (running_from + j) ∷ 0 ∷ entries_by tb (j + 1) n
+unfoldable pub entries_by : ℕ → List Size → List ℕ
+entries_by j [] = []
+entries_by j (z ∷ zs) = j ∷ z.declared ∷ z.running ∷ 0 ∷ entries_by (j + 1) zs
 
--- n definitions, g sources
-unfoldable pub tables_of : List ℕ → ℕ → ℕ → List ℕ
-tables_of tb n g = header_bytes n g ++ (replicate g 0 ++ (shapes_by tb 0 n ++ entries_by tb 0 n))
+-- g sources
+unfoldable pub tables_of : List Size → ℕ → List ℕ
+tables_of zs g = header_bytes (length zs) g ++ (replicate g 0 ++ (shapes_by zs ++ entries_by 0 zs))

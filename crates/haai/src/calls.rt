@@ -9,16 +9,16 @@ ghost use Rattle.haai.specs.Clauses.{check_of, right, compiled};
 ghost use Rattle.haai.specs.Tables.{known_by};
 ghost use Rattle.haai.specs.Writing as Q;
 
-use crate::Found;
 use crate::grammar::form;
 use crate::learn::names;
+use crate::measure::{code_length, fits};
 use crate::pass::write;
-use crate::size::{code_length, fits};
 use crate::tables::write_tables;
+use crate::{Found, Size};
 use answer::{Answer, Refusal};
 
 // The program of a text without fault, where there is room for it.
-fn put_program(text: &[u8], table: &[u8; 128], f: Found, output: &mut [u8])
+fn put_program(text: &[u8], table: &[Size; 32], f: Found, output: &mut [u8])
     requires clean { Q.Clean text.now f table.now }
     requires limits { let t = text.now in
         within_limits (known_by (length t) (form_of t)).definitions ≡ true }
@@ -29,22 +29,22 @@ fn put_program(text: &[u8], table: &[u8; 128], f: Found, output: &mut [u8])
 {
     let n = f.definitions;
     let g = f.sources;
-    write_tables(output, table, n, g);
+    write_tables(output, &table[..n], g);
     write(text, table, 8 + g + 20 * n, output);
 }
 
 // 18, or the program: of a text without fault.
-fn compile_clean(text: &[u8], table: &[u8; 128], f: Found, output: &mut [u8]) -> Answer
+fn compile_clean(text: &[u8], table: &[Size; 32], f: Found, output: &mut [u8]) -> Answer
     requires { Q.Clean text.now f table.now }
     ensures { let t = text.now in
         let x = text_of (known_by (length t) (form_of t)) in
         compiled result output.new ≡ written output.old x }
 {
     let n = f.definitions;
-    if !fits(table, n) {
+    if !fits(&table[..n]) {
         return Err(Refusal::OutputSpace(0));
     }
-    let whole = 8 + f.sources + 20 * n + code_length(table, n);
+    let whole = 8 + f.sources + 20 * n + code_length(&table[..n]);
     if output.len() < whole {
         return Err(Refusal::OutputSpace(whole));
     }
@@ -59,7 +59,7 @@ fn compile_formed(text: &[u8], output: &mut [u8]) -> Answer
         let k = known_by (length t) (form_of t) in
         compiled result output.new ≡ by_names (length t) output.old k }
 {
-    let mut table = [0u8; 128];
+    let mut table = [Size::NONE; 32];
     let f = names(text, &mut table);
     if f.fault != text.len() {
         return Err(Refusal::TextName(f.fault));

@@ -1,27 +1,18 @@
-// The tree of a text as it is kept: counts that stay at 200 once they reach it, a table of the definitions, and a
-// pile of the open applications.
-ghost use Rattle.std.specs.Prelude.{◌+◌, ◌≡◌, get_or, set};
+// The tree of a text as it is kept: counts that stay at 200 once they reach it, the sizes of the whole definitions, and
+// a pile of the open applications.
+#![tactic(auto, unfolding(value::specs::Open::opened, crate::specs::Tables::counted, crate::specs::Tables::size_at, crate::specs::Tables::opened_at, crate::specs::Tables::callable_in, crate::specs::Tables::takes_in, crate::specs::Tables::own_calls, crate::specs::Tables::own_runs, crate::specs::Tables::grounded, crate::specs::Tables::spent, crate::specs::Tables::levelled, crate::specs::Tables::innermost, crate::specs::Tables::with_operand, crate::specs::Tables::whole_grove, crate::specs::Tables::open_grove, crate::specs::Tables::close_grove, crate::specs::Tables::defined_tree, crate::specs::Tables::size_of))]
+
+ghost use Rattle.std.specs.Prelude.{◌+◌, ◌≡◌, set};
 ghost use Rattle.haai.specs.Tables as Y;
 
-use crate::Tree;
-use crate::names::{place, put};
-use program::byte;
+use crate::{Application, Operator, Sign, Size, Tree};
 
 const MOST: usize = 200;
-
-pub(crate) const SINKS: usize = 32;
-
-pub(crate) const DECLARED: usize = 64;
-
-pub(crate) const RUNNING: usize = 96;
 
 fn cap(n: usize) -> u8
     ensures { result ≡ Y.counted n }
 {
-    if n < MOST {
-        return n as u8;
-    }
-    200
+    if n < MOST { n as u8 } else { 200 }
 }
 
 fn add(n: u8, k: u8) -> u8
@@ -30,43 +21,74 @@ fn add(n: u8, k: u8) -> u8
     cap(n as usize + k as usize)
 }
 
-fn one_more(n: usize) -> usize
-    ensures { result ≡ Y.counted (n + 1) }
-{
-    if n < MOST {
-        return cap(n + 1) as usize;
-    }
-    MOST
+impl Size {
+    pub(crate) const NONE: Size = Size {
+        parameters: 0,
+        sinks: 0,
+        declared: 0,
+        running: 0,
+    };
 }
 
-pub(crate) fn put_byte(table: &mut [u8], i: usize, v: u8)
-    ensures { table.new ≡ set table.old i v }
+// The size of definition j.
+pub(crate) fn size_at(sizes: &[Size], j: usize) -> Size
+    ensures { result ≡ Y.size_at sizes.now j }
 {
-    if i < table.len() {
-        table[i] = v;
+    sizes.get(j).copied().unwrap_or(Size::NONE)
+}
+
+impl Application {
+    pub(crate) const NONE: Application = Application {
+        operator: Operator::Sign(Sign::Plus),
+        at: 0,
+        operands: 0,
+    };
+
+    fn with_operand(self) -> Application
+        ensures { result ≡ Y.with_operand self }
+    {
+        Application {
+            operands: add(self.operands, 1),
+            ..self
+        }
     }
 }
 
-// The AllocMonos and the R commands of an application of o to c operands, after those of the operands.
-fn own_calls(o: usize) -> u8
-    ensures { result ≡ Y.own_calls o }
+// The i-th open application.
+pub(crate) fn opened_at(pile: &[Application], i: usize) -> Application
+    ensures { result ≡ Y.opened_at pile.now i }
 {
-    if o < 4 {
-        return 0;
-    }
-    1
+    pile.get(i).copied().unwrap_or(Application::NONE)
 }
 
-fn own_runs(o: usize, c: usize) -> u8
-    ensures { result ≡ Y.own_runs o c }
+fn put(pile: &mut [Application], i: usize, application: Application)
+    ensures { pile.new ≡ set pile.old i application }
 {
-    if o < 4 {
-        return 1;
+    if i < pile.len() {
+        pile[i] = application;
     }
-    if c < MOST {
-        return cap(c + 2);
+}
+
+impl Operator {
+    // The AllocMonos of an application, after those of its operands.
+    fn own_calls(self) -> u8
+        ensures { result ≡ Y.own_calls self }
+    {
+        match self {
+            Operator::Sign(_) => 0,
+            Operator::Reactor(_) => 1,
+        }
     }
-    200
+
+    // The R commands of an application to n operands, after those of the operands.
+    fn own_runs(self, n: u8) -> u8
+        ensures { result ≡ Y.own_runs self n }
+    {
+        match self {
+            Operator::Sign(_) => 1,
+            Operator::Reactor(_) => add(n, 2),
+        }
+    }
 }
 
 impl Tree {
@@ -86,140 +108,114 @@ impl Tree {
     pub(crate) fn spent(self, d: u8, r: u8) -> Tree
         ensures { result ≡ Y.spent self d r }
     {
-        let calls = add(self.calls, d);
-        let steps = add(self.steps, r);
         Tree {
-            definitions: self.definitions,
-            count: self.count,
-            level: self.level,
-            calls: calls,
-            steps: steps,
+            calls: add(self.calls, d),
+            steps: add(self.steps, r),
+            ..self
         }
     }
 
     fn levelled(self, n: u8) -> Tree
         ensures { result ≡ Y.levelled self n }
     {
-        Tree {
-            definitions: self.definitions,
-            count: self.count,
-            level: n,
-            calls: self.calls,
-            steps: self.steps,
-        }
+        Tree { level: n, ..self }
     }
 
-    // Where entry i of the innermost open application stands in the pile.
-    fn innermost(self, i: u8) -> usize
-        ensures { result ≡ Y.innermost self i }
+    // The innermost open application.
+    pub(crate) fn innermost(self, pile: &[Application]) -> Application
+        ensures { result ≡ Y.innermost self pile.now }
     {
-        3 * self.level.saturating_sub(1) as usize + i as usize
-    }
-
-    // Entry i of the innermost open application.
-    pub(crate) fn entry(self, pile: &[usize], i: u8) -> usize
-        ensures { result ≡ get_or pile.now (Y.innermost self i) 0 }
-    {
-        place(pile, self.innermost(i))
+        opened_at(pile, self.level.saturating_sub(1) as usize)
     }
 
     // A whole expression: one more of the body, or one more operand of the innermost application.
-    pub(crate) fn whole(self, pile: &mut [usize]) -> Tree
+    pub(crate) fn whole(self, pile: &mut [Application]) -> Tree
         ensures { Y.grove result pile.new ≡ Y.whole_grove self pile.old }
     {
         if self.level == 0 {
-            let count = add(self.count, 1);
             return Tree {
-                definitions: self.definitions,
-                count: count,
-                level: self.level,
-                calls: self.calls,
-                steps: self.steps,
+                count: add(self.count, 1),
+                ..self
             };
         }
-        let n = one_more(self.entry(pile, 2));
-        put(pile, self.innermost(2), n);
+        let application = self.innermost(pile);
+        put(pile, self.level as usize - 1, application.with_operand());
         self
     }
 
     // An application of the operator o at a begins.
-    pub(crate) fn open_operator(self, o: usize, a: usize, pile: &mut [usize]) -> Tree
+    pub(crate) fn open_operator(self, o: Operator, a: usize, pile: &mut [Application]) -> Tree
         ensures { Y.grove result pile.new ≡ Y.open_grove self o a pile.old }
     {
-        let i = 3 * self.level as usize;
-        put(pile, i, o);
-        put(pile, i + 1, a);
-        put(pile, i + 2, 0);
+        let application = Application {
+            operator: o,
+            at: a,
+            operands: 0,
+        };
+        put(pile, self.level as usize, application);
         self.levelled(add(self.level, 1))
     }
 
     // The innermost application is whole.
-    pub(crate) fn close(self, pile: &mut [usize]) -> Tree
+    pub(crate) fn close(self, pile: &mut [Application]) -> Tree
         ensures { Y.grove result pile.new ≡ Y.close_grove self pile.old }
     {
-        let o = self.entry(pile, 0);
-        let c = self.entry(pile, 2);
-        let u = self.spent(own_calls(o), own_runs(o, c));
-        let x = u.levelled(self.level.saturating_sub(1));
-        x.whole(pile)
+        let a = self.innermost(pile);
+        let spent = self.spent(a.operator.own_calls(), a.operator.own_runs(a.operands));
+        spent.levelled(self.level.saturating_sub(1)).whole(pile)
     }
 
+    // The definition is whole.
     fn defined(self) -> Tree
         ensures { result ≡ Y.defined_tree self }
     {
         Tree {
             definitions: add(self.definitions, 1),
-            count: self.count,
-            level: self.level,
-            calls: self.calls,
-            steps: self.steps,
+            ..self
         }
     }
 
-    // The definition with s parameters is whole: its row.
-    fn put_row(self, s: u8, table: &mut [u8])
-        ensures { table.new ≡ Y.defined_table self s table.old }
+    // The size of the definition with s parameters, which is whole.
+    fn size(self, s: u8) -> Size
+        ensures { result ≡ Y.size_of self s }
     {
-        let j = self.definitions as usize;
-        let runs = add(self.steps, self.count);
-        put_byte(table, j, s);
-        put_byte(table, SINKS + j, self.count);
-        put_byte(table, DECLARED + j, self.calls);
-        put_byte(table, RUNNING + j, runs);
+        Size {
+            parameters: s,
+            sinks: self.count,
+            declared: self.calls,
+            running: add(self.steps, self.count),
+        }
     }
 
-    pub(crate) fn define(self, s: u8, table: &mut [u8]) -> Tree
-        ensures { (result ≡ Y.defined_tree self) × (table.new ≡ Y.defined_table self s table.old) }
+    // The definition with s parameters is whole.
+    pub(crate) fn define(self, s: u8, sizes: &mut [Size]) -> Tree
+        ensures { (result ≡ Y.defined_tree self) × (sizes.new ≡ set sizes.old self.definitions (Y.size_of self s)) }
     {
-        self.put_row(s, table);
+        let j = self.definitions as usize;
+        if j < sizes.len() {
+            sizes[j] = self.size(s);
+        }
         self.defined()
     }
 
     // Whether an operator may be applied: a sign, or a whole definition with one sink.
-    pub(crate) fn callable(self, table: &[u8], o: usize) -> bool
-        ensures { result ≡ Y.callable_in self.definitions table.now o }
+    pub(crate) fn callable(self, sizes: &[Size], o: Operator) -> bool
+        ensures { result ≡ Y.callable_in self.definitions sizes.now o }
     {
-        if o < 4 {
-            return true;
+        match o {
+            Operator::Sign(_) => true,
+            Operator::Reactor(j) => j < self.definitions as usize && size_at(sizes, j).sinks == 1,
         }
-        let j = o - 4;
-        if self.definitions as usize <= j {
-            return false;
-        }
-        byte(table, SINKS + j) == 1
     }
 
     // How many operands an operator takes.
-    pub(crate) fn takes(self, table: &[u8], o: usize) -> usize
-        ensures { result ≡ Y.takes_in self.definitions table.now o }
+    pub(crate) fn takes(self, sizes: &[Size], o: Operator) -> u8
+        ensures { result ≡ Y.takes_in self.definitions sizes.now o }
     {
-        if o < 4 {
-            return 2;
+        match o {
+            Operator::Sign(_) => 2,
+            Operator::Reactor(j) if j < self.definitions as usize => size_at(sizes, j).parameters,
+            Operator::Reactor(_) => 0,
         }
-        let j = o - 4;
-        if self.definitions as usize <= j {
-            return 0;
-        }
-        byte(table, j) as usize
     }
 }

@@ -9,9 +9,9 @@ mod calls;
 mod grammar;
 mod grove;
 mod learn;
+mod measure;
 mod names;
 mod pass;
-mod size;
 mod tables;
 mod word;
 mod write;
@@ -117,11 +117,41 @@ pub struct Tree {
     pub steps: u8,
 }
 
-// What is known after some words, beside the tables.
+// What an application applies: a sign, or a reactor by its number.
 #[derive(Clone, Copy)]
+pub enum Operator {
+    Sign(Sign),
+    Reactor(usize),
+}
+
+// An application whose bracket is open: its operator, the place of the operator, and how many operands it
+// has so far.
+#[derive(Clone, Copy)]
+pub struct Application {
+    pub operator: Operator,
+    pub at: usize,
+    pub operands: u8,
+}
+
+// How large a whole definition is: its parameters, its sinks, its AllocMonos and its R commands.
+#[derive(Clone, Copy)]
+pub struct Size {
+    pub parameters: u8,
+    pub sinks: u8,
+    pub declared: u8,
+    pub running: u8,
+}
+
+// All that is known after some words: of the names, of which `places` has the first bytes (the sources'
+// from 0 on, the reactors' from 31 on, the parameters' from 63 on), and of the tree, with the sizes of the
+// whole definitions and the open applications from the outermost on.
+#[derive(Drop)]
 pub struct Knowing {
     pub tally: Tally,
     pub tree: Tree,
+    pub places: [usize; 287],
+    pub sizes: [Size; 32],
+    pub pile: [Application; 16],
 }
 
 // What is known of a text whose form is right: the lowest byte that 17 finds fault with, the text's

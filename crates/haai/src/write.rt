@@ -1,46 +1,34 @@
 // The bytes that a word adds: commands in the output, and the locations of values.
-ghost use Rattle.std.specs.Prelude.{ℕ, ◌+◌, ◌≤◌, ◌≡◌, List, [], ◌∷◌, length, set};
+#![tactic(auto, unfolding(value::specs::Open::opened, crate::specs::Writing::cursor_of, crate::specs::Writing::few, crate::specs::Writing::entry_for, crate::specs::Writing::operands_so_far, crate::specs::Writing::next_entry, crate::specs::Writing::outer_entry, crate::specs::Writing::place_d, crate::specs::Writing::place_r, crate::specs::Writing::deployment_loc, crate::specs::Writing::location_r, crate::specs::Writing::add_apply, crate::specs::Writing::add_operand, crate::specs::Writing::add_constant, crate::specs::Writing::adds, crate::specs::Word::bytes_of))]
+
+ghost use Rattle.std.specs.Prelude.{◌+◌, ◌≤◌, ◌≡◌, length, set};
 ghost use Rattle.image.specs.Memory.{patch};
+ghost use Rattle.haai.specs.Word.{bytes_of};
 ghost use Rattle.haai.specs.Emit.{supplies, sinks_from};
 ghost use Rattle.haai.specs.Places as J;
 ghost use Rattle.haai.specs.Writing as Q;
 
-use crate::grove::{DECLARED, put_byte};
-use crate::names::place;
-use crate::size::row_length;
-use crate::{Cursor, Meant, Role, Tally, Tree};
+use crate::grove::{opened_at, size_at};
+use crate::measure::code_length;
+use crate::{Application, Cursor, Knowing, Meant, Operator, Role, Size, Tally, Tree};
 use program::{Command, byte};
 
-pub(crate) fn put_four(out: &mut [u8], at: usize, a: u8, b: u8, c: u8, d: u8)
-    requires { at + 4 ≤ length out.old }
-    ensures { out.new ≡ patch out.old at (a ∷ b ∷ c ∷ d ∷ []) }
+pub(crate) fn put_bytes(out: &mut [u8], at: usize, bytes: &[u8])
+    requires { at + length bytes.now ≤ length out.old }
+    ensures { out.new ≡ patch out.old at bytes.now }
 {
-    out[at] = a;
-    out[at + 1] = b;
-    out[at + 2] = c;
-    out[at + 3] = d;
+    out[at..at + bytes.len()].copy_from_slice(bytes);
 }
 
 // A command from byte `at` on, where there is room for it.
 pub(crate) fn put_command(out: &mut [u8], at: usize, code: u8, x: u8, a: u8, b: u8, v: u32)
     ensures { out.new ≡ Q.put_eight out.old at code x a b v }
 {
-    let n = out.len();
-    if n < 8 {
+    if out.len() < 8 || out.len() - 8 < at {
         return;
     }
-    if n - 8 < at {
-        return;
-    }
-    put_four(out, at, code, x, a, b);
-    put_four(
-        out,
-        at + 4,
-        (v % 256) as u8,
-        (v / 256 % 256) as u8,
-        (v / 65536 % 256) as u8,
-        (v / 16777216 % 256) as u8,
-    );
+    let [v0, v1, v2, v3] = v.to_le_bytes();
+    put_bytes(out, at, &[code, x, a, b, v0, v1, v2, v3]);
 }
 
 // ---- places and locations
@@ -75,28 +63,21 @@ impl Cursor {
 }
 
 // Where the commands of definition j begin.
-pub(crate) fn first_at(sizes: &[u8], end: usize, j: u8) -> usize
-    requires { (end ≤ 1000) × (j ≤ 32) }
+pub(crate) fn first_at(sizes: &[Size], end: usize, j: usize) -> usize
+    requires { (end ≤ 1000) × ((j ≤ 32) × (j ≤ length sizes.now)) }
     ensures { (result ≡ Q.first_at sizes.now end j) × (result ≤ Q.most_first) }
 {
-    let mut first = end;
-    let mut i: u8 = 0;
-    while i < j {
-        first = first + row_length(sizes, i as usize);
-        i = i + 1;
-    }
-    first
+    end + code_length(&sizes[..j])
 }
 
-pub(crate) fn cursor_of(sizes: &[u8], first: usize, v: Tally, u: Tree) -> Cursor
+pub(crate) fn cursor_of(sizes: &[Size], first: usize, v: Tally, u: Tree) -> Cursor
     requires { J.Fits v }
     ensures { result ≡ Q.cursor_of sizes.now first v u }
 {
-    let declared = byte(sizes, DECLARED + u.definitions as usize);
     Cursor {
-        first: first,
+        first,
         parameters: v.own_names(),
-        declared: declared,
+        declared: size_at(sizes, u.definitions as usize).declared,
         calls: u.calls,
         steps: u.steps,
     }
@@ -108,10 +89,7 @@ pub(crate) fn cursor_of(sizes: &[u8], first: usize, v: Tally, u: Tree) -> Cursor
 fn few(n: usize) -> usize
     ensures { result ≡ Q.few n }
 {
-    if n < 7 {
-        return n;
-    }
-    7
+    n.min(7)
 }
 
 // The entry for one more operand of an application at level i that has n.
@@ -123,34 +101,42 @@ fn entry_for(i: usize, n: usize) -> usize
 }
 
 // How many operands the innermost application has, or the body.
-fn operands_so_far(u: Tree, pile: &[usize]) -> usize
+fn operands_so_far(u: Tree, pile: &[Application]) -> usize
     ensures { result ≡ Q.operands_so_far u pile.now }
 {
     if u.level == 0 {
         return u.count as usize;
     }
-    u.entry(pile, 2)
+    u.innermost(pile).operands as usize
 }
 
 // The entry for the next value.
-fn next_entry(u: Tree, pile: &[usize]) -> usize
+fn next_entry(u: Tree, pile: &[Application]) -> usize
     ensures { result ≡ Q.next_entry u pile.now }
 {
     entry_for(u.level as usize, operands_so_far(u, pile))
 }
 
 // The entry for the innermost application once it is whole.
-fn outer_entry(u: Tree, pile: &[usize]) -> usize
+fn outer_entry(u: Tree, pile: &[Application]) -> usize
     ensures { result ≡ Q.outer_entry u pile.now }
 {
     if u.level <= 1 {
         return entry_for(0, u.count as usize);
     }
     let i = u.level as usize;
-    entry_for(i - 1, place(pile, 3 * (i - 2) + 2))
+    entry_for(i - 1, opened_at(pile, i - 2).operands as usize)
 }
 
 // ---- what a word adds
+
+fn put_byte(ls: &mut [u8], i: usize, v: u8)
+    ensures { ls.new ≡ set ls.old i v }
+{
+    if i < ls.len() {
+        ls[i] = v;
+    }
+}
 
 // One R command that gives a value.
 fn add_give(
@@ -179,11 +165,9 @@ fn put_supplies(out: &mut [u8], at: usize, b: u8, ls: &[u8], i: usize, n: usize)
     ensures { let row = Q.row_of ls.now i n in
         out.new ≡ Q.put_commands out.old at (supplies b 0 row) }
 {
-    let mut x: usize = 0;
-    while x < n {
+    for x in 0..n {
         let l = byte(ls, i + x);
         put_command(out, at + 8 * x, Command::SUPPLY, x as u8, l, b, 0);
-        x = x + 1;
     }
 }
 
@@ -193,11 +177,9 @@ fn put_sinks(out: &mut [u8], at: usize, ls: &[u8], n: usize)
     ensures { let row = Q.row_of ls.now 0 n in
         out.new ≡ Q.put_commands out.old at (sinks_from 0 row) }
 {
-    let mut x: usize = 0;
-    while x < n {
+    for x in 0..n {
         let l = byte(ls, x);
         put_command(out, at + 8 * x, Command::SINK, x as u8, l, 0, 0);
-        x = x + 1;
     }
 }
 
@@ -234,41 +216,47 @@ fn add_call(c: Cursor, j: usize, i: usize, n: usize, ls: &mut [u8], entry: usize
 }
 
 // An application of the operator o to the n operands in the row from i on.
-fn add_applied(c: Cursor, o: usize, i: usize, n: usize, ls: &mut [u8], entry: usize, out: &mut [u8])
+fn add_applied(
+    c: Cursor,
+    o: Operator,
+    i: usize,
+    n: usize,
+    ls: &mut [u8],
+    entry: usize,
+    out: &mut [u8],
+)
     requires { (c.first ≤ Q.most_first) × ((i ≤ 2000) × (n ≤ 7)) }
     ensures { Q.added out.new ls.new
         ≡ Q.add_applied c o i n ls.old entry out.old }
 {
-    if o < 4 {
-        let a = byte(ls, i);
-        let b = byte(ls, i + 1);
-        add_give(
-            c,
-            entry,
-            Command::PRIMITIVE,
-            (o % 256) as u8,
-            a,
-            b,
-            0,
-            ls,
-            out,
-        );
-        return;
+    match o {
+        Operator::Sign(sign) => {
+            let a = byte(ls, i);
+            let b = byte(ls, i + 1);
+            let code = Command::PRIMITIVE;
+            add_give(c, entry, code, sign as u8, a, b, 0, ls, out);
+        }
+        Operator::Reactor(j) => add_call(c, j, i, n, ls, entry, out),
     }
-    add_call(c, o - 4, i, n, ls, entry, out);
 }
 
 // The innermost application is whole.
-fn add_apply(u: Tree, c: Cursor, pile: &[usize], ls: &mut [u8], out: &mut [u8])
+fn add_apply(k: &Knowing, c: Cursor, ls: &mut [u8], out: &mut [u8])
     requires { c.first ≤ Q.most_first }
-    ensures { let pl = pile.now in
-        ((t w : List ℕ) → (v : Tally) → (ps : List ℕ) → Q.added out.new ls.new
-        ≡ Q.add_apply t w v u ps pl c ls.old out.old) }
+    ensures { Q.added out.new ls.new ≡ Q.add_apply k.now c ls.old out.old }
 {
-    let o = u.entry(pile, 0);
-    let n = few(u.entry(pile, 2));
-    let entry = outer_entry(u, pile);
-    add_applied(c, o, 7 * (u.level as usize), n, ls, entry, out);
+    let a = k.tree.innermost(&k.pile);
+    let n = few(a.operands as usize);
+    let entry = outer_entry(k.tree, &k.pile);
+    add_applied(
+        c,
+        a.operator,
+        7 * (k.tree.level as usize),
+        n,
+        ls,
+        entry,
+        out,
+    );
 }
 
 // An operand that stands for m.
@@ -290,47 +278,42 @@ fn add_sinks(c: Cursor, n: usize, ls: &[u8], out: &mut [u8])
     put_sinks(out, c.place_r(), ls, n);
 }
 
-// The word w in its role.
-pub(crate) fn emit(
-    v: Tally,
-    u: Tree,
-    c: Cursor,
-    t: &[u8],
-    w: &[u8],
-    role: Role,
-    places: &[usize],
-    pile: &[usize],
-    ls: &mut [u8],
-    out: &mut [u8],
-)
-    requires { J.Fits v × (c.first ≤ Q.most_first) }
-    ensures { let t = t.entry.now in let w = w.entry.now in
-        let ps = places.now in let pl = pile.now in
-        Q.added out.new ls.new
-        ≡ Q.adds t w v u ps pl c ls.old out.old role }
-{
-    match role {
-        Role::Source => {}
-        Role::Reactor => {}
-        Role::Parameter => {}
-        Role::Operand => {
-            let m = v.meant(t, places, w);
-            add_meant(c, next_entry(u, pile), m, ls, out);
+impl Knowing {
+    // What the word w adds in its role.
+    fn emit(&self, c: Cursor, t: &[u8], w: &[u8], role: Role, ls: &mut [u8], out: &mut [u8])
+        requires { J.Fits self.now.tally × (c.first ≤ Q.most_first) }
+        ensures { Q.added out.new ls.new ≡ Q.adds t.now w.now self.now c ls.old out.old role }
+    {
+        let entry = next_entry(self.tree, &self.pile);
+        match role {
+            Role::Source | Role::Reactor | Role::Parameter | Role::Operator | Role::Fixed => {}
+            Role::Operand => add_meant(c, entry, self.tally.meant(t, &self.places, w), ls, out),
+            Role::Constant(n) => add_give(c, entry, Command::CONSTANT, 0, 0, 0, n, ls, out),
+            Role::Apply => add_apply(self, c, ls, out),
+            Role::Define => add_sinks(c, few(self.tree.count as usize), ls, out),
         }
-        Role::Constant(n) => add_give(
-            c,
-            next_entry(u, pile),
-            Command::CONSTANT,
-            0,
-            0,
-            0,
-            n,
-            ls,
-            out,
-        ),
-        Role::Operator => {}
-        Role::Apply => add_apply(u, c, pile, ls, out),
-        Role::Define => add_sinks(c, few(u.count as usize), ls, out),
-        Role::Fixed => {}
+    }
+
+    // What the word from a to before e adds.
+    pub(crate) fn emit_word(
+        &self,
+        t: &[u8],
+        a: usize,
+        e: usize,
+        role: Role,
+        sizes: &[Size; 32],
+        end: usize,
+        ls: &mut [u8],
+        out: &mut [u8],
+    )
+        requires fits { J.Fits self.now.tally × ((a ≤ e) × (e ≤ length t.now)) }
+        requires end_bound { (end ≤ 1000) × (self.now.tree.definitions ≤ 32) }
+        ensures { let t = t.now in let x = self.now in let zs = sizes.now in
+            let c = Q.cursor_of zs (Q.first_at zs end x.tree.definitions) x.tally x.tree in
+            Q.added out.new ls.new ≡ Q.adds t (bytes_of t a e) x c ls.old out.old role }
+    {
+        let first = first_at(sizes, end, self.tree.definitions as usize);
+        let c = cursor_of(sizes, first, self.tally, self.tree);
+        self.emit(c, t, &t[a..e], role, ls, out);
     }
 }

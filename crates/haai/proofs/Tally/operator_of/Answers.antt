@@ -1,35 +1,29 @@
-use Rattle.std.proofs.Common.{rules}
-use Rattle.std.specs.Prelude.{ℕ, zero, suc, ◌+◌, ◌<◌, ◌≡◌, refl, not, None}
-use Rattle.std.proofs.Common.{sym, ◌∙◌, ap, arith}
-use Rattle.value.proofs.Tests.{goes, stops, lt?}
-use Rattle.haai.specs.Word.{among, position, signs, sign_at}
+use Rattle.std.specs.Prelude.{ℕ, ◌≡◌, refl, not, None, length}
+use Rattle.std.proofs.Common.{sym, ◌∙◌, ap, rules}
+use Rattle.value.proofs.Tests.{goes, stops}
+use Rattle.std.specs.Option.{unwrap_or}
 use Rattle.haai.specs.Places.{operator_in, reactors_in}
-use Rattle.haai.specs.declared.Sign.{Sign}
-use Rattle.haai.specs.contracts.Sign.{the_type}
-use denote.Enum.Declared.{tag_of}
-use Rattle.haai.proofs.Placed.{place_le}
+use Rattle.haai.specs.Clauses.{place_in}
+use Rattle.haai.specs.declared.Operator.TheVariants.{Sign, Reactor}
+use Rattle.haai.proofs.Placed.{found_or, length_names}
 use Rattle.haai.proofs.Words.{sign_found, sign_none}
 use Rattle.haai.proofs.Tally.operator_of.Goals as goal
 
-tagged : (n : ℕ) → n < 4 → tag_of the_type (sign_at n) ≡ n
-unfolding sign_at
-tagged zero l = refl
-tagged (suc zero) l = refl
-tagged (suc (suc zero)) l = refl
-tagged (suc (suc (suc zero))) l = refl
-tagged (suc (suc (suc (suc n)))) l = absurd (omega arith)
-
 pub returns-in-Some : goal.returns-in-Some
-unfolding operator_in among
+unfolding operator_in
 returns-in-Some c = let w = c.args.w.now in
-    let f = sign_found w _ c.in-Some.ensures in
-    stops _ (ap not f.0) (ap (λ (s : Sign). tag_of the_type s) f.1 ∙ tagged (position signs w) (lt? f.0))
-
-pub overflow_add-result : goal.overflow_add-result
-overflow_add-result c = let low = place_le _ _ _ _ _ _ c.position.ensures in search rules
+    let f = sign_found w _ c.in-Some.ensures in stops _ (ap not f.0) (ap (λ s. Sign s) f.1)
 
 pub returns : goal.returns
 unfolding operator_in reactors_in
 returns c = let w = c.args.w.now in
+    let t = c.args.t.now in
+    let v = c.args.self in
+    let ps = c.args.places.now in
     let none : c.sign_of.result ≡ None = search rules in
-    goes _ _ (ap not (sign_none w (sym none ∙ c.sign_of.ensures))) (ap (λ (n : ℕ). 4 + n) c.position.ensures)
+    let names = c.reactor_places.ensures t in
+    let found = found_or (reactors_in t ps v) w v.reactors (sym (length_names t ps v.reactors 31)) in
+    goes _ _ (ap not (sign_none w (sym none ∙ c.sign_of.ensures)))
+    (ap (λ (n : ℕ). Reactor n)
+    (c.unwrap_or.ensures ∙ ap (λ o. unwrap_or o v.reactors) (c.position-reactor.ensures ∙ ap (λ ns. place_in ns w) names)
+    ∙ found))

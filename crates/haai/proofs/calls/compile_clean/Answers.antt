@@ -4,11 +4,8 @@ use Rattle.std.specs.Prelude.{ℕ, ◌+◌, ◌*◌}
 use Rattle.std.proofs.Common.{sym, ◌∙◌, ap, arith}
 use Rattle.value.proofs.Tests.{refused, passed}
 use Rattle.haai.specs.Names.{text_of}
-use Rattle.haai.proofs.Compiled.{limit_stops, space_stops, written_whole, limits_found, whole_found}
+use Rattle.haai.proofs.Compiled.{limit_stops, space_stops, written_whole, limits_found, whole_found, long as zs_long}
 use Rattle.haai.proofs.calls.compile_clean.Goals as goal
-
-pub fits-requires : goal.fits-requires
-fits-requires c = c.requires.found.few
 
 pub returns-then-not-fits : goal.returns-then-not-fits
 unfolding text_of
@@ -29,7 +26,9 @@ overflow_add-whole-2 c = let found = c.requires.found in
     search rules
 
 pub code_length-requires : goal.code_length-requires
-code_length-requires c = c.requires.found.few
+code_length-requires c = let long = zs_long (c.args.text.now) c.args.f (c.args.table.now) c.requires in
+    let few = c.requires.found.few in
+    omega arith
 
 pub overflow_add-whole-3 : goal.overflow_add-whole-3
 overflow_add-whole-3 c = let found = c.requires.found in

@@ -1,33 +1,30 @@
-use Rattle.std.specs.Prelude.{ℕ, ◌+◌, ◌*◌, [], ◌∷◌}
-use Rattle.std.proofs.Common.{◌∙◌, ap, ap₂, arith}
+use Rattle.std.specs.Prelude.{ℕ, ◌+◌, ◌*◌, ◌≡◌, List, ◌∷◌, length, take, get_or}
+use Rattle.std.proofs.Common.{sym, ◌∙◌, ap, arith}
+use Rattle.std.proofs.lemmas.List.{length-take-le}
+use lib.Seq.{take_all}
 use Rattle.image.specs.Memory.{patch}
-use Rattle.haai.proofs.Puts.{rowing_begins, rowing_goes, rowing_ends, entry_row, entry_rows}
+use Rattle.haai.specs.Writing.{entries_by}
+use Rattle.haai.proofs.Puts.{patch_nothing, entries_more, length_entries, stretch_more}
 use Rattle.haai.proofs.tables.put_entries.Goals as goal
 
 pub loop-j-init : goal.loop-j-init
-loop-j-init c = rowing_begins _ _ _ _ _ (omega arith)
-
-pub put_four-requires : goal.put_four-requires
-put_four-requires c = let loop = c.loop-j in
-    omega (arith, loop.invariant.long)
+unfolding entries_by
+loop-j-init c = sym (patch_nothing _ _)
 
 pub loop-j-preserved : goal.loop-j-preserved
-unfolding entry_row
-loop-j-preserved c = let args = c.args in
-    let loop_test = c.loop-j-test in
-    let put_four = c.put_four in
-    let byte = c.byte-d in
-    let byte2 = c.byte-r in
+loop-j-preserved c = let a = c.args in
     let l = c.loop-j in
-    let p = args.at + 4 * l.j in
-    rowing_goes _ _ _ _ l.out _ l.j _ _ l.invariant loop_test.true (omega arith) (omega arith)
-    (put_four.ensures
-    ∙ ap₂ (λ (d r : ℕ). patch l.out p (l.j ∷ d ∷ r ∷ 0 ∷ [])) byte.ensures byte2.ensures)
-
-pub shape_of-out : goal.shape_of-out
-shape_of-out c = c.loop-j.invariant.long
+    let zs = a.sizes.now in
+    let more = entries_more 0 zs l.j c.loop-j-test.true in
+    let done = length_entries 0 (take l.j zs) in
+    let long : length (take l.j zs) ≡ l.j = length-take-le l.j zs (omega arith) in
+    let same = l.auto.out in
+    let zero : 0 + l.j ≡ l.j = omega arith in
+    rw (more, zero)
+    (stretch_more a.out.now l.out _ (entries_by 0 (take l.j zs)) _ a.at (a.at + 4 * l.j) l.invariant (omega arith)
+    (omega arith) c.put_bytes.ensures)
 
 pub returns : goal.returns
 returns c = let a = c.args in
-    rowing_ends _ _ _ _ _ _ _ c.loop-j.invariant c.loop-j-test.false
-    ∙ ap (patch (a.out.now) a.at) (entry_rows (a.sizes.now) 0 a.n)
+    let l = c.loop-j in
+    l.invariant ∙ ap (λ zs. patch a.out.now a.at (entries_by 0 zs)) (take_all l.j a.sizes.now c.loop-j-test.false)

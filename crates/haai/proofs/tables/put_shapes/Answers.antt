@@ -1,28 +1,29 @@
-use Rattle.std.proofs.Common.{◌∙◌, ap, arith}
+use Rattle.std.specs.Prelude.{ℕ, ◌+◌, ◌*◌, ◌≡◌, List, ◌∷◌, length, take, get_or, replicate}
+use Rattle.std.proofs.Common.{sym, ◌∙◌, ap, arith}
+use Rattle.std.proofs.lemmas.List.{length-take-le}
+use lib.Seq.{take_all}
 use Rattle.image.specs.Memory.{patch}
-use Rattle.haai.proofs.Puts.{rowing_begins, rowing_goes, rowing_ends, shape_row, shape_rows, shape_put}
+use Rattle.haai.specs.Writing.{shapes_by}
+use Rattle.haai.proofs.Puts.{patch_nothing, shapes_more, length_shapes, shape_put, stretch_more}
 use Rattle.haai.proofs.tables.put_shapes.Goals as goal
 
 pub loop-j-init : goal.loop-j-init
-loop-j-init c = rowing_begins _ _ _ _ _ (omega arith)
+unfolding shapes_by
+loop-j-init c = sym (patch_nothing _ _)
 
 pub loop-j-preserved : goal.loop-j-preserved
-unfolding shape_row
-loop-j-preserved c = let loop_test = c.loop-j-test in
-    let args = c.args in
-    let byte = c.byte-p in
-    let byte2 = c.byte-s in
-    let put_command = c.put_command in
-    let put_command2 = c.put_command-in-loop-j in
+loop-j-preserved c = let a = c.args in
     let l = c.loop-j in
-    rowing_goes _ _ _ _ l.out _ l.j _ _ l.invariant loop_test.true (omega arith) (omega arith)
-    (shape_put (args.sizes.now) l.j l.out _ _ _ _ _ (omega (arith, l.invariant.long)) byte.ensures
-    byte2.ensures put_command.ensures put_command2.ensures)
-
-pub shape_of-out : goal.shape_of-out
-shape_of-out c = c.loop-j.invariant.long
+    let zs = a.sizes.now in
+    let more = shapes_more zs l.j c.loop-j-test.true in
+    let done = length_shapes (take l.j zs) in
+    let long : length (take l.j zs) ≡ l.j = length-take-le l.j zs (omega arith) in
+    let same = l.auto.out in
+    rw more
+    (stretch_more a.out.now l.out _ (shapes_by (take l.j zs)) _ a.at (a.at + 16 * l.j) l.invariant (omega arith)
+    (omega arith) (shape_put l.out _ _ _ _ _ (omega arith) c.put_command.ensures c.put_command-in-loop-j.ensures))
 
 pub returns : goal.returns
 returns c = let a = c.args in
-    rowing_ends _ _ _ _ _ _ _ c.loop-j.invariant c.loop-j-test.false
-    ∙ ap (patch (a.out.now) a.at) (shape_rows (a.sizes.now) 0 a.n)
+    let l = c.loop-j in
+    l.invariant ∙ ap (λ zs. patch a.out.now a.at (shapes_by zs)) (take_all l.j a.sizes.now c.loop-j-test.false)

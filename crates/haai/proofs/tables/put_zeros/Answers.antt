@@ -1,25 +1,17 @@
-use Rattle.std.specs.Prelude.{refl}
-use Rattle.std.proofs.Common.{sym, ◌∙◌, ap, arith}
-use Rattle.image.specs.Memory.{patch}
-use Rattle.haai.proofs.Puts.{patch_nothing, patch_more, rowing_begins, rowing_goes, rowing_ends}
-use Rattle.haai.proofs.Puts.{zero_rows}
+use Rattle.std.specs.Prelude.{ℕ, ◌+◌, ◌-◌, ◌≡◌, length, replicate, take, drop}
+use Rattle.std.proofs.Common.{◌∙◌, ap, arith}
+use lib.ListN.{length-replicate}
+use Rattle.std.proofs.lemmas.List.{length-take}
+use Rattle.std.proofs.Common.{length-drop}
+use Rattle.haai.proofs.Puts.{patch_mid}
 use Rattle.haai.proofs.tables.put_zeros.Goals as goal
 
-pub loop-i-init : goal.loop-i-init
-loop-i-init c = rowing_begins _ _ _ _ _ (omega arith)
-
-pub bounds-out-at : goal.bounds-out-at
-bounds-out-at c = omega (arith, c.loop-i.invariant.long)
-
-pub loop-i-preserved : goal.loop-i-preserved
-loop-i-preserved c = let l = c.loop-i in
-    rowing_goes _ _ _ _ l.out _ l.i _ _ l.invariant c.loop-i-test.true (omega arith) (omega arith)
-    (sym (patch_nothing _ _) ∙ patch_more _ _ _ _ _ (omega (arith, l.invariant.long)) refl)
-
-pub shape_of-out : goal.shape_of-out
-shape_of-out c = c.loop-i.invariant.long
-
 pub returns : goal.returns
-returns c = let a = c.args in
-    rowing_ends _ _ _ _ _ _ _ c.loop-i.invariant c.loop-i-test.false ∙ ap (patch (a.out.now) a.at)
-    (zero_rows 0 a.n)
+returns c = let at = c.args.at in
+    let n = c.args.n in
+    let out = c.args.out.now in
+    let e : at + n - at ≡ n = omega arith in
+    let m : length (take (at + n - at) (drop at out)) ≡ n = simp (length-take, length-drop) (omega arith) in
+    let f = c.fill.ensures.after (λ y z. z) ∙ ap (λ (k : ℕ). replicate {A = ℕ} k 0) m in
+    let l : length (replicate {A = ℕ} n 0) ≡ n = length-replicate n 0 in
+    rw f (patch_mid out (replicate n 0) at _ (omega arith))

@@ -1,14 +1,24 @@
-use Rattle.std.proofs.Common.{sym, arith}
-use Rattle.haai.proofs.Puts.{eight_unput, eight_parts}
+use Rattle.std.specs.Prelude.{ℕ, ◌+◌, ◌<◌, List, [], ◌∷◌, length}
+use Rattle.std.proofs.Common.{sym, ◌∙◌, ap, arith}
+use Rattle.image.specs.Memory.{patch}
+use Rattle.program.specs.Encode.{eight}
+use Rattle.haai.proofs.Puts.{eight_unput, eight_put}
 use Rattle.haai.proofs.write.put_command.Goals as goal
+use Rattle.haai.proofs.write.put_command.Goals.{then-out-lt8-via-then-out-lt8}
+use Rattle.haai.proofs.write.put_command.Goals.{then-out-lt8-via-else-out-lt8+then-out-at}
 
-pub returns-then-n-lt8 : goal.returns-then-n-lt8
-returns-then-n-lt8 c = sym (eight_unput _ _ _ _ _ _ _ (omega arith))
-
-pub returns-then-n-at : goal.returns-then-n-at
-returns-then-n-at c = sym (eight_unput _ _ _ _ _ _ _ (omega arith))
+pub returns-then-out-lt8 : goal.returns-then-out-lt8
+returns-then-out-lt8 c =
+    let short : length c.args.out.now < c.args.at + 8 =
+    elim c.then-out-lt8.branch [
+      | then-out-lt8-via-then-out-lt8 w ↦ omega arith
+      | then-out-lt8-via-else-out-lt8+then-out-at w ↦ omega arith
+    ]
+    in
+    sym (eight_unput _ _ _ _ _ _ _ short)
 
 pub returns : goal.returns
-returns c = let put_four = c.put_four in
-    let put_four2 = c.put_four-2 in
-    eight_parts _ _ _ _ _ _ _ _ _ (omega arith) put_four.ensures put_four2.ensures
+unfolding eight
+returns c = let a = c.args in
+    let room = eight_put a.out.now a.at a.code a.x a.a a.b a.v (omega arith) in
+    rw c.to_le_bytes.ensures at c.put_bytes.ensures ∙ sym room

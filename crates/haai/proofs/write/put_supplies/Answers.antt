@@ -17,9 +17,6 @@ loop-x-preserved c = let loop_test = c.loop-x-test in
     putting_goes _ _ _ _ _ _ l.out _ l.x _ _ _ _ _ _ _ l.invariant loop_test.true byte.ensures refl
     put_command.ensures refl
 
-pub shape_of-out : goal.shape_of-out
-shape_of-out c = c.loop-x.invariant.long
-
 pub returns : goal.returns
 returns c = let a = c.args in
     putting_ends _ _ _ _ _ _ _ _ c.loop-x.invariant c.loop-x-test.false

@@ -1,4 +1,0 @@
-use Rattle.haai.proofs.grove.add.Goals as goal
-
-pub returns : goal.returns
-returns c = c.cap.ensures

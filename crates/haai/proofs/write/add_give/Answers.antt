@@ -1,4 +1,0 @@
-use Rattle.haai.proofs.write.add_give.Goals as goal
-
-pub returns : goal.returns
-returns c = cc
