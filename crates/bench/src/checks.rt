@@ -1,36 +1,32 @@
 // What the check says of the bench programs and of these with a command changed, and what start says.
 use crate::programs::{CLOCK, NEST, PEAK, TOGGLE, put_command};
-use crate::text::{put, put_answer, put_decimal};
+use crate::text::Told;
 use std::io;
 
 // A line `name: check number, place`.
 fn put_check(rt: &impl Print, name: &str, program: &[u8]) -> io::Result<()> {
-    put(rt, name)?;
-    put(rt, ": check ")?;
-    put_answer(rt, machine::check(program))?;
-    put(rt, "\n")
+    println!(rt; "{name}: check {}", Told(machine::check(program)))
 }
 
 // The line of a program with another command.
 fn put_changed(
     rt: &impl Print,
     name: &str,
+    change: &str,
     program: &mut [u8],
     at: u16,
     command: [u8; 4],
 ) -> io::Result<()> {
     put_command(program, at, command);
-    put_check(rt, name, program)
+    println!(rt; "{name}{change}: check {}", Told(machine::check(program)))
 }
 
 fn toggle_with(rt: &impl Print, change: &str, at: u16, command: [u8; 4]) -> io::Result<()> {
-    put(rt, "toggle")?;
-    put_changed(rt, change, &mut TOGGLE, at, command)
+    put_changed(rt, "toggle", change, &mut TOGGLE, at, command)
 }
 
 fn peak_with(rt: &impl Print, change: &str, at: u16, command: [u8; 4]) -> io::Result<()> {
-    put(rt, "running maximum")?;
-    put_changed(rt, change, &mut PEAK, at, command)
+    put_changed(rt, "running maximum", change, &mut PEAK, at, command)
 }
 
 fn clock(rt: &impl Print) -> io::Result<()> {
@@ -39,7 +35,8 @@ fn clock(rt: &impl Print) -> io::Result<()> {
     put_check(rt, "clock without its last byte", &program[..43])?;
     put_changed(
         rt,
-        "clock with its last command's a set to 1",
+        "clock",
+        " with its last command's a set to 1",
         &mut CLOCK,
         36,
         [8, 0, 1, 0],
@@ -81,7 +78,8 @@ fn disorder(rt: &impl Print) -> io::Result<()> {
     put_command(&mut twice, 206, [8, 0, 1, 0]);
     put_changed(
         rt,
-        "toggle, its sink set twice",
+        "toggle",
+        ", its sink set twice",
         &mut twice,
         214,
         [8, 0, 1, 0],
@@ -101,12 +99,7 @@ fn peak(rt: &impl Print) -> io::Result<()> {
 // A line `name, n words: start number, place`.
 fn put_start(rt: &impl Print, name: &str, program: &[u8], memory: &mut [u32]) -> io::Result<()> {
     let answer = machine::start(program, memory);
-    put(rt, name)?;
-    put(rt, ", ")?;
-    put_decimal(rt, memory.len() as u64)?;
-    put(rt, " words: start ")?;
-    put_answer(rt, answer)?;
-    put(rt, "\n")
+    println!(rt; "{name}, {} words: start {}", memory.len(), Told(answer))
 }
 
 // Memory is not zero before a start.

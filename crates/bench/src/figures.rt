@@ -1,7 +1,7 @@
 // The bench cases about figures, as a user sees them: how many words are enough, or why no number is; and
 // turns in exactly so many.
 use crate::programs::{CIRCLE, CLOCK, NEST, PEAK, TOGGLE};
-use crate::text::{put, put_answer};
+use crate::text::Told;
 use crate::tower::tower;
 use crate::turns::three_turns;
 use figure::figure;
@@ -11,10 +11,7 @@ use std::io;
 
 // A line `name: figure number, place`.
 fn put_figure(rt: &impl Print, name: &str, program: &[u8]) -> io::Result<()> {
-    put(rt, name)?;
-    put(rt, ": figure ")?;
-    put_answer(rt, figure(program))?;
-    put(rt, "\n")
+    println!(rt; "{name}: figure {}", Told(figure(program)))
 }
 
 // The second time main deploys reactor 1.

@@ -6,6 +6,8 @@
 // written being zero. A figure's line has `?` for the memory that it asks for, which is read as no words.
 // A text's line has the text where others have a program, and then `n!` and the n bytes of output space
 // after the call, of which the last ones, as long as they are as before, may be left out.
+ghost use Rattle.std.specs.Prelude.{◌<◌};
+
 use image::MOST_WORDS;
 use machine::{Answer, number, place};
 
@@ -40,115 +42,111 @@ const FIELD: usize = 4 * MOST_WORDS;
 // Bytes for all fields of a line.
 pub const ROOM: usize = FIELDS * FIELD;
 
-// What is read of a line: the field that it has come to, and whether bytes are read there; for each
-// field its decimal number and how many hexadecimal digits it has; and how many digits the program
-// of the line before has.
+// What is read of a field: its decimal number, and how many hexadecimal digits it has.
+#[derive(Clone, Copy)]
+struct Field {
+    number: u32,
+    digits: u32,
+}
+
+const UNREAD: Field = Field {
+    number: 0,
+    digits: 0,
+};
+
+// What is read of a line: the field that it has come to, and whether bytes are read there; its fields; and how many
+// digits the program of the line before has.
 #[derive(Clone, Copy)]
 pub struct Line {
     field: u8,
     hex: bool,
-    numbers: [u32; FIELDS],
-    digits: [u32; FIELDS],
+    fields: [Field; FIELDS],
     kept: u32,
+    ghost field_in_range: { field < 9 },
 }
 
 impl Line {
-    pub fn first() -> Line {
+    // The line after one whose program has so many digits.
+    fn after(kept: u32) -> Line {
         Line {
             field: 0,
             hex: false,
-            numbers: [0; FIELDS],
-            digits: [0; FIELDS],
-            kept: 0,
+            fields: [UNREAD; FIELDS],
+            kept,
         }
+    }
+
+    pub fn first() -> Line {
+        Line::after(0)
     }
 
     // The line after this one.
     pub fn following(self) -> Line {
-        let mut line = Line::first();
-        line.kept = self.digits[2];
-        line
+        Line::after(self.fields[2].digits)
     }
 
     // One more byte of the line; the bytes that it spells go into the room.
-    pub fn step(self, b: u8, room: &mut [u8; ROOM]) -> Line {
+    pub fn step(&mut self, b: u8, room: &mut [u8; ROOM]) {
         match b {
             b' ' => self.next_field(),
-            b':' | b'!' => self.at_bytes(),
-            b'=' => self.repeat(),
+            b':' | b'!' => self.hex = true,
+            b'=' => self.fields[2].digits = self.kept,
             _ => self.digit(value_of(b), room),
         }
     }
 
-    fn next_field(self) -> Line {
-        let mut line = self;
-        line.field = self.field % SINKS_LAST + 1;
-        line.hex = line.field == 2;
-        line
+    fn next_field(&mut self) {
+        self.field = self.field % SINKS_LAST + 1;
+        self.hex = self.field == 2;
     }
 
-    fn at_bytes(self) -> Line {
-        let mut line = self;
-        line.hex = true;
-        line
-    }
-
-    fn repeat(self) -> Line {
-        let mut line = self;
-        line.digits[2] = self.kept;
-        line
-    }
-
-    fn digit(self, d: u8, room: &mut [u8; ROOM]) -> Line {
-        let mut line = self;
-        let f = self.field as usize;
-        if FIELDS <= f {
-            return line;
-        }
-        if !self.hex {
-            line.numbers[f] = append(line.numbers[f], d);
-            return line;
-        }
-        let i = line.digits[f];
-        put_digit(room, self.field, i, d);
-        line.digits[f] = i % 1000000 + 1;
-        line
+    // Counts go round; no field of a vector comes so far.
+    fn digit(&mut self, d: u8, room: &mut [u8; ROOM]) {
+        let at = self.field;
+        let field = self.fields[at as usize];
+        let next = if self.hex {
+            put_digit(room, at, field.digits, d);
+            Field {
+                digits: field.digits.wrapping_add(1),
+                ..field
+            }
+        } else {
+            Field {
+                number: field.number.wrapping_mul(10).wrapping_add(u32::from(d)),
+                ..field
+            }
+        };
+        self.fields[at as usize] = next;
     }
 
     pub fn number(self) -> u32 {
-        self.numbers[0]
+        self.fields[0].number
     }
 
     // Whether these are the line's number and place.
     pub fn says(self, answer: Answer) -> bool {
-        (self.numbers[0] == number(answer) as u32) & (self.numbers[1] as usize == place(answer))
+        (self.fields[0].number == number(answer) as u32)
+            & (self.fields[1].number as usize == place(answer))
     }
 
     pub fn program<'a>(self, room: &'a [u8]) -> &'a [u8] {
-        bytes_of(room, 2, self.digits[2])
+        bytes_of(room, 2, self.fields[2].digits)
     }
 
     // How many words a field has, and the bytes of those that are written.
     pub fn count(self, field: u8) -> usize {
-        let f = field as usize;
-        if FIELDS <= f {
-            return 0;
-        }
-        self.numbers[f] as usize
+        self.fields
+            .get(field as usize)
+            .map_or(0, |read| read.number as usize)
     }
 
     pub fn words<'a>(self, field: u8, room: &'a [u8]) -> &'a [u8] {
-        let f = field as usize;
-        if FIELDS <= f {
-            return &room[..0];
-        }
-        bytes_of(room, field, self.digits[f])
+        let digits = self
+            .fields
+            .get(field as usize)
+            .map_or(0, |read| read.digits);
+        bytes_of(room, field, digits)
     }
-}
-
-// A decimal number with one more digit; no field of a vector has more than seven.
-fn append(n: u32, d: u8) -> u32 {
-    (n % 1000000) * 10 + d as u32
 }
 
 // The value of a hexadecimal digit.
@@ -166,26 +164,13 @@ fn place_of(field: u8, i: u32) -> usize {
 }
 
 fn put_digit(room: &mut [u8; ROOM], field: u8, i: u32, d: u8) {
-    let at = place_of(field, i);
-    if ROOM <= at {
-        return;
-    }
-    if i % 2 == 0 {
-        room[at] = d % 16 * 16;
-    } else {
-        room[at] = room[at] | d;
+    if let Some(byte) = room.get_mut(place_of(field, i)) {
+        *byte = if i % 2 == 0 { d % 16 * 16 } else { *byte | d };
     }
 }
 
 // The bytes of so many digits of a field, and none where the room does not have them.
 fn bytes_of<'a>(room: &'a [u8], field: u8, digits: u32) -> &'a [u8] {
-    let at = place_of(field, 0);
-    let end = place_of(field, digits);
-    if end < at {
-        return &room[..0];
-    }
-    if room.len() < end {
-        return &room[..0];
-    }
-    &room[at..end]
+    room.get(place_of(field, 0)..place_of(field, digits))
+        .unwrap_or(&[])
 }

@@ -1,36 +1,9 @@
 // The bench cases about previews, as a user sees them: what is shown of the turn, and then every word of
 // what was lent. Work memory is not zero before.
 use crate::programs::{CLOCK, NEST, TOGGLE};
-use crate::text::{put, put_decimal};
+use crate::text::Words;
 use crate::turns::{put_asked, put_outcome, put_turn};
-use image::word;
 use std::io;
-
-// How many words there are up to the last that is not zero.
-fn written(words: &[u32]) -> usize {
-    for i in (0..words.len()).rev() {
-        if word(words, i) != 0 {
-            return i + 1;
-        }
-    }
-    0
-}
-
-// `name a b c and k zeros`: of the zeros at the end only how many.
-fn put_words(rt: &impl Print, name: &str, words: &[u32]) -> io::Result<()> {
-    let n = written(words);
-    put(rt, name)?;
-    for i in 0..n {
-        put(rt, " ")?;
-        put_decimal(rt, word(words, i) as u64)?;
-    }
-    if n < words.len() {
-        put(rt, " and ")?;
-        put_decimal(rt, (words.len() - n) as u64)?;
-        put(rt, " zeros")?;
-    }
-    Ok(())
-}
 
 // One preview, with space for one sink that is not zero before it, the line of it and that of the words.
 fn put_preview(
@@ -45,10 +18,8 @@ fn put_preview(
     put_asked(rt, name, ", preview of turn ", memory, readings)?;
     let answer = machine::preview(program, memory, work, readings, &mut sinks);
     put_outcome(rt, answer, memory, &sinks)?;
-    put_words(rt, "memory", memory)?;
-    put_words(rt, "; work memory", work)?;
-    put_words(rt, "; sink space", &sinks)?;
-    put(rt, "\n")
+    print!(rt; "memory{}; work memory{}", Words(memory), Words(work))?;
+    println!(rt; "; sink space{}", Words(&sinks))
 }
 
 // A start, and a preview of the first turn.
@@ -69,8 +40,7 @@ fn clock(rt: &impl Print, memory: &mut [u32], work: &mut [u32]) -> io::Result<()
     first(rt, "clock", &CLOCK, memory, work, &[])?;
     put_preview(rt, "clock again", &CLOCK, memory, work, &[])?;
     put_turn(rt, "clock", &CLOCK, memory, &[])?;
-    put_words(rt, "memory", memory)?;
-    put(rt, "\n")
+    println!(rt; "memory{}", Words(memory))
 }
 
 // Work memory of another length, and memory that is itself too short: nothing is written.

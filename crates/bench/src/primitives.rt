@@ -1,5 +1,5 @@
 // 1.11 to 1.24 The bench cases about primitives: bounds, blanks, and the tables of `and` and `or`.
-use crate::text::{put, put_value};
+use crate::text::Shown;
 use std::io;
 use value::Value;
 
@@ -29,22 +29,14 @@ const INSTEAD: u8 = 12;
 
 const TICK_DIFFERENCE: u8 = 13;
 
-const LOWEST: i32 = -2147483648;
+const LOWEST: i32 = i32::MIN;
 
-const HIGHEST: i32 = 2147483647;
-
-fn put_result(rt: &impl Print, v: Value) -> io::Result<()> {
-    put(rt, " = ")?;
-    put_value(rt, v)?;
-    put(rt, "\n")
-}
+const HIGHEST: i32 = i32::MAX;
 
 // A line `a sign b = result`.
 fn infix(rt: &impl Print, a: Value, op: u8, sign: &str, b: Value) -> io::Result<()> {
-    put_value(rt, a)?;
-    put(rt, sign)?;
-    put_value(rt, b)?;
-    put_result(rt, value::primitive(op, a, b, Value::blank()))
+    let result = value::primitive(op, a, b, Value::blank());
+    println!(rt; "{}{sign}{} = {}", Shown(a), Shown(b), Shown(result))
 }
 
 fn numbers(rt: &impl Print, x: i32, op: u8, sign: &str, y: i32) -> io::Result<()> {
@@ -53,19 +45,20 @@ fn numbers(rt: &impl Print, x: i32, op: u8, sign: &str, y: i32) -> io::Result<()
 
 // A line `name a = result`.
 fn prefix(rt: &impl Print, op: u8, name: &str, a: Value) -> io::Result<()> {
-    put(rt, name)?;
-    put_value(rt, a)?;
-    put_result(rt, value::primitive(op, a, Value::blank(), Value::blank()))
+    let result = value::primitive(op, a, Value::blank(), Value::blank());
+    println!(rt; "{name}{} = {}", Shown(a), Shown(result))
 }
 
 // A line `t ? a : b = result`.
 fn choice(rt: &impl Print, t: Value, a: Value, b: Value) -> io::Result<()> {
-    put_value(rt, t)?;
-    put(rt, " ? ")?;
-    put_value(rt, a)?;
-    put(rt, " : ")?;
-    put_value(rt, b)?;
-    put_result(rt, value::primitive(CHOOSE, t, a, b))
+    let result = value::primitive(CHOOSE, t, a, b);
+    println!(rt;
+        "{} ? {} : {} = {}",
+        Shown(t),
+        Shown(a),
+        Shown(b),
+        Shown(result)
+    )
 }
 
 fn starred(rt: &impl Print) -> io::Result<()> {

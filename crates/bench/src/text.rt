@@ -1,40 +1,70 @@
-// Writing to standard output. Where it cannot be written, the error goes up to main.
+// What the lines of the bench show, as text.
 use machine::{Answer, number, place};
-use std::io;
+use std::fmt;
 use value::Value;
 
-pub fn put(rt: &impl Print, text: &str) -> io::Result<()> {
-    rt.print(text)
-}
-
-pub fn put_decimal(rt: &impl Print, n: u64) -> io::Result<()> {
-    rt.print(n)
-}
-
 // `number, place`.
-pub fn put_answer(rt: &impl Print, answer: Answer) -> io::Result<()> {
-    put_decimal(rt, number(answer) as u64)?;
-    put(rt, ", ")?;
-    put_decimal(rt, place(answer) as u64)
+#[derive(Clone, Copy)]
+pub struct Told(pub Answer);
+
+impl fmt::Display for Told {
+    fn fmt<W: fmt::Write>(&self, f: &mut fmt::Formatter<W>) -> fmt::Result {
+        write!(f, "{}, {}", number(self.0), place(self.0))
+    }
 }
 
-fn put_integer(rt: &impl Print, z: i32) -> io::Result<()> {
-    if z < 0 {
-        put(rt, "-")?;
+#[derive(Clone, Copy)]
+pub struct Shown(pub Value);
+
+impl fmt::Display for Shown {
+    fn fmt<W: fmt::Write>(&self, f: &mut fmt::Formatter<W>) -> fmt::Result {
+        let content = self.0.content;
+        match self.0.mark {
+            Value::BLANK => write!(f, "blank"),
+            Value::NUMBER => write!(f, "{}", value::signed(content)),
+            _ => write!(f, "{}", content == 1),
+        }
     }
-    put_decimal(rt, value::magnitude(z) as u64)
 }
 
-pub fn put_value(rt: &impl Print, v: Value) -> io::Result<()> {
-    if v.mark == Value::BLANK {
-        return put(rt, "blank");
+// The values of pairs of words, each after a space.
+#[derive(Clone, Copy)]
+pub struct Pairs<'a>(pub &'a [u32]);
+
+impl fmt::Display for Pairs<'_> {
+    fn fmt<W: fmt::Write>(&self, f: &mut fmt::Formatter<W>) -> fmt::Result {
+        let (pairs, _) = self.0.as_chunks::<2>();
+        for pair in pairs {
+            let [mark, content] = *pair;
+            write!(f, " {}", Shown(Value { mark, content }))?;
+        }
+        Ok(())
     }
-    if v.mark == Value::NUMBER {
-        return put_integer(rt, value::signed(v.content));
+}
+
+// Words, each after a space; of the zeros at the end only how many.
+#[derive(Clone, Copy)]
+pub struct Words<'a>(pub &'a [u32]);
+
+impl fmt::Display for Words<'_> {
+    fn fmt<W: fmt::Write>(&self, f: &mut fmt::Formatter<W>) -> fmt::Result {
+        let n = written(self.0);
+        for word in self.0.iter().take(n) {
+            write!(f, " {word}")?;
+        }
+        if n < self.0.len() {
+            write!(f, " and {} zeros", self.0.len() - n)?;
+        }
+        Ok(())
     }
-    if v.content == 1 {
-        put(rt, "true")
-    } else {
-        put(rt, "false")
+}
+
+// How many words there are up to the last that is not zero.
+fn written(words: &[u32]) -> usize {
+    for i in (0..words.len()).rev() {
+        if words[i] != 0 {
+            return i + 1;
+        }
     }
+    0
 }

@@ -84,19 +84,11 @@ fn preview_agrees(
 // What output space holds before a text is compiled.
 const BEFORE: u8 = 238;
 
-// Byte i of output space after a call: one of these, or that of before.
-fn due(bytes: &[u8], i: usize) -> u8 {
-    if i < bytes.len() { bytes[i] } else { BEFORE }
-}
-
 // Whether output space has these bytes first, and then those of before.
 fn same_bytes(output: &[u8], bytes: &[u8]) -> bool {
-    for (i, b) in output.iter().enumerate() {
-        if *b != due(bytes, i) {
-            return false;
-        }
-    }
-    true
+    output
+        .strip_prefix(bytes)
+        .is_some_and(|rest| rest.iter().all(|b| *b == BEFORE))
 }
 
 // A text's number and place, and every byte of output space after it.
@@ -105,18 +97,12 @@ fn text_agrees_on(line: Line, room: &[u8], output: &mut [u8]) -> bool {
     line.says(answer) & same_bytes(output, line.words(OUTPUT_AFTER, room))
 }
 
-// The same in a part of a space.
-fn text_agrees_within(line: Line, room: &[u8], output: &mut [u8]) -> bool {
-    let n = line.count(OUTPUT_AFTER);
-    if output.len() < n {
-        return false;
-    }
-    text_agrees_on(line, room, &mut output[..n])
-}
-
 fn text_agrees(line: Line, room: &[u8]) -> bool {
     let mut output = [BEFORE; MOST_OUTPUT];
-    text_agrees_within(line, room, &mut output)
+    let Some(output) = output.get_mut(..line.count(OUTPUT_AFTER)) else {
+        return false;
+    };
+    text_agrees_on(line, room, output)
 }
 
 // A vector of a call, on slices that are as long as the line's.
@@ -142,58 +128,25 @@ fn agrees_on(
     }
 }
 
-// The same in parts of four spaces.
-fn agrees_within(
-    call: Call,
-    line: Line,
-    room: &[u8],
-    memory: &mut [u32],
-    work: &mut [u32],
-    readings: &mut [u32],
-    sinks: &mut [u32],
-) -> bool {
-    let n = line.count(MEMORY);
-    let k = line.count(WORK);
-    let r = line.count(READINGS);
-    let s = line.count(SINKS);
-    if memory.len() < n {
-        return false;
-    }
-    if work.len() < k {
-        return false;
-    }
-    if readings.len() < r {
-        return false;
-    }
-    if sinks.len() < s {
-        return false;
-    }
-    agrees_on(
-        call,
-        line,
-        room,
-        &mut memory[..n],
-        &mut work[..k],
-        &mut readings[..r],
-        &mut sinks[..s],
-    )
-}
-
 // A word more than memory may have can be tried.
 fn call_agrees(call: Call, line: Line, room: &[u8]) -> bool {
     let mut memory = [0u32; MOST_WORDS + 1];
     let mut work = [0u32; MOST_WORDS + 1];
     let mut readings = [0u32; FEW_WORDS];
     let mut sinks = [0u32; FEW_WORDS];
-    agrees_within(
-        call,
-        line,
-        room,
-        &mut memory,
-        &mut work,
-        &mut readings,
-        &mut sinks,
-    )
+    let Some(memory) = memory.get_mut(..line.count(MEMORY)) else {
+        return false;
+    };
+    let Some(work) = work.get_mut(..line.count(WORK)) else {
+        return false;
+    };
+    let Some(readings) = readings.get_mut(..line.count(READINGS)) else {
+        return false;
+    };
+    let Some(sinks) = sinks.get_mut(..line.count(SINKS)) else {
+        return false;
+    };
+    agrees_on(call, line, room, memory, work, readings, sinks)
 }
 
 // Whether the proved code gives what the line says.

@@ -1,52 +1,13 @@
 // The bench cases about turns, as a user sees them: readings in; the sink and the words used, or the
 // refusal, out.
 use crate::programs::{AVERAGE, CLOCK, NEST, PEAK, TOGGLE};
-use crate::text::{put, put_answer, put_decimal, put_value};
-use image::{turns, word};
+use crate::text::{Pairs, Told};
+use image::turns;
 use machine::{Answer, turn};
 use std::io;
-use value::Value;
 
-// The values of pairs of words, each after a space.
-fn put_pairs(rt: &impl Print, words: &[u32]) -> io::Result<()> {
-    for i in 0..words.len() / 2 {
-        let mark = word(words, 2 * i);
-        let content = word(words, 2 * i + 1);
-        put(rt, " ")?;
-        put_value(rt, Value { mark, content })?;
-    }
-    Ok(())
-}
-
-// `readings a b -> `, and nothing where there are none.
-fn put_readings(rt: &impl Print, readings: &[u32]) -> io::Result<()> {
-    if readings.len() == 0 {
-        return Ok(());
-    }
-    put(rt, "readings")?;
-    put_pairs(rt, readings)?;
-    put(rt, " -> ")
-}
-
-// `sink v, u words used`.
-fn put_done(rt: &impl Print, sinks: &[u32], u: usize) -> io::Result<()> {
-    put(rt, "sink")?;
-    put_pairs(rt, sinks)?;
-    put(rt, ", ")?;
-    put_decimal(rt, u as u64)?;
-    put(rt, " words used\n")
-}
-
-// `refused number, place; turns completed t`.
-fn put_refused(rt: &impl Print, answer: Answer, memory: &[u32]) -> io::Result<()> {
-    put(rt, "refused ")?;
-    put_answer(rt, answer)?;
-    put(rt, "; turns completed ")?;
-    put_decimal(rt, turns(memory) as u64)?;
-    put(rt, "\n")
-}
-
-// `name, turn t: readings a b -> `, with other words for `, turn ` where the call is another.
+// `name, turn t: readings a b -> `, and no readings where there are none; with other words for `, turn ` where the
+// call is another.
 pub(crate) fn put_asked(
     rt: &impl Print,
     name: &str,
@@ -54,11 +15,25 @@ pub(crate) fn put_asked(
     memory: &[u32],
     readings: &[u32],
 ) -> io::Result<()> {
-    put(rt, name)?;
-    put(rt, call)?;
-    put_decimal(rt, turns(memory) as u64 + 1)?;
-    put(rt, ": ")?;
-    put_readings(rt, readings)
+    print!(rt; "{name}{call}{}: ", turns(memory) as u64 + 1)?;
+    if readings.is_empty() {
+        return Ok(());
+    }
+    print!(rt; "readings{} -> ", Pairs(readings))
+}
+
+// `sink v, u words used`.
+fn put_done(rt: &impl Print, sinks: &[u32], u: usize) -> io::Result<()> {
+    println!(rt; "sink{}, {u} words used", Pairs(sinks))
+}
+
+// `refused number, place; turns completed t`.
+fn put_refused(rt: &impl Print, answer: Answer, memory: &[u32]) -> io::Result<()> {
+    println!(rt;
+        "refused {}; turns completed {}",
+        Told(answer),
+        turns(memory)
+    )
 }
 
 // What came of it.

@@ -3,7 +3,6 @@
 ghost use Rattle.std.specs.Prelude.{◌≤◌, IfOk, length};
 
 use crate::line::{Line, ROOM};
-use crate::text::{put, put_decimal};
 use crate::trial::{Call, Kind, agrees};
 use std::fs::File;
 use std::io::Read;
@@ -25,26 +24,21 @@ struct Tally {
     differ: u32,
 }
 
-// What the vectors are of, the line that is read, the vectors before it, and whether there may be
-// more to read.
+// What the vectors are of, the line that is read, and the vectors before it.
 #[derive(Clone, Copy)]
 struct Progress {
     kind: Kind,
     line: Line,
     tally: Tally,
-    more: bool,
 }
 
 impl Tally {
-    fn count(self, number: u32, agrees: bool) -> Tally {
-        let mut tally = self;
-        let i = number as usize;
+    fn count(&mut self, number: u32, agrees: bool) {
         if !agrees {
-            tally.differ = tally.differ % 1000000 + 1;
-        } else if i < NUMBERS {
-            tally.agree[i] = tally.agree[i] % 1000000 + 1;
+            self.differ = self.differ.saturating_add(1);
+        } else if let Some(n) = self.agree.get_mut(number as usize) {
+            *n = n.saturating_add(1);
         }
-        tally
     }
 }
 
@@ -57,57 +51,39 @@ impl Progress {
                 agree: [0; NUMBERS],
                 differ: 0,
             },
-            more: true,
         }
     }
 
     // One more byte of the file: a line's end has its vector run.
-    fn step(self, b: u8, room: &mut [u8; ROOM]) -> Progress {
-        let kind = self.kind;
-        let mut line = self.line;
-        let mut tally = self.tally;
-        if b == b'\n' {
-            let agrees = agrees(kind, line, room);
-            tally = tally.count(line.number(), agrees);
-            line = line.following();
-        } else {
-            line = line.step(b, room);
+    fn step(&mut self, b: u8, room: &mut [u8; ROOM]) {
+        if b != b'\n' {
+            self.line.step(b, room);
+            return;
         }
-        Progress {
-            kind,
-            line,
-            tally,
-            more: true,
-        }
+        let line = self.line;
+        let agrees = agrees(self.kind, line, room);
+        self.tally.count(line.number(), agrees);
+        self.line = line.following();
     }
 
-    fn steps(self, text: &[u8], room: &mut [u8; ROOM]) -> Progress {
-        let mut state = self;
-        for b in text {
-            state = state.step(*b, room);
-        }
-        state
-    }
-
-    // Some of the file; there is no more where nothing came.
-    fn read_some(self, file: &mut impl Read, room: &mut [u8; ROOM]) -> io::Result<Progress> {
+    // Some of the file: whether there was more.
+    fn read_some(&mut self, file: &mut impl Read, room: &mut [u8; ROOM]) -> io::Result<bool> {
         let mut text = [0u8; PIECE];
         let n = read_full(file, &mut text)?;
-        let mut state = self.steps(&text[..n], room);
-        state.more = 0 < n;
-        Ok(state)
+        for b in &text[..n] {
+            self.step(*b, room);
+        }
+        Ok(0 < n)
     }
 
     // The file to its end. Nothing says that a file ends, so the loop counts its turns.
-    fn read_all(self, file: &mut impl Read, room: &mut [u8; ROOM]) -> io::Result<Progress> {
-        let mut state = self;
+    fn read_all(&mut self, file: &mut impl Read, room: &mut [u8; ROOM]) -> io::Result<()> {
         for _ in 0..TURNS {
-            if !state.more {
+            if !self.read_some(file, room)? {
                 break;
             }
-            state = state.read_some(file, room)?;
         }
-        Ok(state)
+        Ok(())
     }
 }
 
@@ -128,22 +104,12 @@ fn read_full(file: &mut impl Read, space: &mut [u8]) -> io::Result<usize>
 
 // A line for each number that vectors and code agree on, and one for those that differ.
 fn print(rt: &impl Print, label: &str, tally: Tally) -> io::Result<()> {
-    for n in 0..NUMBERS {
-        let count = tally.agree[n];
-        if 0 < count {
-            put(rt, label)?;
-            put_decimal(rt, n as u64)?;
-            put_count(rt, count)?;
+    for (n, count) in tally.agree.iter().enumerate() {
+        if *count != 0 {
+            println!(rt; "{label}{n}: {count}")?;
         }
     }
-    put(rt, "differ")?;
-    put_count(rt, tally.differ)
-}
-
-fn put_count(rt: &impl Print, n: u32) -> io::Result<()> {
-    put(rt, ": ")?;
-    put_decimal(rt, n as u64)?;
-    put(rt, "\n")
+    println!(rt; "differ: {}", tally.differ)
 }
 
 // The path that an argument is; a missing one is empty, and there is no file of that name.
@@ -158,7 +124,8 @@ fn path_at<R: Env + AllocGlobal>(rt: &R, argument: usize) -> io::Result<String> 
 fn tally_of(rt: &impl Files, kind: Kind, path: &str) -> io::Result<Tally> {
     let mut file = File::open(rt, path)?;
     let mut room = [0u8; ROOM];
-    let state = Progress::begin(kind).read_all(&mut file, &mut room)?;
+    let mut state = Progress::begin(kind);
+    state.read_all(&mut file, &mut room)?;
     Ok(state.tally)
 }
 
