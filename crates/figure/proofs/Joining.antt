@@ -1,19 +1,19 @@
 -- Ways that meet at reactor k are joined row by row: what the table says once the rows below r are done.
-use Rattle.std.specs.Prelude.{ℕ, suc, ◌+◌, ◌≤◌, ◌<◌, ◌≡◌, refl, ◌≢◌, Bool, true, false, List}
-use Rattle.std.proofs.Common.{sym, ◌∙◌, ap, ap₂, inl, ⊎_elim}
-use Rattle.std.proofs.Common.{arith}
-use Rattle.value.specs.Test.{pick, ◌=?◌, ◌<?◌}
+use Rattle.std.specs.Prelude.{ℕ, suc, ◌+◌, ◌≤◌, ◌<◌, ◌≡◌, refl, ◌≢◌, Bool, true, false, List, get_or, set}
+use Rattle.std.proofs.Common.{sym, ◌∙◌, ap₂, ⊎_elim, arith}
+use lib.ListN.{length-set}
+use Rattle.value.specs.Test.{pick, ◌<?◌, ◌or◌}
 use Rattle.value.proofs.Tests.{yes, no, lt!, lt×, below, same?}
 use Rattle.program.specs.Bytes.{reactors}
 use Rattle.figure.specs.Steps.{leads, found, as_table, through, reached_below, reached}
-use Rattle.figure.specs.Clauses.{cell, flag_of, Table, Changed, joined_at, through_at}
+use Rattle.figure.specs.Clauses.{Table, through_at}
 use Rattle.figure.proofs.Closure.{found_as}
-use Rattle.figure.proofs.Cells.{flag_is, flag_joined, adds_second, adds_nothing, adds_none}
+use Rattle.figure.proofs.Cells.{found_here, found_elsewhere, adds_second, adds_nothing}
 
 -- a table that says f says what is equal to it
-pub table_as : {t : List ℕ} {n : ℕ} {f : ℕ → ℕ → Bool} (g : ℕ → ℕ → Bool)
+pub table_as : {t : List (List Bool)} {n : ℕ} {f : ℕ → ℕ → Bool} (g : ℕ → ℕ → Bool)
     → ((r q : ℕ) → r < n → q < n → f r q ≡ g r q) → Table t n f → Table t n g
-table_as g e c = record { long = c.long; says = λ r q h k. c.says r q h k ∙ ap flag_of (e r q h k) }
+table_as g e c = record { long = c.long; says = λ r q h k. c.says r q h k ∙ e r q h k }
 
 module _ (k n : ℕ) (f : ℕ → ℕ → Bool) (k_low : k < n) (few : n ≤ 64) where
   -- joined in the rows below r
@@ -31,38 +31,37 @@ module _ (k n : ℕ) (f : ℕ → ℕ → Bool) (k_low : k < n) (few : n ≤ 64)
       ⊎_elim (λ (h : a < r). sym (yes _ (lt! h) refl) ∙ yes _ (lt! (omega arith)) refl)
       (λ (h : r ≤ a). sym (no _ (lt× h) refl) ∙ no _ (lt× (omega arith)) refl) (below a r)
 
-  pub none_joined : {t : List ℕ} → Table t n f → Table t n (rows_to 0)
+  pub none_joined : {t : List (List Bool)} → Table t n f → Table t n (rows_to 0)
   none_joined = table_as (rows_to 0) (λ r q h l. no _ (lt× (omega arith)) refl)
 
-  pub all_joined : {t : List ℕ} {r : ℕ} → r ≡ n → Table t n (rows_to r) → Table t n (through_at k f)
+  pub all_joined : {t : List (List Bool)} {r : ℕ} → r ≡ n → Table t n (rows_to r) → Table t n (through_at k f)
   all_joined e = table_as (through_at k f) (λ a b h l. sym (yes _ (lt! (omega arith)) refl))
 
-  module _ {t : List ℕ} (r : ℕ) (low : r < n) (c : Table t n (rows_to r)) where
-    row_r : (b : ℕ) → b < n → cell t r b ≡ flag_of (f r b)
-    row_r b h = c.says r b low h ∙ ap flag_of (sym (here_before r b))
-
-    -- what row k says does not change
-    row_k : (b : ℕ) → b < n → cell t k b ≡ flag_of (f k b)
-    row_k b h =
-        c.says k b k_low h
-        ∙ ap flag_of (⊎_elim (λ (l : k < r). sym (yes _ (lt! l) refl) ∙ adds_none (f k b) (f k k))
-        (λ (l : r ≤ k). sym (no _ (lt× l) refl)) (below k r))
+  module _ {t : List (List Bool)} (r : ℕ) (low : r < n) (c : Table t n (rows_to r)) where
+    row_r : (b : ℕ) → b < n → found t r b ≡ f r b
+    row_r b h = c.says r b low h ∙ sym (here_before r b)
 
     -- whether r leads to k
-    pub tells : (cell t r k =? 1) ≡ f r k
-    tells = ap (λ x. x =? 1) (row_r k k_low) ∙ flag_is (f r k)
+    pub tells : found t r k ≡ f r k
+    tells = row_r k k_low
 
-    -- the row changes
-    pub joined : {t₁ : List ℕ} → Changed t t₁ n r (joined_at t r k) → f r k ≡ true → Table t₁ n (rows_to (r + 1))
-    joined {t₁} d e = record { long = d.long; says = λ a b h l. ⊎_elim (λ z. rw z (mine b l)) (others a b h l) (same? a r) }
+    -- t₀ the table before, of which row k is taken over; the row changes
+    pub joined : (t₀ : List (List Bool)) (row : List Bool) → Table t₀ n f
+        → ((q : ℕ) → q < 64 → get_or row q false ≡ (found t r q or found t₀ k q)) → f r k ≡ true
+        → Table (set t r row) n (rows_to (r + 1))
+    joined t₀ row c₀ d e = record {
+      long = length-set t r row ∙ c.long;
+      says = λ a b h l. ⊎_elim (λ z. rw z (mine b l)) (others a b h l) (same? a r);
+    }
       where
-        mine : (b : ℕ) → b < n → cell t₁ r b ≡ flag_of (rows_to (r + 1) r b)
+        mine : (b : ℕ) → b < n → found (set t r row) r b ≡ rows_to (r + 1) r b
         mine b l =
-            d.row b l ∙ ap₂ (λ x y. pick (x =? 1) 1 y) (row_k b l) (row_r b l) ∙ flag_joined (f r b) (f k b)
-            ∙ ap flag_of (adds_second (f r b) (f k b) e ∙ here_after r b)
+            found_here t r b row (omega (arith, c.long)) ∙ d b (omega arith)
+            ∙ ap₂ (λ x y. x or y) (row_r b l) (c₀.says k b k_low l)
+            ∙ adds_second (f r b) (f k b) e ∙ here_after r b
 
-        others : (a b : ℕ) → a < n → b < n → a ≢ r → cell t₁ a b ≡ flag_of (rows_to (r + 1) a b)
-        others a b h l z = d.rest a b (omega arith) (inl z) ∙ c.says a b h l ∙ ap flag_of (elsewhere r a b z)
+        others : (a b : ℕ) → a < n → b < n → a ≢ r → found (set t r row) a b ≡ rows_to (r + 1) a b
+        others a b h l z = found_elsewhere t r a b row z ∙ c.says a b h l ∙ elsewhere r a b z
 
     -- or stays
     pub left : f r k ≡ false → Table t n (rows_to (r + 1))
@@ -73,7 +72,7 @@ module _ (k n : ℕ) (f : ℕ → ℕ → Bool) (k_low : k < n) (few : n ≤ 64)
 
 -- ---- from the ways by reactors below k to those by reactors up to k
 
-module _ (p : List ℕ) {t : List ℕ} {n : ℕ} (count : n ≡ reactors p) where
+module _ (p : List ℕ) {t : List (List Bool)} {n : ℕ} (count : n ≡ reactors p) where
   -- a table of the definition says what it was made of
   as_found : (f : ℕ → ℕ → Bool) → Table t n f → Table t n (found (as_table p f))
   as_found f = table_as _ (λ r q h l. sym (found_as p f r q (omega arith) (omega arith)))

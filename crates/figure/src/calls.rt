@@ -7,7 +7,7 @@ ghost use Rattle.figure.specs.Figure as F;
 
 use crate::bound::bounds;
 use crate::reach::{close, lowest};
-use crate::steps::{TABLE_BYTES, fill_steps};
+use crate::steps::fill_steps;
 use answer::{Answer, Refusal};
 use image::{MAIN_AT, MOST_WORDS};
 use load::judge;
@@ -21,7 +21,7 @@ fn lowest_circular(program: &[u8], facts: &[u64; 64], n: u8) -> u8
     ensures { let p = program.now in
         result ≡ F.lowest_circular p (reached p) }
 {
-    let mut table = [0u8; TABLE_BYTES];
+    let mut table = [[false; 64]; 64];
     fill_steps(program, facts, &mut table, n);
     close(&mut table, n);
     lowest(&table, main_of(program), n)

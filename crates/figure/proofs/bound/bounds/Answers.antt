@@ -25,7 +25,7 @@ returns-then-eq c = λ q h.
     let all : loop._k + (reactors p - loop._k) ≡ reactors p = omega (arith, count) in
     let same = same_text (take n loop.t) (take n next.result) (sym c.if-eq.true ∙ c.eq.ensures) in
     let below = λ (i : ℕ) (l : i < n).
-        sym (get_or-take n loop.t i 0 l) ∙ ap (λ (t : List ℕ). get_or t i 0) same ∙ get_or-take n next.result i 0 l in
+    sym (get_or-take n loop.t i 0 l) ∙ ap (λ (t : List ℕ). get_or t i 0) same ∙ get_or-take n next.result i 0 l in
     settled p loop.t next.result loop._k loop.invariant next.ensures
     (λ i l. below i (omega arith)) (reactors p - loop._k) q h
     ∙ ap (λ k. capped (get_or (bounds_after k p) q 0)) all

@@ -1,14 +1,13 @@
-use Rattle.std.specs.Prelude.{refl}
 use Rattle.std.proofs.Common.{arith}
 use Rattle.program.specs.Bytes.{main_of}
 use Rattle.figure.proofs.calls.lowest_circular.Goals as goal
 
 pub fill_steps-requires : goal.fill_steps-requires
-fill_steps-requires c = let start = c.requires in record { count = start.count; facts = start.facts; long = refl }
+fill_steps-requires c = let start = c.requires in record { count = start.count; facts = start.facts }
 
 pub close-requires : goal.close-requires
 close-requires c = let start = c.requires in
-    record { few = omega (arith, start.count, start.facts.few); long = c.fill_steps.ensures.long }
+    omega (arith, start.count, start.facts.few)
 
 pub lowest-requires : goal.lowest-requires
 unfolding main_of

@@ -3,10 +3,10 @@ use Rattle.figure.proofs.Joining.{first_ways, next_ways, all_ways}
 use Rattle.figure.proofs.reach.close.Goals as goal
 
 pub loop-k-init : goal.loop-k-init
-loop-k-init c = (c.requires.long, λ p e t. first_ways p e t)
+loop-k-init c = (omega arith, λ p e t. first_ways p e t)
 
 pub join_at-requires : goal.join_at-requires
-join_at-requires c = record { low = (omega arith, c.requires.few); long = c.loop-k.invariant.0 }
+join_at-requires c = (omega arith, c.requires)
 
 pub loop-k-preserved : goal.loop-k-preserved
 loop-k-preserved c = let loop = c.loop-k in (

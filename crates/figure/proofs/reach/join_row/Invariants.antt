@@ -1,5 +1,9 @@
-use Rattle.figure.specs.Clauses.{Changed, joined_at}
+use Rattle.std.specs.Prelude.{ℕ, ◌≤◌, ◌<◌, ◌≡◌, false, length, get_or}
+use Rattle.value.specs.Test.{◌or◌}
 use Rattle.figure.proofs.reach.join_row.Given as goal
 
 abbrev pub invariant-loop-q : goal.invariant-loop-q
-invariant-loop-q l = Changed l.initial.table l.table l.q l.r (joined_at l.initial.table l.r l.k)
+invariant-loop-q l =
+    (length l.to ≡ length l.initial.to)
+    × ((b : ℕ) → b < l.q → get_or l.to b false ≡ (get_or l.initial.to b false or get_or l.from b false))
+    × ((b : ℕ) → l.q ≤ b → get_or l.to b false ≡ get_or l.initial.to b false)
