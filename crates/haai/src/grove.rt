@@ -6,6 +6,7 @@ ghost use Rattle.std.specs.Prelude.{◌+◌, ◌≡◌, set};
 ghost use Rattle.haai.specs.Tables as Y;
 
 use crate::{Application, Operator, Sign, Size, Tree};
+use program::put;
 
 const MOST: usize = 200;
 
@@ -59,14 +60,6 @@ pub(crate) fn opened_at(pile: &[Application], i: usize) -> Application
     ensures { result ≡ Y.opened_at pile.now i }
 {
     pile.get(i).copied().unwrap_or(Application::NONE)
-}
-
-fn put(pile: &mut [Application], i: usize, application: Application)
-    ensures { pile.new ≡ set pile.old i application }
-{
-    if i < pile.len() {
-        pile[i] = application;
-    }
 }
 
 impl Operator {

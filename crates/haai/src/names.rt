@@ -10,18 +10,11 @@ ghost use Rattle.haai.specs.Clauses.{place_in, words_at};
 
 use crate::word::{same, sign_of, taken_of, word_end};
 use crate::{Meant, Operator, Tally};
+use program::put;
 
 const REACTORS: usize = 31;
 
 const PARAMETERS: usize = 63;
-
-fn put(places: &mut [usize], i: usize, a: usize)
-    ensures { places.new ≡ set places.old i a }
-{
-    if i < places.len() {
-        places[i] = a;
-    }
-}
 
 // Whether the word that begins at a is w.
 fn same_at(t: &[u8], a: usize, w: &[u8]) -> bool

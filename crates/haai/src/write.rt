@@ -11,7 +11,7 @@ ghost use Rattle.haai.specs.Writing as Q;
 use crate::grove::{opened_at, size_at};
 use crate::measure::code_length;
 use crate::{Application, Cursor, Knowing, Meant, Operator, Role, Size, Tally, Tree};
-use program::{Command, byte};
+use program::{Command, byte, put};
 
 pub(crate) fn put_bytes(out: &mut [u8], at: usize, bytes: &[u8])
     requires { at + length bytes.now ≤ length out.old }
@@ -130,14 +130,6 @@ fn outer_entry(u: Tree, pile: &[Application]) -> usize
 
 // ---- what a word adds
 
-fn put_byte(ls: &mut [u8], i: usize, v: u8)
-    ensures { ls.new ≡ set ls.old i v }
-{
-    if i < ls.len() {
-        ls[i] = v;
-    }
-}
-
 // One R command that gives a value.
 fn add_give(
     c: Cursor,
@@ -156,7 +148,7 @@ fn add_give(
         (set ls.old entry (Q.location_r c 0)) }
 {
     put_command(out, c.place_r(), code, x, a, b, v);
-    put_byte(ls, entry, c.location_r(0));
+    put(ls, entry, c.location_r(0));
 }
 
 // A Supply to the deployment at b for each of the n locations from i on.
@@ -212,7 +204,7 @@ fn add_call(c: Cursor, j: usize, i: usize, n: usize, ls: &mut [u8], entry: usize
         0,
     );
     put_call(c, i, n, ls, out);
-    put_byte(ls, entry, c.location_r(n + 1));
+    put(ls, entry, c.location_r(n + 1));
 }
 
 // An application of the operator o to the n operands in the row from i on.
@@ -265,7 +257,7 @@ fn add_meant(c: Cursor, entry: usize, m: Meant, ls: &mut [u8], out: &mut [u8])
     ensures { Q.added out.new ls.new ≡ Q.add_meant c entry ls.old out.old m }
 {
     match m {
-        Meant::Parameter(i) => put_byte(ls, entry, (i % 256) as u8),
+        Meant::Parameter(i) => put(ls, entry, (i % 256) as u8),
         Meant::Global(g) => add_give(c, entry, Command::GLOBAL, (g % 256) as u8, 0, 0, 0, ls, out),
     }
 }

@@ -17,4 +17,4 @@ returns c =
     ∙ ap (λ (o : List ℕ). put_commands o (place_r cur) (call_r cur (a.ls.now) a.i a.n))
     (c.put_command.ensures
     ∙ ap (λ (k : ℕ). put_eight (a.out.now) k 1 (a.j % 256) 0 0 0) c.place_d.ensures ∙ first))
-    (c.put_byte.ensures ∙ ap (set (a.ls.now) a.entry) c.location_r.ensures)
+    (c.put.ensures ∙ ap (set (a.ls.now) a.entry) c.location_r.ensures)

@@ -8,9 +8,9 @@ use Rattle.haai.proofs.write.add_meant.Goals as goal
 
 pub returns-in-Parameter : goal.returns-in-Parameter
 unfolding add_meant
-returns-in-Parameter c = let put_byte = c.put_byte in
+returns-in-Parameter c = let put = c.put in
     let a = c.args in
-    added_same refl put_byte.ensures
+    added_same refl put.ensures
     ∙ sym (ap (add_meant a.c a.entry (a.ls.now) (a.out.now)) c.in-Parameter.is)
 
 pub returns-in-Global : goal.returns-in-Global
