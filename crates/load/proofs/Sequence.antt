@@ -1,6 +1,6 @@
 -- A command among the D commands, or among the R commands: allowed where it stands in its sequence and is right,
 -- and then taken. Assumes nothing.
-use Rattle.std.specs.Prelude.{ℕ, ◌<◌, ◌≡◌, ◌≢◌, refl, Bool, true, false, List, Option, None, Some, is_some}
+use Rattle.std.specs.Prelude.{ℕ, ◌≡◌, ◌≢◌, refl, Bool, true, false, List, Option, None, Some, is_some}
 use Rattle.std.specs.Bool.{then_some}
 use Rattle.std.proofs.Common.{sym, ◌∙◌, ap, subst}
 use Rattle.value.specs.Test.{◌and◌, ◌<?◌, pick}

@@ -1,22 +1,17 @@
 -- States that stand alike, the bytes of ports, the state after a command, and its tables past their end.
 -- Assumes nothing.
-use Rattle.std.specs.Prelude.{ℕ, ◌+◌, ◌≤◌, ◌≡◌, refl, List, length, get_or, set}
+use Rattle.std.specs.Prelude.{ℕ, ◌+◌, ◌≡◌, refl, List, set}
 use Rattle.std.proofs.Common.{sym, ◌∙◌, ap, arith}
 use native.Mathlib.Numerals.{add-one}
-use lib.ListN.{get_or-eq_default}
 use lib.Seq.{set-get_or}
 use Rattle.program.specs.Bytes.{byte, shape_at, sources_in, sinks_in, source_kind, sink_kind, shape_of}
 use Rattle.program.specs.Command.{Cmd, alloc_mono, make_poly, supply, react, sink, alloc_poly, gives, cell, keep, none}
-use Rattle.program.specs.Location.{most_locations, sink_loc}
+use Rattle.program.specs.Location.{sink_loc}
 use Rattle.load.specs.Clauses.{state}
-use Rattle.load.specs.Scan.{some_value, unset_sink, kind_at, stand, standing_after, advance, after_of, with_sources}
+use Rattle.load.specs.Scan.{some_value, unset_sink, kind_at, stand, standing_after, advance, with_sources}
 use Rattle.load.specs.Scan.{with_sinks}
 use Rattle.load.specs.declared.Locations.{Locations}
 use Rattle.load.specs.declared.Scan.{Scan}
-
--- a table read past its end
-pub past_table : (xs : List ℕ) (l : ℕ) → length xs ≡ most_locations → most_locations ≤ l → 0 ≡ get_or xs l 0
-past_table xs l n h = sym (get_or-eq_default xs 0 (omega arith))
 
 pub stands : {u : Scan} (s : Scan) {l m t v k j : ℕ} → u ≡ stand s l t k → l ≡ m → t ≡ v → k ≡ j → u ≡ stand s m v j
 stands s e f g h = simp (← f, ← g, ← h) e
@@ -72,10 +67,6 @@ module _ (p : List ℕ) (r : ℕ) (s : Scan) (here : ℕ) where
         kind = (e i).kind;
         next = sym (next_kept d) i + 1;
       }
-
-pub after_next : (p : List ℕ) (r : ℕ) (s : Scan) (d : Cmd) → (after_of p r s d).next ≡ s.next + 1
-unfolding after_of advance
-after_next p r s d = ap (λ (n : ℕ). n + 1) (next_kept p r s _ d)
 
 -- one source more, and one sink
 module _ (p : List ℕ) (r : ℕ) (s : Scan) where

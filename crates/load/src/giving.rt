@@ -4,7 +4,7 @@ ghost use Rattle.program.specs.Command as C;
 ghost use Rattle.load.specs.Clauses.{state, Giving, one_right, two_right, alike_right, three_right};
 
 use crate::known::Known;
-use crate::{Locations, Scan};
+use crate::{Location, Locations};
 use program::{Command, content_legal, global_kind};
 
 impl Known<'_> {
@@ -37,7 +37,7 @@ impl Known<'_> {
         let from = locations.seen(c.b);
         let n = self.port(from.kind, 1);
         let k = self.port(from.kind, 9 + c.x as u16);
-        let right = (rest == 0) & (from.standing == Scan::REACTED) & (c.x < n);
+        let right = (rest == 0) & (from.standing == Location::REACTED) & (c.x < n);
         right.then_some(k)
     }
 }
@@ -48,7 +48,7 @@ impl Locations {
     {
         let rest = c.x as u64 + c.a as u64 + c.v() as u64;
         let from = self.seen(c.b);
-        let cell = (Scan::FREE_CELL <= from.standing) & (from.standing <= Scan::KEPT_CELL);
+        let cell = (Location::FREE_CELL <= from.standing) & (from.standing <= Location::KEPT_CELL);
         let right = (rest == 0) & cell;
         right.then_some(from.kind)
     }
@@ -59,7 +59,7 @@ impl Locations {
     {
         let rest = c.b as u64 + c.v() as u64;
         let a = self.seen(c.a);
-        (rest == 0) & (a.standing == Scan::VALUE) & (any | (a.kind == 1))
+        (rest == 0) & (a.standing == Location::VALUE) & (any | (a.kind == 1))
     }
 
     // As one of two operands of kind k.
@@ -68,7 +68,7 @@ impl Locations {
     {
         let a = self.seen(c.a);
         let b = self.seen(c.b);
-        let values = (a.standing == Scan::VALUE) & (b.standing == Scan::VALUE);
+        let values = (a.standing == Location::VALUE) & (b.standing == Location::VALUE);
         (c.v() == 0) & values & ((a.kind == k) & (b.kind == k))
     }
 
@@ -78,7 +78,7 @@ impl Locations {
     {
         let a = self.seen(c.a);
         let b = self.seen(c.b);
-        let values = (a.standing == Scan::VALUE) & (b.standing == Scan::VALUE);
+        let values = (a.standing == Location::VALUE) & (b.standing == Location::VALUE);
         (c.v() == 0) & values & (a.kind == b.kind)
     }
 
@@ -89,9 +89,9 @@ impl Locations {
         let a = self.seen(c.a);
         let b = self.seen(c.b);
         let d = self.seen(c.v0);
-        let values = (a.standing == Scan::VALUE)
-            & (b.standing == Scan::VALUE)
-            & (d.standing == Scan::VALUE);
+        let values = (a.standing == Location::VALUE)
+            & (b.standing == Location::VALUE)
+            & (d.standing == Location::VALUE);
         (c.v() == c.v0 as u32) & values & ((a.kind == 1) & (b.kind == d.kind))
     }
 

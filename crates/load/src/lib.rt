@@ -38,7 +38,8 @@ pub struct Scan {
 }
 
 // What goes from command to command beside the locations: the index of the next command, and how many R
-// commands before it have a result.
+// commands before it have a result. Words, since two bytes would be packed into one and taken apart again
+// at each command: a tenth more instructions.
 #[derive(Clone, Copy)]
 pub struct Progress {
     pub next: usize,

@@ -1,16 +1,14 @@
 // The commands of one reactor, from its first to its end.
-ghost use Rattle.std.specs.Prelude.{ℕ, ◌+◌, ◌≤◌, ◌<◌, ◌≡◌, List, get_or};
-ghost use Rattle.program.specs.Command as C;
+ghost use Rattle.std.specs.Prelude.{ℕ, ◌+◌, ◌≤◌, ◌<◌, ◌≡◌, get_or};
 ghost use Rattle.program.specs.Location as L;
 ghost use Rattle.load.specs.Clauses.{blank, state, Sweeping, Ran};
-ghost use Rattle.load.specs.Refusal.{at_command};
 ghost use Rattle.load.specs.Scan as S;
 
 use crate::known::Known;
 use crate::standing::settled;
-use crate::{Locations, Progress, Scan};
+use crate::{Location, Locations, Progress};
 use answer::Refusal;
-use program::{Command, source_kind};
+use program::source_kind;
 
 impl Known<'_> {
     // Each source is a value.
@@ -20,18 +18,18 @@ impl Known<'_> {
     {
         for x in 0..self.sources {
             let k = source_kind(self.program, self.shape, x);
-            locations.stand(x as usize, Scan::VALUE, k);
+            locations.stand(x as usize, Location::VALUE, k);
         }
     }
 
-    // No own sink is set.
+    // No own sink is set. Not one function with the above: of a source the kind is read, of a sink there is none.
     fn with_sinks(&self, locations: &mut Locations)
         ensures { let k = self.now in let p = k.program.now in
             state locations.new 0 ≡ S.with_sinks (L.sink_count p k.reactor) p k.reactor (state locations.old 0) }
     {
         let first = self.first_sink();
         for x in 0..self.sinks {
-            locations.stand(first + x as usize, Scan::UNSET_SINK, 0);
+            locations.stand(first + x as usize, Location::UNSET_SINK, 0);
         }
     }
 

@@ -10,7 +10,7 @@ ghost use Rattle.load.specs.Scan as S;
 
 use crate::known::Known;
 use crate::standing::is_ready;
-use crate::{Locations, Scan};
+use crate::{Location, Locations, Scan};
 use answer::Refusal;
 use program::{
     Command, byte, commands_d, content_legal, globals, reactors, shape_of, shapes, sink_count,
@@ -80,6 +80,7 @@ fn unless(ok: bool, w: Refusal) -> Result<(), Refusal>
     if ok { Ok(()) } else { Err(w) }
 }
 
+// The tests are of any program and reactor, so that they go by these two, as the definitions do, and by no Known.
 impl Scan {
     // 3: AllocMono, MakePoly and Cell among the D commands, the others among the R commands.
     pub(crate) fn in_sequence(&self, program: &[u8], r: u8, c: Command) -> bool
@@ -175,7 +176,10 @@ impl Scan {
     fn supply_disorder(&self, c: Command, at: usize) -> Result<(), Refusal>
         ensures { (p : List ℕ) (r : ℕ) → result ≡ told (S.disorder p r self.now (C.supply c.x c.a c.b)) at }
     {
-        unless(Scan::WAITING <= self.standing_at(c.b), Refusal::TooLate(at))?;
+        unless(
+            Location::WAITING <= self.standing_at(c.b),
+            Refusal::TooLate(at),
+        )?;
         unless(!self.is_supplied(c.b, c.x), Refusal::SetTwice(at))
     }
 
@@ -184,7 +188,7 @@ impl Scan {
         ensures { (r : ℕ) → result ≡ told (S.disorder program.now r self.now (C.react c.b)) at }
     {
         let standing = self.standing_at(c.b);
-        unless(Scan::WAITING <= standing, Refusal::TooLate(at))?;
+        unless(Location::WAITING <= standing, Refusal::TooLate(at))?;
         let n = sources_in(program, self.kind_at(c.b));
         unless(is_ready(standing, n), Refusal::TooEarly(at))
     }
@@ -195,7 +199,7 @@ impl Scan {
     {
         let l = sink_loc(program, r as u32, c.x);
         let standing = byte(&self.standing, l as usize);
-        unless(standing == Scan::UNSET_SINK, Refusal::SetTwice(at))
+        unless(standing == Location::UNSET_SINK, Refusal::SetTwice(at))
     }
 
     // 6 set twice, 19 too early, 20 too late, 21 AllocMono of a reactor that is not lower.
@@ -213,16 +217,16 @@ impl Scan {
             Command::SUPPLY => self.supply_disorder(c, at),
             Command::REACT => self.react_disorder(program, c, at),
             Command::CONSUME => unless(
-                self.standing_at(c.b) == Scan::REACTED,
+                self.standing_at(c.b) == Location::REACTED,
                 Refusal::TooEarly(at),
             ),
             Command::SINK => self.sink_disorder(program, r, c, at),
             Command::ALLOC_POLY => unless(
-                self.standing_at(c.b) == Scan::FREE_POINT,
+                self.standing_at(c.b) == Location::FREE_POINT,
                 Refusal::TooLate(at),
             ),
             Command::KEEP => unless(
-                self.standing_at(c.b) == Scan::FREE_CELL,
+                self.standing_at(c.b) == Location::FREE_CELL,
                 Refusal::TooLate(at),
             ),
             _ => Ok(()),

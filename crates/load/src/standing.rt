@@ -8,8 +8,9 @@ ghost use Rattle.load.specs.Scan as S;
 use crate::{Location, Locations, Scan};
 use program::{MOST_LOCATIONS, byte, put};
 
-// A deployment that awaits its React has WAITING and a bit for each source that is supplied.
-impl Scan {
+// Standings. They are bytes and no enum: 2.15 prescribes tables of bytes, and a deployment that awaits its React has
+// WAITING and a bit for each source that is supplied.
+impl Location {
     pub const VALUE: u8 = 1;
 
     pub const FREE_CELL: u8 = 2;
@@ -27,7 +28,9 @@ impl Scan {
     pub const REACTED: u8 = 127;
 
     pub const WAITING: u8 = 128;
+}
 
+impl Scan {
     pub(crate) fn standing_at(&self, l: u8) -> u8
         ensures { result ≡ S.standing_at self.now l }
     {
@@ -43,27 +46,27 @@ impl Scan {
     pub(crate) fn is_value(&self, l: u8) -> bool
         ensures { result ≡ S.is_value self.now l }
     {
-        self.standing_at(l) == Scan::VALUE
+        self.standing_at(l) == Location::VALUE
     }
 
     pub(crate) fn is_cell(&self, l: u8) -> bool
         ensures { result ≡ S.is_cell self.now l }
     {
         let s = self.standing_at(l);
-        (Scan::FREE_CELL <= s) & (s <= Scan::KEPT_CELL)
+        (Location::FREE_CELL <= s) & (s <= Location::KEPT_CELL)
     }
 
     pub(crate) fn is_point(&self, l: u8) -> bool
         ensures { result ≡ S.is_point self.now l }
     {
         let s = self.standing_at(l);
-        (Scan::FREE_POINT <= s) & (s <= Scan::USED_POINT)
+        (Location::FREE_POINT <= s) & (s <= Location::USED_POINT)
     }
 
     pub(crate) fn is_deployment(&self, l: u8) -> bool
         ensures { result ≡ S.is_deployment self.now l }
     {
-        Scan::REACTED <= self.standing_at(l)
+        Location::REACTED <= self.standing_at(l)
     }
 
     // Whether source x of the deployment at l is supplied.
@@ -132,7 +135,7 @@ pub(crate) fn bit(x: u8) -> u16
 pub(crate) fn is_ready(standing: u8, n: u8) -> bool
     ensures { result ≡ (standing =? S.ready_at n) }
 {
-    (n < 8) & (standing as u16 == Scan::WAITING as u16 + (bit(n) - 1))
+    (n < 8) & (standing as u16 == Location::WAITING as u16 + (bit(n) - 1))
 }
 
 // Whether a location may have this standing at its reactor's end: no React, AllocPoly, Keep or sink
@@ -140,9 +143,9 @@ pub(crate) fn is_ready(standing: u8, n: u8) -> bool
 pub(crate) fn settled(standing: u8) -> bool
     ensures { result ≡ S.settled standing }
 {
-    (standing < Scan::FREE_CELL)
-        | (standing == Scan::KEPT_CELL)
-        | (standing == Scan::USED_POINT)
-        | (standing == Scan::SET_SINK)
-        | (standing == Scan::REACTED)
+    (standing < Location::FREE_CELL)
+        | (standing == Location::KEPT_CELL)
+        | (standing == Location::USED_POINT)
+        | (standing == Location::SET_SINK)
+        | (standing == Location::REACTED)
 }

@@ -26,8 +26,8 @@ impl Known<'_> {
         let n = self.port(to.kind, 0);
         let k = self.port(to.kind, 2 + c.x as u16);
         let right = (v == 0)
-            & (from.standing == Scan::VALUE)
-            & ((Scan::WAITING <= to.standing)
+            & (from.standing == Location::VALUE)
+            & ((Location::WAITING <= to.standing)
                 & (((c.x < n) & (from.kind == k)) & !has_source(to.standing, c.x)));
         if right {
             let t = to.standing as u16 + bit(c.x);
@@ -46,7 +46,7 @@ impl Known<'_> {
         let n = self.port(to.kind, 0);
         let right = (rest == 0) & is_ready(to.standing, n);
         if right {
-            locations.restand(c.b, Scan::REACTED);
+            locations.restand(c.b, Location::REACTED);
         }
         right
     }
@@ -60,13 +60,13 @@ impl Known<'_> {
         let from = locations.seen(c.a);
         let k = self.port(self.shape, 9 + c.x as u16);
         let l = self.first_sink() + c.x as usize;
-        let free = byte(&locations.standing, l) == Scan::UNSET_SINK;
+        let free = byte(&locations.standing, l) == Location::UNSET_SINK;
         let right = (rest == 0)
-            & (from.standing == Scan::VALUE)
+            & (from.standing == Location::VALUE)
             & ((c.x < self.sinks) & (from.kind == k))
             & free;
         if right {
-            locations.stand(l, Scan::SET_SINK, 0);
+            locations.stand(l, Location::SET_SINK, 0);
         }
         right
     }
@@ -110,12 +110,16 @@ impl Known<'_> {
         match c.code {
             Command::ALLOC_MONO => {
                 let k = shape_of(self.program, c.x as u32);
-                placed((rest == 0) & (c.x < self.reactor), Scan::WAITING, k)
+                placed((rest == 0) & (c.x < self.reactor), Location::WAITING, k)
             }
-            Command::MAKE_POLY => placed((rest == 0) & (c.x < self.shapes), Scan::FREE_POINT, c.x),
+            Command::MAKE_POLY => placed(
+                (rest == 0) & (c.x < self.shapes),
+                Location::FREE_POINT,
+                c.x,
+            ),
             Command::CELL => {
                 let right = content_formed(self.program, c, c.x <= 1);
-                placed(right, Scan::FREE_CELL, c.x)
+                placed(right, Location::FREE_CELL, c.x)
             }
             _ => None,
         }
@@ -138,11 +142,11 @@ impl Locations {
         let from = self.seen(c.a);
         let to = self.seen(c.b);
         let right = (rest == 0)
-            & (from.standing == Scan::VALUE)
-            & ((to.standing == Scan::FREE_POINT) & (from.kind as u16 == 2 + to.kind as u16));
+            & (from.standing == Location::VALUE)
+            & ((to.standing == Location::FREE_POINT) & (from.kind as u16 == 2 + to.kind as u16));
         if right {
-            self.restand(c.b, Scan::USED_POINT);
-            self.stand(here, Scan::WAITING, to.kind);
+            self.restand(c.b, Location::USED_POINT);
+            self.stand(here, Location::WAITING, to.kind);
         }
         right
     }
@@ -155,10 +159,10 @@ impl Locations {
         let from = self.seen(c.a);
         let to = self.seen(c.b);
         let right = (rest == 0)
-            & (from.standing == Scan::VALUE)
-            & ((to.standing == Scan::FREE_CELL) & (from.kind == to.kind));
+            & (from.standing == Location::VALUE)
+            & ((to.standing == Location::FREE_CELL) & (from.kind == to.kind));
         if right {
-            self.restand(c.b, Scan::KEPT_CELL);
+            self.restand(c.b, Location::KEPT_CELL);
         }
         right
     }
@@ -170,7 +174,7 @@ impl Locations {
     {
         match kind {
             Some(k) => {
-                self.stand(here, Scan::VALUE, k);
+                self.stand(here, Location::VALUE, k);
                 true
             }
             None => false,

@@ -1,4 +1,3 @@
-use Rattle.std.proofs.Common.{◌∙◌}
 use Rattle.load.proofs.Stands.{stands_as}
 use Rattle.load.proofs.Locations.restand.Goals as goal
 

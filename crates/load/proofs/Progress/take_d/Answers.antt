@@ -1,5 +1,5 @@
 use Rattle.std.specs.Prelude.{ℕ, ◌+◌, ◌≡◌, refl, true}
-use Rattle.std.proofs.Common.{sym, ◌∙◌, ap, arith}
+use Rattle.std.proofs.Common.{◌∙◌, ap, arith}
 use Rattle.load.proofs.Sequence.{step_refused, step_taken}
 use Rattle.load.proofs.Stands.{advanced}
 use Rattle.load.specs.Clauses.{state}

@@ -38,10 +38,10 @@ loop-x-preserved c = let at_loop = c.loop-x in
     let args = c.args in
     let p = args.program.now in
     let x = at_loop.x in
-      same_and at_loop.invariant (same_lt (ap (λ (i : ℕ). get_or p (i + 9 + x) 0) at_shape_at.ensures.is) refl)
-          ∙ and_right (sources_in p args.s =? 0) _ _
-          ∙ ap (λ (t : Bool). (sources_in p args.s =? 0) and t)
-          (sweep_more (λ (x : ℕ). sink_kind p args.s x <? 2) x)
+    same_and at_loop.invariant (same_lt (ap (λ (i : ℕ). get_or p (i + 9 + x) 0) at_shape_at.ensures.is) refl)
+    ∙ and_right (sources_in p args.s =? 0) _ _
+    ∙ ap (λ (t : Bool). (sources_in p args.s =? 0) and t)
+    (sweep_more (λ (x : ℕ). sink_kind p args.s x <? 2) x)
 
 pub returns : goal.returns
 unfolding main_legal

@@ -1,4 +1,4 @@
-use Rattle.std.specs.Prelude.{ℕ, ◌-◌, ◌≡◌, true, false}
+use Rattle.std.specs.Prelude.{◌-◌, ◌≡◌, true, false}
 use Rattle.std.proofs.Common.{◌∙◌, arith, rules, tests}
 use Rattle.std.proofs.lemmas.Iterator.{first_from_Range}
 use Rattle.load.proofs.Found.{found}

@@ -1,10 +1,9 @@
-use Rattle.std.specs.Prelude.{ℕ, ◌+◌, refl, Bool, Option}
+use Rattle.std.specs.Prelude.{ℕ, ◌+◌, refl, Bool}
 use Rattle.std.proofs.Common.{sym, ◌∙◌, ap, subst, arith}
 use Rattle.load.proofs.Conditions.{right-cell, right_make, right_mono}
 use Rattle.load.proofs.Sequence.{making, other_d}
 use Rattle.load.specs.Clauses.{Making}
 use Rattle.load.specs.Scan.{formed, in_sequence, stand, standing_after, waiting}
-use Rattle.load.specs.declared.Location.{Location}
 use Rattle.program.proofs.Decode.{as_cell, as_make, as_mono}
 use Rattle.program.specs.Command.{Cmd, sequence_of, v_of}
 use Rattle.program.specs.Kind.{content_legal}

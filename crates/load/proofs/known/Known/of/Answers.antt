@@ -1,4 +1,4 @@
-use Rattle.std.specs.Prelude.{ℕ, ◌+◌, ◌≤◌, refl, length, get_or}
+use Rattle.std.specs.Prelude.{ℕ, ◌+◌, ◌≤◌, length, get_or}
 use Rattle.std.proofs.Common.{◌∙◌, ap, arith}
 use Rattle.load.proofs.Exact.Bytes.{entries_end}
 use Rattle.load.proofs.TableBytes.{entry_inside, shape_inside}

@@ -1,4 +1,4 @@
-use Rattle.std.specs.Prelude.{ℕ, ◌+◌, ◌-◌, ◌<◌, ◌≤◌, ◌≡◌, refl, Some}
+use Rattle.std.specs.Prelude.{ℕ, ◌+◌, ◌-◌, refl}
 use Rattle.std.proofs.Common.{◌∙◌, ap, arith}
 use Rattle.load.proofs.Loops.{refused_here, run_done, run_refused, run_start, run_taken}
 use Rattle.load.specs.Clauses.{state}
