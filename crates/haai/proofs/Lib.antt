@@ -25,7 +25,6 @@ pub mod Means
 pub mod Main
 pub mod Faithful
 pub mod Haai
-pub mod Kept
 pub mod Counts
 pub mod Shallow
 pub mod Growing
@@ -48,3 +47,4 @@ pub mod Puts
 pub mod Lengths
 pub mod Passing
 pub mod Tabling
+pub mod Opens

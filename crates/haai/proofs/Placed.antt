@@ -149,9 +149,6 @@ names_more t ps (suc n) i a h =
     let g = get_or-set_other ps (i + 1 + n) i a 0 (λ q. omega arith) in
     rw (e, f, g) (ap (λ (l : List (List ℕ)). word_of t (get_or ps i 0) ∷ l) (names_more t ps n (i + 1) a (omega arith)))
 
-pub held_same : {v u : Tally} {ps qs : List ℕ} → v ≡ u → ps ≡ qs → held v ps ≡ held u qs
-held_same p q = λ i. held (p i) (q i)
-
 -- ---- bounds
 
 pub position_le : (ns : List (List ℕ)) (w : List ℕ) → position ns w ≤ length ns

@@ -47,17 +47,6 @@ patch_on m i (x ∷ xs) j ys h e =
     ∙ patch_on (set m i x) (i + 1) xs j ys (rw length-set (omega arith)) (omega arith)
     ∙ patch_more m i (i + 1) x (xs ++ ys) (omega arith) refl
 
-pub patch_four : (m : List ℕ) (i a b c d : ℕ) → i + 4 ≤ length m →
-    set (set (set (set m i a) (i + 1) b) (i + 2) c) (i + 3) d ≡ patch m i (a ∷ b ∷ c ∷ d ∷ [])
-patch_four m i a b c d h =
-    sym (patch_nothing _ (i + 4))
-    ∙ patch_more (set (set (set m i a) (i + 1) b) (i + 2) c) (i + 3) (i + 4) d []
-    (rw (length-set, length-set, length-set) (omega arith)) (omega arith)
-    ∙ patch_more (set (set m i a) (i + 1) b) (i + 2) (i + 3) c (d ∷ []) (rw (length-set, length-set) (omega arith))
-    (omega arith)
-    ∙ patch_more (set m i a) (i + 1) (i + 2) b (c ∷ d ∷ []) (rw length-set (omega arith)) (omega arith)
-    ∙ patch_more m i (i + 1) a (b ∷ c ∷ d ∷ []) (omega arith) refl
-
 -- what a slice of m has become
 pub patch_mid : (m xs : List ℕ) (i n : ℕ) → n ≡ length xs → take i m ++ (xs ++ drop n (drop i m)) ≡ patch m i xs
 unfolding patch
@@ -250,14 +239,3 @@ call_put c ls i n at b out o₁ o₂ o₃ ea eb e f g =
 
 pub added_same : {out new ls ms : List ℕ} → out ≡ new → ls ≡ ms → added out ls ≡ added new ms
 added_same e f = ap₂ added e f
-
-few_below : (n : ℕ) → n < 7 → n ≡ few n
-unfolding few
-few_below n h = yes _ (lt! h) refl
-
-few_above : (n : ℕ) → 7 ≤ n → 7 ≡ few n
-unfolding few
-few_above n h = no _ (lt× h) refl
-
-pub few_most : (n : ℕ) → few n ≤ 7
-few_most n = ⊎_elim (λ h. omega (arith, few_below n h)) (λ h. omega (arith, few_above n h)) (below n 7)

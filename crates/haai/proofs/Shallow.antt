@@ -28,15 +28,6 @@ use Rattle.haai.proofs.Paired.{Paired}
 
 -- ---- what is kept
 
--- a sign has one of the numbers 0 to 3
-abbrev pub SignFit : Operator → Type 0
-SignFit (sign o) = o < 4
-SignFit (reactor j) = Unit {0}
-
-abbrev pub SignsFit : List Opened → Type 0
-SignsFit [] = Unit {0}
-SignsFit (o ∷ os) = SignFit o.operator × SignsFit os
-
 -- no application is open outside of a body
 abbrev pub Flat : Phase → ℕ → Type 0
 Flat Top n = n ≡ 0
@@ -55,12 +46,11 @@ Flat End n = Unit {0}
 
 pub record Shallow (s : Reading) (k : Known) : Type 0 where
   pub deep : s.depth ≤ 16
-  pub signs_fit : SignsFit k.pile
   pub flat : Flat s.phase (length k.pile)
 
 pub shallow_begin : (n : ℕ) → Shallow begin (nothing n)
 unfolding begin nothing
-shallow_begin n = record { deep = omega arith; signs_fit = tt; flat = refl }
+shallow_begin n = record { deep = omega arith; flat = refl }
 
 -- the tables have room for what a word adds in its role
 abbrev pub Ready : Known → Role → Type 0
@@ -84,32 +74,15 @@ ReadyStep k q w None = Unit {0}
 
 -- ---- one word
 
-pub operator_sign : (k : Known) (w : List ℕ) → SignFit (operator_of k w)
-unfolding operator_of among
-operator_sign k w =
-    guard_any SignFit (not (among signs w)) (sign (position signs w)) (λ _. reactor (position k.reactors w))
-    (λ e. tt)
-    (λ e. lt? (not_false _ e))
-
-signs_expr : (k : Known) (f : ℕ) (os : List Opened) (e : Expr) → SignsFit os → SignsFit (add_expr k f os e).pile
-unfolding add_expr with_pile with_operand
-signs_expr k f [] e h = tt
-signs_expr k f (o ∷ os) e h = h
-
-signs_closed : (k : Known) (os : List Opened) → SignsFit k.pile → SignsFit os → SignsFit (closed k os).pile
-unfolding closed
-signs_closed k [] h g = h
-signs_closed k (o ∷ os) h g = signs_expr k _ os _ g.1
-
-after_shallow : (s : Reading) (k : Known) (d : ℕ) → d ≤ 16 → SignsFit k.pile → Shallow (after_expression s d) k
+after_shallow : (s : Reading) (k : Known) (d : ℕ) → d ≤ 16 → Shallow (after_expression s d) k
 unfolding after_expression deepened counting
-after_shallow s k d l h =
+after_shallow s k d l =
     pick_any (λ (r : Reading). Shallow r k) (0 <? d)
-    (λ z. record { deep = l; signs_fit = h; flat = tt })
+    (λ z. record { deep = l; flat = tt })
     (λ z.
     pick_any (λ (r : Reading). Shallow r k) s.many
-    (λ m. record { deep = omega arith; signs_fit = h; flat = tt })
-    (λ m. record { deep = omega arith; signs_fit = h; flat = tt }))
+    (λ m. record { deep = omega arith; flat = tt })
+    (λ m. record { deep = omega arith; flat = tt }))
 
 module _ (n : ℕ) (s : Reading) (k : Known) (q : ℕ) (w : List ℕ) (h : Shallow s k) where
   abbrev Good : Step → Type 0
@@ -117,7 +90,7 @@ module _ (n : ℕ) (s : Reading) (k : Known) (q : ℕ) (w : List ℕ) (h : Shall
 
   -- the pile stays
   kept : (s₂ : Reading) → s₂.depth ≤ 16 → Flat s₂.phase (length k.pile) → Shallow s₂ k
-  kept s₂ l z = record { deep = l; signs_fit = h.signs_fit; flat = z }
+  kept s₂ l z = record { deep = l; flat = z }
 
   expression_ready : length k.pile ≤ 16 → (c : Class) → Good (expression s c)
   unfolding expression learn deepened
@@ -127,17 +100,14 @@ module _ (n : ℕ) (s : Reading) (k : Known) (q : ℕ) (w : List ℕ) (h : Shall
       (λ z. tt)
   expression_ready l Shut = tt
   expression_ready l (Sign o) = tt
-  expression_ready l (Number v) =
-      (l, after_shallow s _ s.depth h.deep (signs_expr k k.fault k.pile _ h.signs_fit))
-  expression_ready l (Taken j) =
-      (l, after_shallow s _ s.depth h.deep (signs_expr k _ k.pile _ h.signs_fit))
-  expression_ready l Name =
-      (l, after_shallow s _ s.depth h.deep (signs_expr k _ k.pile _ h.signs_fit))
+  expression_ready l (Number v) = (l, after_shallow s _ s.depth h.deep)
+  expression_ready l (Taken j) = (l, after_shallow s _ s.depth h.deep)
+  expression_ready l Name = (l, after_shallow s _ s.depth h.deep)
   expression_ready l Other = tt
 
   operator_ready : length k.pile < 16 → Good (takes AnOperator (on_to Operands s))
   unfolding learn add_operator with_pile on_to
-  operator_ready l = (l, record { deep = h.deep; signs_fit = (operator_sign k w, h.signs_fit); flat = tt })
+  operator_ready l = (l, record { deep = h.deep; flat = tt })
 
   by_phase : (f : Phase) → Phased n f s k → Paired f k → Flat f (length k.pile) → (c : Class) → Good (step_at f s c)
   unfolding step_at learn on_to counting deepened sourced defined add_source add_reactor add_parameter add_definition
@@ -151,14 +121,14 @@ module _ (n : ℕ) (s : Reading) (k : Known) (q : ℕ) (w : List ℕ) (h : Shall
       (λ e.
       let a = p.0 in
       let b = p.1 in
-      (omega arith, record { deep = h.deep; signs_fit = h.signs_fit; flat = z }))
+      (omega arith, record { deep = h.deep; flat = z }))
       (λ e. tt)
   by_phase SourceEnd p g z c =
       pick_any Good (is_shut c) (λ e. (tt, kept _ (omega arith) z)) (λ e. tt)
   by_phase Head p g z c = pick_any Good (is_open c) (λ e. (tt, kept _ h.deep z)) (λ e. tt)
   by_phase ReactorName p g z c =
       pick_any Good (named c)
-      (λ e. let a = p.1 in let b = g.0 in (omega arith, record { deep = omega arith; signs_fit = tt; flat = tt }))
+      (λ e. let a = p.1 in let b = g.0 in (omega arith, record { deep = omega arith; flat = tt }))
       (λ e. tt)
   by_phase Parameters p g z c =
       pick_any Good (is_shut c)
@@ -170,7 +140,7 @@ module _ (n : ℕ) (s : Reading) (k : Known) (q : ℕ) (w : List ℕ) (h : Shall
       let a = p.1.0 in
       let b = p.2 in
       let d = g.1 in
-      (omega arith, record { deep = omega arith; signs_fit = h.signs_fit; flat = tt }))
+      (omega arith, record { deep = omega arith; flat = tt }))
       (λ e. tt))
   by_phase Body p g z c =
       pick_any Good (is_open c)
@@ -196,12 +166,12 @@ module _ (n : ℕ) (s : Reading) (k : Known) (q : ℕ) (w : List ℕ) (h : Shall
       let b = p.4 in
       let d = h.deep in (
         (omega arith, omega arith),
-        after_shallow s _ (s.depth - 1) (omega arith) (signs_closed k k.pile h.signs_fit h.signs_fit),
+        after_shallow s _ (s.depth - 1) (omega arith),
       ))
       (λ e. expression_ready (let a = p.3 in let b = h.deep in omega arith) c)
   by_phase End p g z c =
       pick_any Good (is_shut c)
-      (λ e. ((p.1.0, p.1.2, p.3, p.4), record { deep = omega arith; signs_fit = h.signs_fit; flat = p.4 }))
+      (λ e. ((p.1.0, p.1.2, p.3, p.4), record { deep = omega arith; flat = p.4 }))
       (λ e. tt)
 
   pub step_ready : Counted n s k → Paired s.phase k → (c : Class) → Good (step_of s c)

@@ -32,10 +32,6 @@ drop_next l i h = let e : i + 1 ≡ suc i = omega arith in rw e (drop-cons l i 0
 
 -- ---- every byte
 
-every_of : (ok : ℕ → Bool) (x : ℕ) (xs : List ℕ) → every ok (x ∷ xs) ≡ guard (ok x) false (λ _. every ok xs)
-unfolding every
-every_of ok x xs = refl
-
 pub every_is : (ok : ℕ → Bool) (xs : List ℕ) → list_all ok xs ≡ every ok xs
 unfolding every
 every_is ok [] = refl

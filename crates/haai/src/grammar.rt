@@ -1,4 +1,6 @@
 // The form of a text, word by word: which word or bracket can come next, and what it is in the form.
+#![tactic(auto, unfolding(crate::proofs::Opens::form))]
+
 ghost use Rattle.std.specs.Prelude.{◌≤◌, ◌<◌, ◌≡◌, length};
 ghost use Rattle.haai.specs.Word as O;
 ghost use Rattle.haai.specs.Grammar as G;
@@ -9,7 +11,6 @@ ghost use Rattle.haai.specs.declared.Phase.TheVariants.{Parameters, Body, First,
 use crate::word::{class_at, word_end, word_start};
 use crate::{Class, Phase, Reading, Role, Taken};
 
-#[tactic(auto, unfolding(crate::specs::Grammar::named, crate::specs::Grammar::operates))]
 impl Class {
     // Whether a word can be taken for a name.
     fn named(self) -> bool
@@ -25,7 +26,6 @@ impl Class {
     }
 }
 
-#[tactic(auto, unfolding(value::specs::Open::opened, crate::specs::Grammar::is_open, crate::specs::Grammar::is_shut, crate::specs::Grammar::is_taken, crate::specs::Grammar::begin, crate::specs::Grammar::on_to, crate::specs::Grammar::counting, crate::specs::Grammar::deepened, crate::specs::Grammar::sourced, crate::specs::Grammar::defined, crate::specs::Grammar::after_expression, crate::specs::Grammar::expression, crate::specs::Grammar::step_at, crate::specs::Grammar::step_of, crate::specs::Grammar::is_top, crate::specs::Grammar::whole, crate::specs::Clauses::opened_step, crate::specs::Word::taken_number))]
 impl Reading {
     pub(crate) fn begin() -> Reading
         ensures { result ≡ G.begin }

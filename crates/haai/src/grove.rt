@@ -1,6 +1,6 @@
 // The tree of a text as it is kept: counts that stay at 200 once they reach it, the sizes of the whole definitions, and
 // a pile of the open applications.
-#![tactic(auto, unfolding(value::specs::Open::opened, crate::specs::Tables::counted, crate::specs::Tables::size_at, crate::specs::Tables::opened_at, crate::specs::Tables::callable_in, crate::specs::Tables::takes_in, crate::specs::Tables::own_calls, crate::specs::Tables::own_runs, crate::specs::Tables::grounded, crate::specs::Tables::spent, crate::specs::Tables::levelled, crate::specs::Tables::innermost, crate::specs::Tables::with_operand, crate::specs::Tables::whole_grove, crate::specs::Tables::open_grove, crate::specs::Tables::close_grove, crate::specs::Tables::defined_tree, crate::specs::Tables::size_of))]
+#![tactic(auto, unfolding(crate::proofs::Opens::tree))]
 
 ghost use Rattle.std.specs.Prelude.{◌+◌, ◌≡◌, set};
 ghost use Rattle.haai.specs.Tables as Y;

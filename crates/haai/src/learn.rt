@@ -1,5 +1,5 @@
 // What is known of names and of the tree after one more word of the text, w at a, in its role; and after all.
-#![tactic(auto, unfolding(value::specs::Open::opened, crate::specs::Tables::with_names, crate::specs::Tables::with_grove, crate::specs::Tables::is_parameter, crate::specs::Tables::fits_operand, crate::specs::Tables::operand_kept, crate::specs::Tables::constant_kept, crate::specs::Tables::operator_kept, crate::specs::Tables::apply_kept, crate::specs::Tables::define_kept, crate::specs::Tables::learnt, crate::specs::Tables::found_of, crate::specs::Places::blamed, crate::specs::Word::bytes_of))]
+#![tactic(auto, unfolding(crate::proofs::Opens::knowing))]
 
 ghost use Rattle.std.specs.Prelude.{◌-◌, ◌≤◌, ◌≡◌, length};
 ghost use Rattle.value.specs.Test.{pick};

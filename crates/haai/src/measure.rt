@@ -1,11 +1,12 @@
 // Sizes of a program, by the sizes of its definitions.
+#![tactic(auto, unfolding(crate::proofs::Opens::tree))]
+
 ghost use Rattle.std.specs.Prelude.{◌≤◌, ◌≡◌, length};
 ghost use Rattle.haai.specs.Tables as Y;
 
 use crate::Size;
 
 impl Size {
-    #[tactic(auto, unfolding(value::specs::Open::opened, crate::specs::Tables::size_fits))]
     fn fits(self) -> bool
         ensures { result ≡ Y.size_fits self }
     {
@@ -13,7 +14,6 @@ impl Size {
     }
 
     // How many bytes its commands take.
-    #[tactic(auto, unfolding(crate::specs::Tables::size_length))]
     fn length(self) -> usize
         ensures { (result ≡ Y.size_length self) × (result ≤ 4080) }
     {

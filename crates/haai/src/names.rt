@@ -1,5 +1,5 @@
 // Names by their places in the text.
-#![tactic(auto, unfolding(value::specs::Open::opened, crate::specs::Places::blamed, crate::specs::Names::unless, crate::specs::Clauses::place_in, crate::specs::Clauses::taken_of))]
+#![tactic(auto, unfolding(crate::proofs::Opens::names))]
 
 ghost use Rattle.std.specs.Prelude.{ℕ, List, ◌≡◌, ◌++◌, set};
 ghost use Rattle.value.specs.Test.{◌or◌};

@@ -1,5 +1,5 @@
 // The words of a text: where they are, and what each is by its bytes.
-#![tactic(auto, unfolding(value::specs::Open::opened, crate::specs::Word::is_space, crate::specs::Word::is_bracket, crate::specs::Word::ends_word, crate::specs::Word::is_letter, crate::specs::Word::is_digit, crate::specs::Word::position, crate::specs::Word::among, crate::specs::Word::sign_at, crate::specs::Word::taken_at, crate::specs::Word::class_of, crate::specs::Word::is_name, crate::specs::Word::bytes_of, crate::specs::Clauses::is_part, crate::specs::Clauses::capped, crate::specs::Clauses::magnitude_of, crate::specs::Clauses::number_of, crate::specs::Clauses::sign_of, crate::specs::Clauses::taken_of))]
+#![tactic(auto, unfolding(crate::proofs::Opens::words))]
 
 ghost use Rattle.std.specs.Prelude.{◌+◌, ◌-◌, ◌*◌, ◌≤◌, ◌<◌, ◌≡◌, length};
 ghost use Rattle.haai.specs.Word as O;

@@ -1,5 +1,5 @@
 // The bytes that a word adds: commands in the output, and the locations of values.
-#![tactic(auto, unfolding(value::specs::Open::opened, crate::specs::Writing::cursor_of, crate::specs::Writing::few, crate::specs::Writing::entry_for, crate::specs::Writing::operands_so_far, crate::specs::Writing::next_entry, crate::specs::Writing::outer_entry, crate::specs::Writing::place_d, crate::specs::Writing::place_r, crate::specs::Writing::deployment_loc, crate::specs::Writing::location_r, crate::specs::Writing::add_apply, crate::specs::Writing::add_operand, crate::specs::Writing::add_constant, crate::specs::Writing::adds, crate::specs::Word::bytes_of))]
+#![tactic(auto, unfolding(crate::proofs::Opens::writing))]
 
 ghost use Rattle.std.specs.Prelude.{◌+◌, ◌≤◌, ◌≡◌, length, set};
 ghost use Rattle.image.specs.Memory.{patch};
