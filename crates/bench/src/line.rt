@@ -149,7 +149,7 @@ impl Line {
     }
 }
 
-// The value of a hexadecimal digit.
+// The value of a hexadecimal digit; `to_digit` takes capitals too, and gives 32 bits.
 fn value_of(b: u8) -> u8 {
     match b {
         b'0'..=b'9' => b - b'0',

@@ -87,7 +87,8 @@ impl Progress {
     }
 }
 
-// Reads until the space is full or the file ends, and says how many bytes came.
+// Reads until the space is full or the file ends, and says how many bytes came. A read may give any number of them, so
+// that no `for` counts the turns.
 fn read_full(file: &mut impl Read, space: &mut [u8]) -> io::Result<usize>
     ensures { IfOk result (λ n. n ≤ length space.new) }
 {

@@ -9,7 +9,8 @@ use crate::pack::ran;
 use image::MOST_WORDS;
 use machine::{Answer, start, turn};
 
-// Which call is made. A preview makes its turn on the words of this memory, and its work memory gets those then.
+// Which call is made. A preview makes its turn on the words of this memory, and its work memory gets those then. With
+// a trait or a closure for the call there would be each of the six rooms three times.
 #[derive(Clone, Copy)]
 pub(crate) enum Call<'a> {
     Start,
