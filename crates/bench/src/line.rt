@@ -11,6 +11,7 @@ ghost use Rattle.std.specs.Prelude.{◌<◌};
 use image::MOST_WORDS;
 use machine::{Answer, number, place};
 
+// Numbers of fields, and no enum: what a field is differs by the kind of file.
 // Memory before and after.
 pub const MEMORY: u8 = 3;
 
@@ -100,7 +101,8 @@ impl Line {
         self.hex = self.field == 2;
     }
 
-    // Counts go round; no field of a vector comes so far.
+    // Counts go round; no field of a vector comes so far. A number is read digit by digit, since a piece of the file may
+    // end within it.
     fn digit(&mut self, d: u8, room: &mut [u8; ROOM]) {
         let at = self.field;
         let field = self.fields[at as usize];

@@ -3,6 +3,7 @@ use crate::text::Shown;
 use std::io;
 use value::Value;
 
+// Numbers, since `value::primitive` takes the byte of a command.
 const ADD: u8 = 0;
 
 const SUBTRACT: u8 = 1;
