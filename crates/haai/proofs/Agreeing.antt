@@ -6,6 +6,8 @@ use Rattle.std.specs.Prelude.{Bool, false, List, [], ◌∷◌, length, get_or}
 use lib.ListN.{get_or-eq_default}
 use Rattle.value.specs.Test.{pick, ◌<?◌, ◌=?◌, ◌and◌, ◌or◌}
 use Rattle.value.proofs.Tests.{lt!, lt×, either!, left×, yes, no, below}
+use Rattle.haai.specs.declared.Places.{Places}
+use Rattle.haai.specs.Places.{Roomy}
 use Rattle.haai.specs.declared.Size.{Size}
 use Rattle.haai.specs.declared.Application.{Application}
 use Rattle.haai.specs.declared.Knowing.{Knowing}
@@ -56,7 +58,7 @@ unfolding with_grove
 agree_grove t k x v (grove u pl) n h = record { named = n; grown = h }
 
 pub agree_begins : (t : List ℕ) (x : Knowing) → x.tally ≡ first_tally (length t) → x.tree ≡ first_tree
-    → length x.places ≡ 287
+    → Roomy x.places
     → length x.sizes ≡ 32
     → length x.pile ≡ 16
     → Agree t (nothing (length t)) x
@@ -105,7 +107,7 @@ faulted f v =
       at = v.at;
     }
 
-module _ (t : List ℕ) (k : Known) (v : Tally) (ps : List ℕ) (h : Named t k v ps) where
+module _ (t : List ℕ) (k : Known) (v : Tally) (ps : Places) (h : Named t k v ps) where
   named_pile : (f g : ℕ) (b : Exprs) (os : List Opened) → g ≡ f → Named t (with_pile k f b os) (faulted g v) ps
   unfolding with_pile
   named_pile f g b os e =
@@ -220,7 +222,7 @@ module _ (t : List ℕ) (a : ℕ) (k : Known) (x : Knowing) (g : Agree t k x) wh
   unfolding learn learnt add_source
   agree_source l =
       let n = g.named in
-      let c = length_names t x.places v.sources 0 in
+      let c = length_names t x.places.sources v.sources 0 in
       let d = ap (λ (y : List (List ℕ)). length y) n.sources in
       agree_names t _ x _ u (named_source t a k v x.places n (omega arith))
       (grown_by k _ u x.sizes x.pile refl refl refl g.grown)
@@ -230,7 +232,7 @@ module _ (t : List ℕ) (a : ℕ) (k : Known) (x : Knowing) (g : Agree t k x) wh
   agree_reactor l =
       let n = g.named in
       let h = g.grown in
-      let c = length_names t x.places v.reactors 31 in
+      let c = length_names t x.places.reactors v.reactors 0 in
       let d = ap (λ (y : List (List ℕ)). length y) n.reactors in
       let z = sym (counted_exact 0 (omega arith)) in
       agree_names t _ x _ _ (named_reactor t a k v x.places n (omega arith))
@@ -250,7 +252,7 @@ module _ (t : List ℕ) (a : ℕ) (k : Known) (x : Knowing) (g : Agree t k x) wh
   unfolding learn learnt add_parameter
   agree_parameter l =
       let n = g.named in
-      let c = length_names t x.places v.names 63 in
+      let c = length_names t x.places.parameters v.names 0 in
       let d = ap (λ (y : List (List ℕ)). length y) n.others in
       agree_names t _ x _ u (named_parameter t a k v x.places n (omega arith))
       (grown_by k _ u x.sizes x.pile refl refl refl g.grown)
@@ -263,7 +265,7 @@ module _ (t : List ℕ) (a : ℕ) (k : Known) (x : Knowing) (g : Agree t k x) wh
   unfolding fits_operand fit_operand sources_in
   operand_fits =
       let time = same_word time_word w in
-      let sources = names_at t x.places 0 v.sources in
+      let sources = names_at t x.places.sources 0 v.sources in
       ap (λ (b : Bool). b or (among sources w or time)) parameter_same
       ∙ ap (λ (y : List (List ℕ)). among k.parameters w or (among y w or time)) g.named.sources
 
@@ -310,7 +312,7 @@ module _ (t : List ℕ) (a : ℕ) (k : Known) (x : Knowing) (g : Agree t k x) wh
   agree_operator l =
       let h = g.grown in
       let o = operator_of k w in
-      let f = operator_in (names_at t x.places 31 v.reactors) w in
+      let f = operator_in (names_at t x.places.reactors 0 v.reactors) w in
       let e : applied_by f ≡ o
       = ap (λ (y : List (List ℕ)). applied_by (operator_in y w)) g.named.reactors ∙ operator_same k w in
       agree_grove t (add_operator k a o) x _ _
@@ -348,7 +350,7 @@ module _ (t : List ℕ) (a : ℕ) (k : Known) (x : Knowing) (g : Agree t k x) wh
   agree_define : Ready k Define → Agree t (learn k a w Define) (learnt t a w x Define)
   unfolding learn learnt define_kept
   agree_define l =
-      let c = length_names t x.places (v.names - v.own) (63 + v.own) in
+      let c = length_names t x.places.parameters (v.names - v.own) v.own in
       let d = ap (λ (y : List (List ℕ)). length y) g.named.parameters in
       record {
         named = named_defined t k v x.places g.named;

@@ -2,6 +2,7 @@
 use Rattle.std.specs.Prelude.{ℕ, ◌-◌, ◌≤◌, ◌<◌, ◌≡◌, List, length}
 use Rattle.std.proofs.Common.{sym, ◌∙◌, ap, subst, arith}
 use Rattle.value.specs.Test.{◌=?◌}
+use Rattle.haai.specs.declared.Places.{Places}
 use Rattle.haai.specs.declared.Knowing.{Knowing}
 use Rattle.haai.specs.Grammar.{takes, refuses}
 use Rattle.haai.specs.Word.{word_start, word_end, bytes_of, class_of}
@@ -36,11 +37,11 @@ module _ (t : List ℕ) (s : Reading) (a : ℕ) (x : Knowing) (h : Gathering t s
         (gather_taken t s a x h l b r s₂ (p ∙ ap (word_start t) q)
         (ap (λ (n : ℕ). step_of s (class_of (bytes_of t a n))) (sym q) ∙ f))
 
-same_fault : (t : List ℕ) (k : Known) (v : Tally) (ps : List ℕ) → Named t k v ps
+same_fault : (t : List ℕ) (k : Known) (v : Tally) (ps : Places) → Named t k v ps
     → unless (v.names - v.own =? 0) v.at v.fault ≡ fault_of k
 unfolding fault_of
 same_fault t k v ps h =
-    let few = sym (length_names t ps (v.names - v.own) _) ∙ ap length h.parameters in
+    let few = sym (length_names t ps.parameters (v.names - v.own) _) ∙ ap length h.parameters in
     ap (λ (n : ℕ). unless (n =? 0) v.at v.fault) few
     ∙ ap (λ (n : ℕ). unless (length k.parameters =? 0) n v.fault) h.at
     ∙ ap (λ (n : ℕ). unless (length k.parameters =? 0) k.at n) h.fault
@@ -53,7 +54,7 @@ gather_found t s a x h l f e =
     let k = known_by (length t) (form_of t) in
     let end = gather_ends t s a x h l in
     let n = end.named in
-    let sources = sym (length_names t x.places x.tally.sources 0) ∙ ap length n.sources in
+    let sources = sym (length_names t x.places.sources x.tally.sources 0) ∙ ap length n.sources in
     let definitions = end.grown.definitions in
     let few_sources = end.counted.few_sources in
     let few = end.counted.few in

@@ -5,6 +5,7 @@ use Rattle.std.proofs.Common.{sym, ◌∙◌, ap, subst}
 use Rattle.std.specs.Prelude.{length}
 use Rattle.std.proofs.Common.{arith}
 use Rattle.value.proofs.Tests.{both?, pick_any}
+use Rattle.haai.specs.Places.{Roomy}
 use Rattle.haai.specs.declared.Knowing.{Knowing}
 use Rattle.haai.specs.Grammar.{Step, takes, refuses}
 use Rattle.haai.specs.Word.{Word, word_start, word_end, bytes_of, class_of}
@@ -74,7 +75,7 @@ module _ (t : List ℕ) where
   pub gather_begins : (s : Reading) (a : ℕ) (x : Knowing) → s ≡ begin → a ≡ word_start t 0 → check_of (form_of t) ≡ right_form
       → x.tally ≡ first_tally (length t)
       → x.tree ≡ first_tree
-      → length x.places ≡ 287
+      → Roomy x.places
       → length x.sizes ≡ 32
       → length x.pile ≡ 16
       → Gathering s a x
@@ -100,7 +101,7 @@ module _ (t : List ℕ) where
 
   pub begins_known : (s : Reading) (a : ℕ) (x : Knowing) (e : s ≡ begin) (f : a ≡ word_start t 0)
       (r : check_of (form_of t) ≡ right_form) (v : x.tally ≡ first_tally (length t)) (u : x.tree ≡ first_tree)
-      (ps : length x.places ≡ 287) (tb : length x.sizes ≡ 32) (pl : length x.pile ≡ 16)
+      (ps : Roomy x.places) (tb : length x.sizes ≡ 32) (pl : length x.pile ≡ 16)
       → (gather_begins s a x e f r v u ps tb pl).known ≡ nothing (length t)
   unfolding gather_begins
   begins_known s a x e f r v u ps tb pl = refl

@@ -7,23 +7,25 @@ use Rattle.std.proofs.Common.{arith}
 use lib.ListN.{length-set}
 use Rattle.value.specs.Test.{guard}
 use Rattle.value.proofs.Tests.{cases, goes, stops, lt?}
+use Rattle.haai.specs.declared.Places.{Places}
 use Rattle.haai.specs.Word.{position, among, signs, sign_at, sign_number}
 use Rattle.haai.specs.Syntax.{sign, global}
 use Rattle.haai.specs.Names.{Known, meant, operator_of, fresh, unless, add_source, add_reactor, add_parameter}
 use Rattle.haai.specs.Places.{word_of, names_at, sources_in, reactors_in, names_in, parameters_in, Fits, Held, held}
 use Rattle.haai.specs.Places.{source_held, reactor_held, parameter_held, applied_by, operator_in, expr_of, global_in}
 use Rattle.haai.specs.Places.{meant_in}
+use Rattle.haai.specs.Places.{Roomy}
 use Rattle.haai.specs.declared.Tally.{Tally}
-use Rattle.haai.proofs.Placed.{names_kept, names_more}
+use Rattle.haai.proofs.Placed.{names_more}
 
-pub record Named (t : List ℕ) (k : Known) (v : Tally) (ps : List ℕ) : Type 0 where
+pub record Named (t : List ℕ) (k : Known) (v : Tally) (ps : Places) : Type 0 where
   pub fault : v.fault ≡ k.fault
-  pub sources : names_at t ps 0 v.sources ≡ k.sources
-  pub reactors : names_at t ps 31 v.reactors ≡ k.reactors
-  pub others : names_at t ps 63 v.names ≡ k.others
-  pub parameters : names_at t ps (63 + v.own) (v.names - v.own) ≡ k.parameters
+  pub sources : names_at t ps.sources 0 v.sources ≡ k.sources
+  pub reactors : names_at t ps.reactors 0 v.reactors ≡ k.reactors
+  pub others : names_at t ps.parameters 0 v.names ≡ k.others
+  pub parameters : names_at t ps.parameters v.own (v.names - v.own) ≡ k.parameters
   pub at : v.at ≡ k.at
-  pub room : length ps ≡ 287
+  pub room : Roomy ps
   pub fits : Fits v
 
 abbrev pub NamedHeld : List ℕ → Known → Held → Type 0
@@ -48,60 +50,58 @@ longer t ps n i j a l e h q =
     ∙ names_more t ps n i a h
     ∙ ap (λ (x : List (List ℕ)). x ++ (word_of t a ∷ [])) q
 
-module _ (t : List ℕ) (a : ℕ) (k : Known) (v : Tally) (ps : List ℕ) (h : Named t k v ps) where
+module _ (t : List ℕ) (a : ℕ) (k : Known) (v : Tally) (ps : Places) (h : Named t k v ps) where
   abbrev w : List ℕ
   w = word_of t a
 
   pub named_source : v.sources < 31 → NamedHeld t (add_source k a w) (source_held t a w v ps)
   unfolding add_source source_held sources_in
   named_source l =
-      let n = h.room in let f = h.fits.1.0 in let g = h.fits.1.1.0 in let o = h.fits.1.1.1 in
+      let n = h.room.0 in let f = h.fits.1.0 in let g = h.fits.1.1.0 in let o = h.fits.1.1.1 in
       record {
         fault = faults w a h.sources h.fault;
-        sources = longer t ps v.sources 0 v.sources a k.sources (omega arith) (omega arith) h.sources;
-        reactors = names_kept t ps v.sources a v.reactors 31 (inl (omega arith)) ∙ h.reactors;
-        others = names_kept t ps v.sources a v.names 63 (inl (omega arith)) ∙ h.others;
-        parameters =
-            names_kept t ps v.sources a (v.names - v.own) (63 + v.own) (inl (omega arith)) ∙ h.parameters;
+        sources = longer t ps.sources v.sources 0 v.sources a k.sources (omega arith) (omega arith) h.sources;
+        reactors = h.reactors;
+        others = h.others;
+        parameters = h.parameters;
         at = h.at;
-        room = length-set ps v.sources a ∙ h.room;
+        room = (length-set ps.sources v.sources a ∙ n, h.room.1);
         fits = (omega arith, (f, (g, o)));
       }
 
   pub named_reactor : v.reactors < 32 → NamedHeld t (add_reactor k a w) (reactor_held t a w v ps)
   unfolding add_reactor reactor_held sources_in reactors_in names_in
   named_reactor l =
-      let n = h.room in let s = h.fits.0 in let g = h.fits.1.1.0 in
+      let n = h.room.1.0 in let s = h.fits.0 in let g = h.fits.1.1.0 in
       let z : v.names - v.names ≡ 0 = omega arith in
       record {
         fault = faults w a (joined h.sources h.reactors h.others) h.fault;
-        sources = names_kept t ps (31 + v.reactors) a v.sources 0 (inr (omega arith)) ∙ h.sources;
-        reactors = longer t ps v.reactors 31 (31 + v.reactors) a k.reactors refl (omega arith) h.reactors;
-        others = names_kept t ps (31 + v.reactors) a v.names 63 (inl (omega arith)) ∙ h.others;
+        sources = h.sources;
+        reactors = longer t ps.reactors v.reactors 0 v.reactors a k.reactors (omega arith) (omega arith) h.reactors;
+        others = h.others;
         parameters =
-            ap (λ (x : ℕ). names_at t (set ps (31 + v.reactors) a) (63 + v.names) x) z
-            ∙ none_named t (set ps (31 + v.reactors) a) (63 + v.names);
+            ap (λ (x : ℕ). names_at t ps.parameters v.names x) z ∙ none_named t ps.parameters v.names;
         at = refl;
-        room = length-set ps (31 + v.reactors) a ∙ h.room;
+        room = (h.room.0, (length-set ps.reactors v.reactors a ∙ n, h.room.1.1));
         fits = (s, (omega arith, (g, omega arith)));
       }
 
   pub named_parameter : v.names < 224 → NamedHeld t (add_parameter k a w) (parameter_held t a w v ps)
   unfolding add_parameter parameter_held sources_in reactors_in parameters_in
   named_parameter l =
-      let n = h.room in let s = h.fits.0 in let f = h.fits.1.0 in let o = h.fits.1.1.1 in
+      let n = h.room.1.1 in let s = h.fits.0 in let f = h.fits.1.0 in let o = h.fits.1.1.1 in
       let z : v.names + 1 - v.own ≡ v.names - v.own + 1 = omega arith in
       record {
         fault = faults w a (joined h.sources h.reactors h.parameters) h.fault;
-        sources = names_kept t ps (63 + v.names) a v.sources 0 (inr (omega arith)) ∙ h.sources;
-        reactors = names_kept t ps (63 + v.names) a v.reactors 31 (inr (omega arith)) ∙ h.reactors;
-        others = longer t ps v.names 63 (63 + v.names) a k.others refl (omega arith) h.others;
+        sources = h.sources;
+        reactors = h.reactors;
+        others = longer t ps.parameters v.names 0 v.names a k.others (omega arith) (omega arith) h.others;
         parameters =
-            ap (λ (x : ℕ). names_at t (set ps (63 + v.names) a) (63 + v.own) x) z
-            ∙ longer t ps (v.names - v.own) (63 + v.own) (63 + v.names) a k.parameters (omega arith)
-            (omega arith) h.parameters;
+            ap (λ (x : ℕ). names_at t (set ps.parameters v.names a) v.own x) z
+            ∙ longer t ps.parameters (v.names - v.own) v.own v.names a k.parameters (omega arith) (omega arith)
+            h.parameters;
         at = h.at;
-        room = length-set ps (63 + v.names) a ∙ h.room;
+        room = (h.room.0, (h.room.1.0, length-set ps.parameters v.names a ∙ n));
         fits = (s, (f, (omega arith, omega arith)));
       }
 

@@ -5,6 +5,7 @@ use Rattle.std.proofs.Common.{sym, ◌∙◌, ap, subst, arith}
 use Rattle.value.specs.Test.{◌=?◌}
 use Rattle.value.proofs.Tests.{both?, le?}
 use Rattle.image.specs.Memory.{patch}
+use Rattle.haai.specs.Places.{Roomy}
 use Rattle.haai.specs.declared.Size.{Size}
 use Rattle.haai.specs.declared.Knowing.{Knowing}
 use Rattle.haai.specs.Grammar.{takes}
@@ -64,7 +65,7 @@ module _ (t : List ℕ) (sizes : List Size) (end : ℕ) (old : List ℕ) where
 
   pub pass_begins : (s : Reading) (a : ℕ) (x : Knowing) (ls : List ℕ) → s ≡ begin → a ≡ word_start t 0
       → check_of (form_of t) ≡ right_form → x.tally ≡ first_tally (length t) → x.tree ≡ first_tree
-      → length x.places ≡ 287 → length x.sizes ≡ 32 → length x.pile ≡ 16 → length ls ≡ 119
+      → Roomy x.places → length x.sizes ≡ 32 → length x.pile ≡ 16 → length ls ≡ 119
       → Passing s a x ls old
   pass_begins s a x ls e f r v u ps tb pl l =
       let k = sym (begins_known t s a x e f r v u ps tb pl) in

@@ -121,22 +121,6 @@ among_three xs ys zs w = among_both xs (ys ++ zs) w ∙ ap (λ (b : Bool). among
 
 -- ---- one place more
 
-module _ (t ps : List ℕ) (j a : ℕ) where
-  pub names_kept : (n i : ℕ) → (j < i) ⊎ (i + n ≤ j) → names_at t (set ps j a) i n ≡ names_at t ps i n
-  unfolding names_at place_at
-  names_kept zero i h = refl
-  names_kept (suc n) i h =
-      let e = get_or-set_other ps j i a 0 (apart h) in
-      rw e (ap (λ (l : List (List ℕ)). word_of t (get_or ps i 0) ∷ l) (names_kept n (i + 1) (later h)))
-    where
-      apart : (j < i) ⊎ (i + suc n ≤ j) → i ≡ j → ⊥
-      apart (inl q) e = omega arith
-      apart (inr q) e = omega arith
-
-      later : (j < i) ⊎ (i + suc n ≤ j) → (j < i + 1) ⊎ (i + 1 + n ≤ j)
-      later (inl q) = inl (omega arith)
-      later (inr q) = inr (omega arith)
-
 pub names_more : (t ps : List ℕ) (n i a : ℕ) → i + n < length ps
     → names_at t (set ps (i + n) a) i (n + 1) ≡ names_at t ps i n ++ (word_of t a ∷ [])
 unfolding names_at place_at

@@ -4,6 +4,7 @@ use Rattle.std.proofs.Common.{sym, ◌∙◌, ap}
 use Rattle.std.proofs.Common.{arith}
 use Rattle.value.specs.Test.{pick, ◌<?◌, ◌≤?◌}
 use Rattle.value.proofs.Tests.{pick_any, lt×?, le!, le×, eq!, eq×, yes, no}
+use Rattle.haai.specs.declared.Places.{Places}
 use Rattle.haai.specs.declared.Size.{Size}
 use Rattle.haai.specs.declared.Application.{Application}
 use Rattle.haai.specs.Tables.{size_at}
@@ -25,7 +26,7 @@ use Rattle.haai.proofs.Laying.{base_of, Pointed}
 
 -- ---- the cursor
 
-module _ (count : ℕ) (sizes : List Size) (end : ℕ) (t : List ℕ) (k : Known) (v : Tally) (u : Tree) (ps : List ℕ) (tb : List Size) (pl : List Application)
+module _ (count : ℕ) (sizes : List Size) (end : ℕ) (t : List ℕ) (k : Known) (v : Tally) (u : Tree) (ps : Places) (tb : List Size) (pl : List Application)
     (first : ℕ) where
   pub pointed : Named t k v ps → Grown k u tb pl
       → Midst count sizes (length k.definitions) k.body k.pile
@@ -38,7 +39,7 @@ module _ (count : ℕ) (sizes : List Size) (end : ℕ) (t : List ℕ) (k : Known
       let d = m.few_r in
       record {
         first = at;
-        parameters = sym (length_names t ps (v.names - v.own) (63 + v.own)) ∙ ap length named.parameters;
+        parameters = sym (length_names t ps.parameters (v.names - v.own) v.own) ∙ ap length named.parameters;
         declared = ap (λ (j : ℕ). (size_at sizes j).declared) grown.definitions;
         calls = grown.calls ∙ counted_exact (calls_open k.body k.pile) (omega arith);
         steps = grown.steps ∙ counted_exact (steps_open k.body k.pile) (omega arith);

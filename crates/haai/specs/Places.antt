@@ -1,6 +1,6 @@
--- Names by their places in the text: the first bytes of the sources' names stand at 0 to 30 of the places, those of the
--- reactors' at 31 to 62, those of the parameters' at 63 to 286.
-use Rattle.std.specs.Prelude.{ℕ, zero, suc, ◌+◌, ◌-◌, ◌≤◌, Bool, not, List, [], ◌∷◌, ◌++◌, get_or, set}
+-- Names by their places in the text, where their first bytes are: those of the sources, of the reactors, and of the
+-- parameters of all reactors.
+use Rattle.std.specs.Prelude.{ℕ, zero, suc, ◌+◌, ◌-◌, ◌≤◌, ◌≡◌, Bool, not, List, [], ◌∷◌, ◌++◌, length, get_or, set}
 use Rattle.value.specs.Test.{guard}
 use Rattle.haai.specs.Word.{word_end, bytes_of, position, among, signs, sign_at, sign_number}
 use Rattle.haai.specs.Names.{unless, fresh}
@@ -10,13 +10,8 @@ use Rattle.haai.specs.declared.Meant.{Meant}
 use Rattle.haai.specs.declared.Meant.TheVariants.{Parameter, Global}
 use Rattle.haai.specs.declared.Operator.{Operator}
 use Rattle.haai.specs.declared.Operator.TheVariants.{Sign, Reactor}
+use Rattle.haai.specs.declared.Places.{Places}
 use Rattle.haai.specs.declared.Tally.{Tally}
-
-abbrev pub reactors_from : ℕ
-reactors_from = 31
-
-abbrev pub parameters_from : ℕ
-parameters_from = 63
 
 -- place i, and 0 past the end
 unfoldable pub place_at : List ℕ → ℕ → ℕ
@@ -31,19 +26,23 @@ unfoldable pub names_at : List ℕ → List ℕ → ℕ → ℕ → List (List �
 names_at t ps i zero = []
 names_at t ps i (suc n) = word_of t (place_at ps i) ∷ names_at t ps (i + 1) n
 
-module _ (t ps : List ℕ) (v : Tally) where
+module _ (t : List ℕ) (ps : Places) (v : Tally) where
   unfoldable pub sources_in : List (List ℕ)
-  sources_in = names_at t ps 0 v.sources
+  sources_in = names_at t ps.sources 0 v.sources
 
   unfoldable pub reactors_in : List (List ℕ)
-  reactors_in = names_at t ps reactors_from v.reactors
+  reactors_in = names_at t ps.reactors 0 v.reactors
 
   -- all parameters, and the present reactor's
   unfoldable pub names_in : List (List ℕ)
-  names_in = names_at t ps parameters_from v.names
+  names_in = names_at t ps.parameters 0 v.names
 
   unfoldable pub parameters_in : List (List ℕ)
-  parameters_in = names_at t ps (parameters_from + v.own) (v.names - v.own)
+  parameters_in = names_at t ps.parameters v.own (v.names - v.own)
+
+-- how many places there are
+abbrev pub Roomy : Places → Type 0
+Roomy ps = (length ps.sources ≡ 31) × ((length ps.reactors ≡ 32) × (length ps.parameters ≡ 224))
 
 -- the places have room for what is counted
 abbrev pub Fits : Tally → Type 0
@@ -62,10 +61,10 @@ blamed ok q v =
 
 -- a tally with its places
 pub data Held : Type 0 where
-  held : Tally → List ℕ → Held
+  held : Tally → Places → Held
 
 -- a name that begins at a, w, is one more source's, reactor's or parameter's
-module _ (t : List ℕ) (a : ℕ) (w : List ℕ) (v : Tally) (ps : List ℕ) where
+module _ (t : List ℕ) (a : ℕ) (w : List ℕ) (v : Tally) (ps : Places) where
   unfoldable pub source_held : Held
   source_held =
       held
@@ -77,7 +76,7 @@ module _ (t : List ℕ) (a : ℕ) (w : List ℕ) (v : Tally) (ps : List ℕ) whe
         own = v.own;
         at = v.at;
       })
-      (set ps v.sources a)
+      (record { sources = set ps.sources v.sources a; reactors = ps.reactors; parameters = ps.parameters })
 
   unfoldable pub reactor_held : Held
   reactor_held =
@@ -90,7 +89,7 @@ module _ (t : List ℕ) (a : ℕ) (w : List ℕ) (v : Tally) (ps : List ℕ) whe
         own = v.names;
         at = a;
       })
-      (set ps (reactors_from + v.reactors) a)
+      (record { sources = ps.sources; reactors = set ps.reactors v.reactors a; parameters = ps.parameters })
 
   unfoldable pub parameter_held : Held
   parameter_held =
@@ -103,7 +102,7 @@ module _ (t : List ℕ) (a : ℕ) (w : List ℕ) (v : Tally) (ps : List ℕ) whe
         own = v.own;
         at = v.at;
       })
-      (set ps (parameters_from + v.names) a)
+      (record { sources = ps.sources; reactors = ps.reactors; parameters = set ps.parameters v.names a })
 
 -- ---- what a name means
 

@@ -15,6 +15,7 @@ use Rattle.haai.specs.declared.Found.{Found}
 use Rattle.haai.specs.declared.Knowing.{Knowing}
 use Rattle.haai.specs.declared.Operator.{Operator}
 use Rattle.haai.specs.declared.Operator.TheVariants.{Sign, Reactor as AReactor}
+use Rattle.haai.specs.declared.Places.{Places}
 use Rattle.haai.specs.declared.Role.{Role}
 use Rattle.haai.specs.declared.Role.TheVariants.{Source, Reactor, Parameter, Operand, Constant}
 use Rattle.haai.specs.declared.Role.TheVariants.{Operator as AnOperator, Apply, Define, Fixed}
@@ -139,7 +140,7 @@ size_of u s = record { parameters = s; sinks = u.count; declared = u.calls; runn
 
 -- ---- all that is kept
 
-abbrev pub kept : Tally → Tree → List ℕ → List Size → List Application → Knowing
+abbrev pub kept : Tally → Tree → Places → List Size → List Application → Knowing
 kept v u ps zs pl = record { tally = v; tree = u; places = ps; sizes = zs; pile = pl }
 
 -- before the first word of a text of n bytes

@@ -10,7 +10,7 @@ ghost use Rattle.haai.specs.Places as J;
 ghost use Rattle.haai.specs.Tables as Y;
 
 use crate::word::{word_end, word_start};
-use crate::{Application, Found, Knowing, Reading, Role, Size, Tally, Tree};
+use crate::{Application, Found, Knowing, Places, Reading, Role, Size, Tally, Tree};
 
 impl Tally {
     // The present reactor's parameters.
@@ -22,7 +22,7 @@ impl Tally {
     }
 
     // The R commands of an operand: none if it is a parameter.
-    fn own_steps(self, t: &[u8], places: &[usize; 287], w: &[u8]) -> u8
+    fn own_steps(self, t: &[u8], places: &Places, w: &[u8]) -> u8
         requires { J.Fits self }
         ensures { result ≡ pick (O.among (J.parameters_in t.now places.now self) w.now) 0 1 }
     {
@@ -37,7 +37,7 @@ impl Knowing {
     // Before the first word of a text of n bytes.
     pub(crate) fn begin(n: usize) -> Knowing
         ensures start { (result.tally ≡ Y.first_tally n) × (result.tree ≡ Y.first_tree) }
-        ensures room { (length result.places ≡ 287) × ((length result.sizes ≡ 32) × (length result.pile ≡ 16)) }
+        ensures room { J.Roomy result.places × ((length result.sizes ≡ 32) × (length result.pile ≡ 16)) }
     {
         let tally = Tally {
             fault: n,
@@ -57,7 +57,11 @@ impl Knowing {
         Knowing {
             tally,
             tree,
-            places: [0; 287],
+            places: Places {
+                sources: [0; 31],
+                reactors: [0; 32],
+                parameters: [0; 224],
+            },
             sizes: [Size::NONE; 32],
             pile: [Application::NONE; 16],
         }

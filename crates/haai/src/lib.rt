@@ -142,14 +142,21 @@ pub struct Size {
     pub running: u8,
 }
 
-// All that is known after some words: of the names, of which `places` has the first bytes (the sources'
-// from 0 on, the reactors' from 31 on, the parameters' from 63 on), and of the tree, with the sizes of the
-// whole definitions and the open applications from the outermost on.
+// Where the names of the sources, of the reactors, and of the parameters of all reactors begin.
+#[derive(Drop)]
+pub struct Places {
+    pub sources: [usize; 31],
+    pub reactors: [usize; 32],
+    pub parameters: [usize; 224],
+}
+
+// All that is known after some words: of the names, with their places, and of the tree, with the sizes of
+// the whole definitions and the open applications from the outermost on.
 #[derive(Drop)]
 pub struct Knowing {
     pub tally: Tally,
     pub tree: Tree,
-    pub places: [usize; 287],
+    pub places: Places,
     pub sizes: [Size; 32],
     pub pile: [Application; 16],
 }

@@ -9,12 +9,8 @@ ghost use Rattle.haai.specs.Places as J;
 ghost use Rattle.haai.specs.Clauses.{place_in, words_at};
 
 use crate::word::{same, sign_of, taken_of, word_end};
-use crate::{Meant, Operator, Tally};
+use crate::{Meant, Operator, Places, Tally};
 use program::put;
-
-const REACTORS: usize = 31;
-
-const PARAMETERS: usize = 63;
 
 // Whether the word that begins at a is w.
 fn same_at(t: &[u8], a: usize, w: &[u8]) -> bool
@@ -53,72 +49,72 @@ fn is_time(w: &[u8]) -> bool
 }
 
 impl Tally {
-    fn source_places(self, places: &[usize; 287]) -> &[usize]
+    fn source_places(self, places: &Places) -> &[usize]
         requires { J.Fits self }
         ensures { (t : List ℕ) → words_at t result.now ≡ J.sources_in t places.now self }
     {
-        &places[..self.sources]
+        &places.sources[..self.sources]
     }
 
-    fn reactor_places(self, places: &[usize; 287]) -> &[usize]
+    fn reactor_places(self, places: &Places) -> &[usize]
         requires { J.Fits self }
         ensures { (t : List ℕ) → words_at t result.now ≡ J.reactors_in t places.now self }
     {
-        &places[REACTORS..REACTORS + self.reactors]
+        &places.reactors[..self.reactors]
     }
 
     // Those of all parameters.
-    fn name_places(self, places: &[usize; 287]) -> &[usize]
+    fn name_places(self, places: &Places) -> &[usize]
         requires { J.Fits self }
         ensures { (t : List ℕ) → words_at t result.now ≡ J.names_in t places.now self }
     {
-        &places[PARAMETERS..PARAMETERS + self.names]
+        &places.parameters[..self.names]
     }
 
     // Those of the present reactor's parameters.
-    fn parameter_places(self, places: &[usize; 287]) -> &[usize]
+    fn parameter_places(self, places: &Places) -> &[usize]
         requires { J.Fits self }
         ensures { (t : List ℕ) → words_at t result.now ≡ J.parameters_in t places.now self }
     {
-        &places[PARAMETERS + self.own..PARAMETERS + self.names]
+        &places.parameters[self.own..self.names]
     }
 
-    fn is_source(self, t: &[u8], places: &[usize; 287], w: &[u8]) -> bool
+    fn is_source(self, t: &[u8], places: &Places, w: &[u8]) -> bool
         requires { J.Fits self }
         ensures { result ≡ O.among (J.sources_in t.now places.now self) w.now }
     {
         among(t, self.source_places(places), w)
     }
 
-    fn is_reactor(self, t: &[u8], places: &[usize; 287], w: &[u8]) -> bool
+    fn is_reactor(self, t: &[u8], places: &Places, w: &[u8]) -> bool
         requires { J.Fits self }
         ensures { result ≡ O.among (J.reactors_in t.now places.now self) w.now }
     {
         among(t, self.reactor_places(places), w)
     }
 
-    fn is_name(self, t: &[u8], places: &[usize; 287], w: &[u8]) -> bool
+    fn is_name(self, t: &[u8], places: &Places, w: &[u8]) -> bool
         requires { J.Fits self }
         ensures { result ≡ O.among (J.names_in t.now places.now self) w.now }
     {
         among(t, self.name_places(places), w)
     }
 
-    pub(crate) fn is_parameter(self, t: &[u8], places: &[usize; 287], w: &[u8]) -> bool
+    pub(crate) fn is_parameter(self, t: &[u8], places: &Places, w: &[u8]) -> bool
         requires { J.Fits self }
         ensures { result ≡ O.among (J.parameters_in t.now places.now self) w.now }
     {
         among(t, self.parameter_places(places), w)
     }
 
-    fn fresh_source(self, t: &[u8], places: &[usize; 287], w: &[u8]) -> bool
+    fn fresh_source(self, t: &[u8], places: &Places, w: &[u8]) -> bool
         requires { J.Fits self }
         ensures { result ≡ I.fresh (J.sources_in t.now places.now self) w.now }
     {
         !(is_taken(w) | self.is_source(t, places, w))
     }
 
-    fn fresh_reactor(self, t: &[u8], places: &[usize; 287], w: &[u8]) -> bool
+    fn fresh_reactor(self, t: &[u8], places: &Places, w: &[u8]) -> bool
         requires { J.Fits self }
         ensures { let text = t.now in let ps = places.now in
             result ≡ I.fresh (J.sources_in text ps self ++ (J.reactors_in text ps self ++ J.names_in text ps self))
@@ -129,7 +125,7 @@ impl Tally {
                 | (self.is_reactor(t, places, w) | self.is_name(t, places, w))))
     }
 
-    fn fresh_parameter(self, t: &[u8], places: &[usize; 287], w: &[u8]) -> bool
+    fn fresh_parameter(self, t: &[u8], places: &Places, w: &[u8]) -> bool
         requires { J.Fits self }
         ensures { let text = t.now in let ps = places.now in
             result ≡ I.fresh (J.sources_in text ps self ++ (J.reactors_in text ps self ++ J.parameters_in text ps self))
@@ -141,7 +137,7 @@ impl Tally {
     }
 
     // Whether an operand may be w: a parameter, a source or the time.
-    pub(crate) fn fit_operand(self, t: &[u8], places: &[usize; 287], w: &[u8]) -> bool
+    pub(crate) fn fit_operand(self, t: &[u8], places: &Places, w: &[u8]) -> bool
         requires { J.Fits self }
         ensures { let text = t.now in let ps = places.now in let word = w.now in
             result ≡ (O.among (J.parameters_in text ps self) word or (O.among (J.sources_in text ps self) word
@@ -160,32 +156,26 @@ impl Tally {
         Tally { fault: q, ..self }
     }
 
-    pub(crate) fn add_source(self, t: &[u8], a: usize, w: &[u8], places: &mut [usize; 287]) -> Tally
+    pub(crate) fn add_source(self, t: &[u8], a: usize, w: &[u8], places: &mut Places) -> Tally
         requires { J.Fits self }
         ensures { let text = t.now in let ps = places.old in
             J.held result places.new ≡ J.source_held text a w.now self ps }
     {
         let ok = self.fresh_source(t, places, w);
-        put(places, self.sources, a);
+        put(&mut places.sources, self.sources, a);
         Tally {
             sources: self.sources + 1,
             ..self.blame(ok, a)
         }
     }
 
-    pub(crate) fn add_reactor(
-        self,
-        t: &[u8],
-        a: usize,
-        w: &[u8],
-        places: &mut [usize; 287],
-    ) -> Tally
+    pub(crate) fn add_reactor(self, t: &[u8], a: usize, w: &[u8], places: &mut Places) -> Tally
         requires { J.Fits self }
         ensures { let text = t.now in let ps = places.old in
             J.held result places.new ≡ J.reactor_held text a w.now self ps }
     {
         let ok = self.fresh_reactor(t, places, w);
-        put(places, REACTORS + self.reactors, a);
+        put(&mut places.reactors, self.reactors, a);
         Tally {
             reactors: self.reactors + 1,
             own: self.names,
@@ -194,19 +184,13 @@ impl Tally {
         }
     }
 
-    pub(crate) fn add_parameter(
-        self,
-        t: &[u8],
-        a: usize,
-        w: &[u8],
-        places: &mut [usize; 287],
-    ) -> Tally
+    pub(crate) fn add_parameter(self, t: &[u8], a: usize, w: &[u8], places: &mut Places) -> Tally
         requires { J.Fits self }
         ensures { let text = t.now in let ps = places.old in
             J.held result places.new ≡ J.parameter_held text a w.now self ps }
     {
         let ok = self.fresh_parameter(t, places, w);
-        put(places, PARAMETERS + self.names, a);
+        put(&mut places.parameters, self.names, a);
         Tally {
             names: self.names + 1,
             ..self.blame(ok, a)
@@ -214,7 +198,7 @@ impl Tally {
     }
 
     // The sign that w is, or the reactor with that name; after them all if it is none.
-    pub(crate) fn operator_of(self, t: &[u8], places: &[usize; 287], w: &[u8]) -> Operator
+    pub(crate) fn operator_of(self, t: &[u8], places: &Places, w: &[u8]) -> Operator
         requires { J.Fits self }
         ensures { let text = t.now in let ps = places.now in
             result ≡ J.operator_in (J.reactors_in text ps self) w.now }
@@ -227,7 +211,7 @@ impl Tally {
     }
 
     // The source that w is, counted from 1; 0 if it is none.
-    fn source_of(self, t: &[u8], places: &[usize; 287], w: &[u8]) -> Meant
+    fn source_of(self, t: &[u8], places: &Places, w: &[u8]) -> Meant
         requires { J.Fits self }
         ensures { result ≡ J.global_in (J.sources_in t.now places.now self) w.now }
     {
@@ -238,7 +222,7 @@ impl Tally {
     }
 
     // What an operand's name stands for.
-    pub(crate) fn meant(self, t: &[u8], places: &[usize; 287], w: &[u8]) -> Meant
+    pub(crate) fn meant(self, t: &[u8], places: &Places, w: &[u8]) -> Meant
         requires { J.Fits self }
         ensures { let text = t.now in let ps = places.now in
             result ≡ J.meant_in (J.parameters_in text ps self) (J.sources_in text ps self) w.now }

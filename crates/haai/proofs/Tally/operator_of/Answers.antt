@@ -22,7 +22,7 @@ returns c = let w = c.args.w.now in
     let ps = c.args.places.now in
     let none : c.sign_of.result ≡ None = search rules in
     let names = c.reactor_places.ensures t in
-    let found = found_or (reactors_in t ps v) w v.reactors (sym (length_names t ps v.reactors 31)) in
+    let found = found_or (reactors_in t ps v) w v.reactors (sym (length_names t ps.reactors v.reactors 0)) in
     goes _ _ (ap not (sign_none w (sym none ∙ c.sign_of.ensures)))
     (ap (λ (n : ℕ). Reactor n)
     (c.unwrap_or.ensures ∙ ap (λ o. unwrap_or o v.reactors) (c.position-reactor.ensures ∙ ap (λ ns. place_in ns w) names)

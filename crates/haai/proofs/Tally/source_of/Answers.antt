@@ -16,7 +16,7 @@ overflow_add-result c = let w = c.args.w.now in
     let names = c.source_places.ensures t in
     let found = found_at (sources_in t ps v) w _ (c.in-Some.ensures ∙ ap (λ ns. place_in ns w) names) in
     let most = position_le (sources_in t ps v) w in
-    let long = length_names t ps v.sources 0 in
+    let long = length_names t ps.sources v.sources 0 in
     let few : c.in-Some.source ≤ 31 = omega (arith, found.1) in
     search rules
 
