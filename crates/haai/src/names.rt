@@ -1,7 +1,7 @@
 // Names by their places in the text.
 #![tactic(auto, unfolding(crate::proofs::Opens::names))]
 
-ghost use Rattle.std.specs.Prelude.{ℕ, List, ◌≡◌, ◌++◌, set};
+ghost use Rattle.std.specs.Prelude.{ℕ, List, ◌≡◌, ◌++◌};
 ghost use Rattle.value.specs.Test.{◌or◌};
 ghost use Rattle.haai.specs.Word as O;
 ghost use Rattle.haai.specs.Names as I;
