@@ -1,6 +1,6 @@
 // Tables of bytes, a byte for each three words of memory. A deployment takes three words or more, so
 // that no two begin in the same three.
-ghost use Rattle.std.specs.Prelude.{◌≡◌, set};
+ghost use Rattle.std.specs.Prelude.{◌≡◌};
 ghost use Rattle.image.specs.Passes as P;
 
 use program::{byte, put};

@@ -1,6 +1,4 @@
-// A grown image as its test goes over it, and the D slots of its deployments.
-ghost use Rattle.std.specs.Prelude.{◌+◌, ◌<◌, ◌≡◌};
-ghost use Rattle.program.specs.Bytes as B;
+// A grown image as its test goes over it.
 ghost use Rattle.image.specs.Memory as M;
 ghost use Rattle.image.specs.Clauses.{Positions, Tiling};
 

@@ -9,8 +9,7 @@ use Rattle.load.specs.Refusal.{at_command}
 use Rattle.answer.specs.Answer.{number_of}
 use Rattle.load.specs.Tables.{header_legal, table_legal}
 use Rattle.answer.specs.declared.Refusal.TheVariants.{ProgramLength, TableByte, Missing}
-use Rattle.answer.specs.Answer.{Answer}
-use Rattle.answer.specs.Answer.{Ruling}
+use Rattle.answer.specs.Answer.{Answer, Ruling}
 
 -- what a reactor's scan comes to: the refusal of a command at its byte, 7 at the reactor's end, or on
 unfoldable pub ended : (Unit {0} → Answer) → ℕ → Scanned → ℕ → Answer

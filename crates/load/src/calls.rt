@@ -25,15 +25,22 @@ fn judge_reactors(program: &[u8], facts: &mut [u64; 64]) -> Result<(), Refusal>
     let count = reactors(program);
     let mut first = tables_end(program) as u32;
     for r in 0..count {
-        let f = Known::of(program, r, first);
+        let known = Known::of(program, r, first);
         let mut locations = Locations::blank();
-        let results = f.scan(&mut locations)?;
-        if !locations.complete(f.first_sink() + f.sinks as usize) {
+        let results = known.scan(&mut locations)?;
+        if !locations.complete(known.first_sink() + known.sinks as usize) {
             return Err(Refusal::Missing(entry_at(program, r as u32)));
         }
-        let k = Counts::new(first, f.sources, f.declared, f.running, results, f.sinks);
+        let k = Counts::new(
+            first,
+            known.sources,
+            known.declared,
+            known.running,
+            results,
+            known.sinks,
+        );
         facts[r as usize] = k.word;
-        first = first + 8 * (f.declared as u32 + f.running as u32);
+        first += 8 * (known.declared as u32 + known.running as u32);
     }
     Ok(())
 }
@@ -42,7 +49,7 @@ fn judge_reactors(program: &[u8], facts: &mut [u64; 64]) -> Result<(), Refusal>
 fn length_legal(n: usize) -> bool
     ensures { result ≡ ((B.header_end ≤? n) and (n ≤? B.most_bytes)) }
 {
-    (8 <= n) & (n <= Header::MOST_BYTES)
+    (Header::BYTES as usize <= n) & (n <= Header::MOST_BYTES)
 }
 
 // Whether a program is accepted, or why not. Of an accepted one the facts are noted in a table of zeros.

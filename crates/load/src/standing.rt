@@ -1,6 +1,6 @@
 // The standings and kinds of locations. Every function is total: past the tables a location stands
 // as nothing, and no change reaches it.
-ghost use Rattle.std.specs.Prelude.{ℕ, ◌/◌, ◌%◌, ◌^◌, ◌≡◌, get_or, set};
+ghost use Rattle.std.specs.Prelude.{ℕ, ◌/◌, ◌%◌, ◌^◌, ◌≡◌, get_or};
 ghost use Rattle.value.specs.Test.{◌=?◌};
 ghost use Rattle.load.specs.Clauses.{blank, byte_bit, state};
 ghost use Rattle.load.specs.Scan as S;
@@ -8,8 +8,8 @@ ghost use Rattle.load.specs.Scan as S;
 use crate::{Location, Locations, Scan};
 use program::{MOST_LOCATIONS, byte, put};
 
-// Standings. They are bytes and no enum: 2.15 prescribes tables of bytes, and a deployment that awaits its React has
-// WAITING and a bit for each source that is supplied.
+// Standings. They are bytes and no enum: the tables are arrays of bytes by a rule of the project (docs/DECISIONS.md),
+// and a deployment that awaits its React has WAITING and a bit for each source that is supplied.
 impl Location {
     pub const VALUE: u8 = 1;
 

@@ -37,8 +37,8 @@ number_of Instead = 12
 number_of TickDifference = 13
 
 -- the result is the primitive of this number, or it is no primitive's
-abbrev pub Numbers : ℕ → Result Primitive UnknownPrimitive → Type 0
-Numbers x r = MatchResult r (λ p. number_of p ≡ x) (λ e. length table ≤ x)
+abbrev pub Coded : ℕ → Result Primitive UnknownPrimitive → Type 0
+Coded x r = MatchResult r (λ p. number_of p ≡ x) (λ e. length table ≤ x)
 
 -- a result that 32 bits hold, if there is one
 abbrev pub number_or_blank : Option ℤ → Value

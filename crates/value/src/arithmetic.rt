@@ -49,7 +49,7 @@ pub(crate) fn negate(x: i32) -> Value
 }
 
 // The machine's division is not defined at the lowest integer by -1, so -1 is apart. The two operators stand
-// here, and not `checked_div`, since 1.14 is about the division and the negation of signed integers of 32 bits.
+// here, and not `checked_div` and `checked_neg`, by a rule of the project (docs/DECISIONS.md, its first table).
 pub(crate) fn divide(x: i32, y: i32) -> Value
     ensures { result ≡ quotient x y }
 {

@@ -1,5 +1,5 @@
 // Integers of 32 bits and the words that hold them in two's complement.
-ghost use Rattle.std.specs.Prelude.{◌≡◌, unsigned_abs};
+ghost use Rattle.std.specs.Prelude.{◌≡◌};
 ghost use Rattle.std.specs.Int.{w32};
 ghost use Rattle.std.proofs.Common.{to_z, of_z};
 
@@ -15,11 +15,4 @@ pub fn word(z: i32) -> u32
     ensures { result ≡ of_z w32 z }
 {
     z.cast_unsigned()
-}
-
-// How far an integer is from zero, for printing.
-pub fn magnitude(z: i32) -> u32
-    ensures { result ≡ unsigned_abs z }
-{
-    z.unsigned_abs()
 }

@@ -15,7 +15,7 @@ mod table;
 ghost use Rattle.std.specs.Prelude.{◌≡◌};
 ghost use Rattle.value.specs.Value as W;
 
-pub use integer::{magnitude, signed, word};
+pub use integer::{signed, word};
 pub use kinds::Kind;
 pub use primitives::primitive;
 pub use table::{is_primitive, is_withdrawn, kinds_fit, operands};

@@ -31,11 +31,11 @@ pub(crate) enum Primitive {
 pub(crate) struct UnknownPrimitive;
 
 impl TryFrom<u8> for Primitive {
-    ghost use Rattle.value.specs.Clauses.{Numbers};
+    ghost use Rattle.value.specs.Clauses.{Coded};
 
     type Error = UnknownPrimitive;
 
-    ghost try_from_gives = { Numbers };
+    ghost try_from_gives = { Coded };
 
     fn try_from(op: u8) -> Result<Self, UnknownPrimitive> {
         match op {
@@ -94,7 +94,7 @@ pub(crate) fn takes_of(op: u8) -> Takes
 {
     match Primitive::try_from(op) {
         Ok(primitive) => primitive.takes(),
-        Err(_) => Takes::OneOfAny,
+        Err(UnknownPrimitive) => Takes::OneOfAny,
     }
 }
 

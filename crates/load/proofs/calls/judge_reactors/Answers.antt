@@ -22,8 +22,8 @@ loop-r-init c = let args = c.args in
       upto_none p _ c.requires.zeros,
     )
 
-pub of-f-requires : goal.of-f-requires
-of-f-requires c = let r = c.loop-r.r in
+pub of-known-requires : goal.of-known-requires
+of-known-requires c = let r = c.loop-r.r in
     let pre = c.requires in
     let p = c.args.program.now in
     let inside : r < reactors p = omega (arith, c.reactors-count.ensures) in record {
@@ -36,7 +36,7 @@ pub returns-in_err-results : goal.returns-in_err-results
 unfolding checked
 returns-in_err-results c = let p = c.args.program.now in rw (handed_on _ c.from_residual.ensures.1) (record {
   ruling = reactor_refused _ p c.loop-r.r _ (omega (arith, c.reactors-count.ensures))
-      c.scan.new.locations c.of-f.ensures c.in_err-results.ensures ∙ sym c.loop-r.invariant.0;
+      c.scan.new.locations c.of-known.ensures c.in_err-results.ensures ∙ sym c.loop-r.invariant.0;
   facts = not_fine;
 })
 
@@ -45,7 +45,7 @@ overflow_add-first_sink c = omega (arith, c.first_sink.ensures.small)
 
 pub complete-requires : goal.complete-requires
 unfolding locations sink_loc commands_in standing_at
-complete-requires c = let f = c.of-f.result in
+complete-requires c = let f = c.of-known.result in
     let end : c.first_sink.result + f.sinks ≡ locations f.program.now f.reactor = omega
     (arith, c.first_sink.ensures.is, f.its_sources, f.its_declared, f.its_running, f.its_sinks) in record {
       small = omega (arith, c.first_sink.ensures.small);
@@ -57,7 +57,7 @@ unfolding checked
 returns-then-not-complete c = let p = c.args.program.now in record {
   ruling = ap (λ (e : ℕ). Err (Missing e)) c.entry_at.ensures.is
       ∙ reactor_missing _ p c.loop-r.r _ (omega (arith, c.reactors-count.ensures)) _
-      c.of-f.ensures _ c.in_ok-results.ensures (refused (c.complete.ensures _) (ap not c.if-not-complete.true))
+      c.of-known.ensures _ c.in_ok-results.ensures (refused (c.complete.ensures _) (ap not c.if-not-complete.true))
       ∙ sym c.loop-r.invariant.0;
   facts = not_fine;
 }
@@ -68,12 +68,12 @@ bounds-facts-r c = omega (arith, c.reactors-count.ensures, c.requires.few.1)
 pub loop-r-preserved : goal.loop-r-preserved
 unfolding commands_in
 loop-r-preserved c = let p = c.args.program.now in
-    let f = c.of-f.result in
+    let f = c.of-known.result in
     let r = c.loop-r.r in
     let pre = c.requires in
     let loop = c.loop-r in
     let is : (g : List ℕ → ℕ → ℕ) → g f.program.now f.reactor ≡ g p r =
-    (λ g. ap (λ (o : List ℕ). g o f.reactor) c.of-f.ensures.0 ∙ ap (g p) c.of-f.ensures.1) in
+    (λ g. ap (λ (o : List ℕ). g o f.reactor) c.of-known.ensures.0 ∙ ap (g p) c.of-known.ensures.1) in
     let inside : r < reactors p = omega (arith, c.reactors-count.ensures) in
     let declared = f.its_declared ∙ is commands_d in
     let running = f.its_running ∙ is commands_r in
@@ -83,7 +83,7 @@ loop-r-preserved c = let p = c.args.program.now in
     (c.in_ok-results.ensures.2 ∙ is (λ o q. results o q (commands_r o q)))
     (f.its_sinks ∙ is sink_count) in (
       loop.invariant.0
-          ∙ reactor_taken _ p r _ (omega (arith, inside)) _ c.of-f.ensures _ c.in_ok-results.ensures
+          ∙ reactor_taken _ p r _ (omega (arith, inside)) _ c.of-known.ensures _ c.in_ok-results.ensures
           (passed (c.complete.ensures _) (ap not c.if-not-complete.false))
           ∙ ap (λ (m : ℕ). reactors_of (accepted p) m p (r + 1)) (omega (arith, inside)),
       omega (arith, inside),
