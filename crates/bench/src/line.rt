@@ -11,7 +11,8 @@ ghost use Rattle.std.specs.Prelude.{◌<◌};
 use image::MOST_WORDS;
 use machine::{Answer, number, place};
 
-// Numbers of fields, and no enum: what a field is differs by the kind of file.
+// The fields are numbers and no enum: what a field is differs by the kind of file.
+
 // Memory before and after.
 pub const MEMORY: u8 = 3;
 
@@ -101,20 +102,20 @@ impl Line {
         self.hex = self.field == 2;
     }
 
-    // Counts go round; no field of a vector comes so far. A number is read digit by digit, since a piece of the file may
-    // end within it.
+    // Both go round at seven digits; no field of a vector comes so far. A number is read digit by digit, since a
+    // piece of the file may end within it.
     fn digit(&mut self, d: u8, room: &mut [u8; ROOM]) {
         let at = self.field;
         let field = self.fields[at as usize];
         let next = if self.hex {
             put_digit(room, at, field.digits, d);
             Field {
-                digits: field.digits.wrapping_add(1),
+                digits: field.digits % 1000000 + 1,
                 ..field
             }
         } else {
             Field {
-                number: field.number.wrapping_mul(10).wrapping_add(u32::from(d)),
+                number: field.number % 1000000 * 10 + u32::from(d),
                 ..field
             }
         };

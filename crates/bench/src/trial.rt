@@ -5,7 +5,7 @@ use crate::line::{
 };
 use crate::words::{fill, same};
 use image::MOST_WORDS;
-use machine::{Answer, Refusal};
+use machine::Refusal;
 use program::Header;
 
 // Words for a line's readings, and for its sink space: a pair more than the most globals have.
@@ -86,9 +86,8 @@ const BEFORE: u8 = 238;
 
 // Whether output space has these bytes first, and then those of before.
 fn same_bytes(output: &[u8], bytes: &[u8]) -> bool {
-    output
-        .strip_prefix(bytes)
-        .is_some_and(|rest| rest.iter().all(|b| *b == BEFORE))
+    output.iter().zip(bytes.iter()).all(|(b, due)| *b == *due)
+        & output.iter().skip(bytes.len()).all(|b| *b == BEFORE)
 }
 
 // A text's number and place, and every byte of output space after it.

@@ -35,9 +35,9 @@ struct Progress {
 impl Tally {
     fn count(&mut self, number: u32, agrees: bool) {
         if !agrees {
-            self.differ = self.differ.saturating_add(1);
+            self.differ = self.differ % 1000000 + 1;
         } else if let Some(n) = self.agree.get_mut(number as usize) {
-            *n = n.saturating_add(1);
+            *n = *n % 1000000 + 1;
         }
     }
 }

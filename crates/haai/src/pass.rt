@@ -1,5 +1,5 @@
 // The pass that writes a text's commands, word by word.
-ghost use Rattle.std.specs.Prelude.{◌≤◌, ◌≡◌, length};
+ghost use Rattle.std.specs.Prelude.{◌≡◌, length};
 ghost use Rattle.image.specs.Memory.{patch};
 ghost use Rattle.haai.specs.Grammar as G;
 ghost use Rattle.haai.specs.Emit.{code_of};

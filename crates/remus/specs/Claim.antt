@@ -154,14 +154,14 @@ module _ (p w : List ℕ) (t : Input) where
         → Begins p w o b f (value_at p m o b)
     -- what a turn that brings what it should comes to, and nothing else
     pub ends : (r : Turn) → Fit → Walked p w t r → Ends r
-    -- 6.14 Err with 15 exactly at an allocation that would have depth 65.
+    -- 6.14 Refused with 15 exactly at an allocation that would have depth 65.
     pub deep : (r : Turn) (q : ℕ) → Walked p w t r → (r.answer ≡ Err (TooDeep q)) ↔ TooDeepAt q
-    -- 6.14 Err with 14 exactly at another allocation that is larger than what is left.
+    -- 6.14 Refused with 14 exactly at another allocation that is larger than what is left.
     pub full : (r : Turn) (q : ℕ) → Walked p w t r → (r.answer ≡ Err (NoRoom q)) ↔ NoRoomAt q
     -- 6.1 Completed, with 0, exactly where main comes to its end.
     pub complete : (r : Turn) (u : ℕ) → Walked p w t r
         → (r.answer ≡ Ok u) ↔ ((s : State) × Leaves s × (used s.words ≡ u))
-    -- 4.11, 6.26 Err by 10 to 13 before a step, or by 14 and 15 at one: no word is changed.
+    -- 4.11, 6.26 Refused by 10 to 13 before a step, or by 14 and 15 at one: no word is changed.
     pub refused : (r : Turn) (v : Refusal) → Walked p w t r → r.answer ≡ Err v
         → (r.memory ≡ w) × (r.sink_space ≡ t.sink_space)
 

@@ -31,7 +31,7 @@ tried work t = record {
 
 -- m the memory; work the work memory and sk the sink space at entry
 module _ (p m work rd sk : List ℕ) where
-  -- 4.26 Err before the turn is tried: work memory and sink space stay as they were.
+  -- 4.26 Refused before the turn is tried: work memory and sink space stay as they were.
   unfoldable pub preview_refused : Refusal → Preview
   preview_refused w = record { answer = Err w; work = work; sink_space = sk }
 

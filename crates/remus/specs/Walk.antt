@@ -107,10 +107,10 @@ pub record Input : Type 0 where
 
 -- 6.34 What the walk's turn from the words m comes to.
 pub data Walked (p m : List ℕ) (t : Input) : Turn → Type 0 where
-  -- 6.1 Err by 10 to 13, before any step.
+  -- 6.1 Refused by 10 to 13, before any step.
   refused : {w : Refusal} → asked_of p m t.readings t.sink_space ≡ Err w
       → Walked p m t (record { answer = Err w; memory = m; sink_space = t.sink_space })
-  -- 6.14, 6.26 Err by 15 or 14 at an allocation; no word has changed then.
+  -- 6.14, 6.26 Refused by 15 or 14 at an allocation; no word has changed then.
   stopped : {w : Refusal} (s : State) → asked_of p m t.readings t.sink_space ≡ Ok tt
       → Reach p t.readings (begun p m) s → step p t.readings s ≡ stop w
       → Walked p m t (record { answer = Err w; memory = m; sink_space = t.sink_space })
