@@ -1,52 +1,42 @@
--- What a D command makes, by its first two bytes.
+-- What a D command makes, by its bytes.
 -- Assumes nothing.
-use Rattle.std.specs.Prelude.{ℕ, ◌+◌, ◌*◌, ◌<◌, ◌≡◌, refl, List}
-use Rattle.std.proofs.Common.{sym, ⊎_elim, arith}
-use Rattle.value.proofs.Tests.{yes, no, eq!, eq×}
+use Rattle.std.specs.Prelude.{ℕ, ◌+◌, ◌*◌, ◌≡◌, refl, List}
+use Rattle.std.proofs.Common.{sym, ◌∙◌, ap}
 use Rattle.program.specs.Bytes.{byte, commands_at, command_at}
-use Rattle.program.specs.Command.{deployment, point, held, nought, made_by, decode, cmd_of, bytes_of, bytes_at}
+use Rattle.program.specs.Command.{Made, nought, made_by, decode, cmd_of, bytes_of, bytes_at}
+use Rattle.program.specs.Clauses.{byte_of, row_of}
 use Rattle.program.specs.declared.Command.{Command}
-use Rattle.program.proofs.Decode.{by_code}
-use Rattle.image.specs.Clauses.{made_of}
+use Rattle.program.specs.declared.commands.Code.{Code}
+use Rattle.program.specs.declared.commands.Code.TheVariants.{AllocMono, MakePoly, Constant, Global, Supply, React}
+use Rattle.program.specs.declared.commands.Code.TheVariants.{Consume, Sink, AllocPoly, Primitive, Cell, Fetch, Keep}
+use Rattle.program.proofs.Decode.{decoded}
 
-module _ (code x : ℕ) where
-  pub made_mono : code ≡ 1 → deployment x ≡ made_of code x
-  unfolding made_of
-  made_mono e = yes _ (eq! e) refl
+-- by its code
+pub made_there : (p : List ℕ) (at : ℕ) (k : Code) {m : Made} → byte_of k ≡ byte p at
+    → m ≡ made_by (row_of k (bytes_at p at)) → m ≡ made_by (decode (bytes_at p at))
+unfolding bytes_at
+made_there p at k e h = h ∙ sym (ap made_by (decoded (bytes_at p at) k e))
 
-  pub made_point : code ≡ 2 → point x ≡ made_of code x
-  unfolding made_of
-  made_point e = no _ (eq× (λ d. omega arith)) (yes _ (eq! e) refl)
-
-  pub made_cell : code ≡ 11 → held x ≡ made_of code x
-  unfolding made_of
-  made_cell e = no _ (eq× (λ d. omega arith)) (no _ (eq× (λ d. omega arith)) (yes _ (eq! e) refl))
-
-  pub made_other : (code ≡ 1 → ⊥) → (code ≡ 2 → ⊥) → (code ≡ 11 → ⊥) → nought ≡ made_of code x
-  unfolding made_of
-  made_other d e f = no _ (eq× d) (no _ (eq× e) (no _ (eq× f) refl))
-
-made_by_lem : (c : Command) → made_by (decode c) ≡ made_of c.code c.x
+-- all codes but three make nothing
+pub makes_none : (c : Command) (k : Code) → (k ≡ AllocMono → ⊥) → (k ≡ MakePoly → ⊥) → (k ≡ Cell → ⊥)
+    → nought ≡ made_by (row_of k c)
 unfolding made_by
-made_by_lem c =
-    by_code (λ k. made_by k ≡ made_of c.code c.x) c
-    (λ e. made_mono _ _ e) (λ e. made_point _ _ e) (λ e. between (omega arith) (omega arith))
-    (λ e. between (omega arith) (omega arith)) (λ e. between (omega arith) (omega arith))
-    (λ e. between (omega arith) (omega arith)) (λ e. between (omega arith) (omega arith))
-    (λ e. between (omega arith) (omega arith)) (λ e. between (omega arith) (omega arith))
-    (λ e. between (omega arith) (omega arith)) (λ e. made_cell _ _ e)
-    (λ e. after (omega arith)) (λ e. after (omega arith))
-    (λ n.
-    ⊎_elim (λ l. made_other _ _ (λ d. omega arith) (λ d. omega arith) (λ d. omega arith)) (λ l. after (omega arith)) n)
-  where
-    between : 2 < c.code → c.code < 11 → nought ≡ made_of c.code c.x
-    between h l = made_other _ _ (λ d. omega arith) (λ d. omega arith) (λ d. omega arith)
-
-    after : 11 < c.code → nought ≡ made_of c.code c.x
-    after h = made_other _ _ (λ d. omega arith) (λ d. omega arith) (λ d. omega arith)
+makes_none c AllocMono d e f = absurd (d refl)
+makes_none c MakePoly d e f = absurd (e refl)
+makes_none c Constant d e f = refl
+makes_none c Global d e f = refl
+makes_none c Supply d e f = refl
+makes_none c React d e f = refl
+makes_none c Consume d e f = refl
+makes_none c Sink d e f = refl
+makes_none c AllocPoly d e f = refl
+makes_none c Primitive d e f = refl
+makes_none c Cell d e f = absurd (f refl)
+makes_none c Fetch d e f = refl
+makes_none c Keep d e f = refl
 
 -- command j of a reactor whose commands begin at byte `at`
-pub made_at : (p : List ℕ) (r j at code x : ℕ) → at ≡ commands_at p r → code ≡ byte p (at + 8 * j)
-    → x ≡ byte p (at + 8 * j + 1) → made_of code x ≡ made_by (cmd_of p r j)
-unfolding cmd_of bytes_of bytes_at command_at
-made_at p r j at code x e f g = rw (f, g, e) (sym (made_by_lem (bytes_of p r j)))
+pub made_at : (p : List ℕ) (r j at : ℕ) → at ≡ commands_at p r
+    → made_by (decode (bytes_at p (at + 8 * j))) ≡ made_by (cmd_of p r j)
+unfolding cmd_of bytes_of command_at
+made_at p r j at e = rw e refl

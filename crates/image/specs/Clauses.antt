@@ -21,11 +21,7 @@ use Rattle.answer.specs.Answer.{Answer}
 unfoldable pub deploy_fits : List ℕ → List ℕ → ℕ → ℕ → List ℕ
 deploy_fits p m r old = pick (used m + size_of p r ≤? 4294967295) (deploy p m r old) m
 
--- what a D command of this code and x makes
-unfoldable pub made_of : ℕ → ℕ → Made
-made_of code x = pick (code =? 1) (deployment x) (pick (code =? 2) (point x) (pick (code =? 11) (held x) nought))
-
--- the same, of the enum that the code has
+-- what a D command makes, of the enum that the code has
 unfoldable pub made : Makes → Made
 made (Deployment x) = deployment x
 made (Point x) = point x

@@ -1,13 +1,14 @@
 // The D commands of a deployment: what each makes, and in which slot.
 ghost use Rattle.std.specs.Prelude.{◌+◌, ◌<◌, ◌≡◌};
 ghost use Rattle.program.specs.Bytes as B;
+ghost use Rattle.program.specs.Command as C;
 ghost use Rattle.image.specs.Memory as M;
-ghost use Rattle.image.specs.Clauses.{made, made_of, SlotOf, Positions};
+ghost use Rattle.image.specs.Clauses.{made, SlotOf, Positions};
 
 use crate::tiled::Tiled;
 use crate::words::{reactor, word};
 use crate::{DSlot, Makes};
-use program::{Command, byte, commands_in, reactors, source_count, tables_end};
+use program::{Code, byte, commands_in, reactors, source_count, tables_end};
 
 // Fills in the byte at which each reactor's commands begin: a table that is returned is copied twice.
 pub(crate) fn fill_positions(program: &[u8], places: &mut [u32; 256])
@@ -21,16 +22,19 @@ pub(crate) fn fill_positions(program: &[u8], places: &mut [u32; 256])
 }
 
 // What the D command at byte `at` makes.
-pub(crate) fn makes_at(program: &[u8], at: usize) -> Makes
+pub fn makes_at(program: &[u8], at: usize) -> Makes
     requires { at < 18446744073709551615 }
     ensures { let p = program.now in
-        made result ≡ made_of (B.byte p at) (B.byte p (at + 1)) }
+        made result ≡ C.made_by (C.decode (C.bytes_at p at)) }
 {
     let x = byte(program, at + 1);
-    match byte(program, at) {
-        Command::ALLOC_MONO => Makes::Deployment(x),
-        Command::MAKE_POLY => Makes::Point(x),
-        Command::CELL => Makes::Cell(x),
+    let Ok(code) = Code::try_from(byte(program, at)) else {
+        return Makes::Nothing;
+    };
+    match code {
+        Code::AllocMono => Makes::Deployment(x),
+        Code::MakePoly => Makes::Point(x),
+        Code::Cell => Makes::Cell(x),
         _ => Makes::Nothing,
     }
 }

@@ -21,6 +21,7 @@ mod words;
 mod zero;
 
 pub use calls::{start, words_legal};
+pub use commands::makes_at;
 pub use deployment::{content, deploy, mark, size_at, slot, value_at};
 pub use soundness::sound;
 pub use sweep::sound_by;

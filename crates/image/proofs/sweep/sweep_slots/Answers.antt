@@ -37,7 +37,7 @@ loop-j-preserved c = let p = c.args.program.now in
     let D = c.commands_d-j-end.ensures p r told in
     let first = c.slots_d.ensures.is p r told in
     let at = c.at.ensures.is p r told in
-    let made = c.makes_at-makes.ensures ∙ made_at p r j _ _ _ at refl refl in
+    let made = c.makes_at-makes.ensures ∙ made_at p r j _ at in
     let one = c.sweep_slot.ensures (command_loc p r j)
     (slot_in_row p m c.args.o j _ _ (omega arith) first refl) (passed refl (ap not c.if-not-sweep_slot.false)) in (
       cc,

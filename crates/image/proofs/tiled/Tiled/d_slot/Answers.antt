@@ -2,7 +2,7 @@ use Rattle.image.proofs.MadeByBytes.{made_at}
 use Rattle.image.specs.Memory.{reactor, word}
 use Rattle.program.specs.Bytes.{commands_at}
 use Rattle.program.specs.Location.{command_loc, source_count}
-use Rattle.std.specs.Prelude.{ℕ, ◌≡◌, refl, get_or}
+use Rattle.std.specs.Prelude.{ℕ, ◌≡◌, get_or}
 use Rattle.std.proofs.Common.{◌∙◌, ap, arith}
 use Rattle.image.proofs.tiled.Tiled.d_slot.Goals as goal
 
@@ -16,5 +16,5 @@ returns c = let t = c.args.self.now in
     c.word.ensures ∙ ap (λ (r : ℕ). get_or t.places.now r 0) c.reactor-r.ensures ∙ t.positions r c.requires in
     record {
       located = omega arith;
-      makes = c.makes_at.ensures ∙ made_at p r c.args.j _ _ _ at refl refl;
+      makes = c.makes_at.ensures ∙ made_at p r c.args.j _ at;
     }
