@@ -6,7 +6,6 @@ pub mod Answers
 pub mod Room
 pub mod Never
 pub mod Enough
-pub mod Commands
 pub mod Cells
 pub mod Joining
 pub mod Capping

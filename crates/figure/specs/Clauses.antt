@@ -1,8 +1,10 @@
--- What the contracts of the code speak of beside the definitions: a table with a row for each reactor, and numbers
--- that are counted no further than the most words of a memory.
-use Rattle.std.specs.Prelude.{ℕ, ◌+◌, ◌<◌, ◌≡◌, Bool, List, length, get_or}
+-- What the contracts of the code speak of beside the definitions: a table with a row for each reactor, the lowest that
+-- is circular if there is one, and numbers that are counted no further than the most words of a memory.
+use Rattle.std.specs.Prelude.{ℕ, ◌+◌, ◌<◌, ◌≡◌, Bool, List, length, get_or, Option, MatchOption}
 use Rattle.value.specs.Test.{pick, ◌<?◌, ◌and◌, ◌or◌}
-use Rattle.figure.specs.Steps.{found}
+use Rattle.program.specs.Bytes.{reactors}
+use Rattle.figure.specs.Steps.{found, reached}
+use Rattle.figure.specs.Figure.{lowest_circular}
 use Rattle.image.specs.Memory.{most_words}
 
 -- ---- a table t with a row for each of n reactors
@@ -15,6 +17,12 @@ pub record Table (t : List (List Bool)) (n : ℕ) (f : ℕ → ℕ → Bool) : T
 -- by f, and by two ways of f that meet at k
 abbrev pub through_at : ℕ → (ℕ → ℕ → Bool) → ℕ → ℕ → Bool
 through_at k f r q = f r q or (f r k and f k q)
+
+-- r is the lowest reactor that is needed and reaches itself, if there is one
+abbrev pub Lowest : List ℕ → Option ℕ → Type 0
+Lowest p r =
+    let q = lowest_circular p (reached p) in
+    MatchOption r (q ≡ reactors p) (λ k. (q ≡ k) × (k < reactors p))
 
 -- ---- numbers up to one more than the most words
 

@@ -3,11 +3,12 @@
 ghost use Rattle.std.specs.Prelude.{ℕ, ◌+◌, ◌≡◌, List};
 ghost use Rattle.program.specs.Bytes as B;
 ghost use Rattle.program.specs.Clauses.{Facts, Tells};
-ghost use Rattle.image.specs.Clauses.{made_of};
+ghost use Rattle.image.specs.Clauses.{made};
 ghost use Rattle.figure.specs.Bound as D;
 ghost use Rattle.figure.specs.Clauses.{capped, Capped, up_to};
 
-use program::{Command, Counts, byte, fact, shape_of};
+use image::{Makes, makes_at};
+use program::{Counts, fact, shape_of};
 
 // One more than the most words of a memory.
 const BEYOND: u16 = 16385;
@@ -33,16 +34,17 @@ fn shape_sums(program: &[u8], bounds: &[u16; 256], n: u8) -> [u16; 256]
     sums
 }
 
-// What a D command that begins with these bytes adds.
-fn share(code: u8, x: u8, bounds: &[u16; 256], sums: &[u16; 256]) -> u16
+// What a D command adds that makes this.
+fn share(makes: Makes, bounds: &[u16; 256], sums: &[u16; 256]) -> u16
     ensures { let t = bounds.now in let s = sums.now in
         ((p : List ℕ) (b : ℕ → ℕ) → Capped t b → Capped s (D.shape_sum p b)
-        → result ≡ capped (D.share p b (made_of code x))) }
+        → result ≡ capped (D.share p b (made makes))) }
 {
-    match code {
-        Command::ALLOC_MONO => bounds[x as usize],
-        Command::MAKE_POLY => sums[x as usize],
-        _ => 0,
+    match makes {
+        Makes::Deployment(r) => bounds[r as usize],
+        Makes::Point(s) => sums[s as usize],
+        Makes::Cell(_) => 0,
+        Makes::Nothing => 0,
     }
 }
 
@@ -56,9 +58,8 @@ fn bound_by(program: &[u8], k: Counts, bounds: &[u16; 256], sums: &[u16; 256]) -
     let n = k.commands_d();
     let mut sum = k.size() as u16;
     for j in 0..n {
-        let i = at + 8 * j as usize;
-        let more = share(byte(program, i), byte(program, i + 1), bounds, sums);
-        sum = add(sum, more);
+        let makes = makes_at(program, at + 8 * j as usize);
+        sum = add(sum, share(makes, bounds, sums));
     }
     sum
 }

@@ -2,8 +2,8 @@
 ghost use Rattle.std.specs.Prelude.{◌<◌, ◌≡◌};
 ghost use Rattle.program.specs.Bytes as B;
 ghost use Rattle.program.specs.Clauses.{Facts};
-ghost use Rattle.figure.specs.Steps.{reached};
 ghost use Rattle.figure.specs.Figure as F;
+ghost use Rattle.figure.specs.Clauses.{Lowest};
 
 use crate::bound::bounds;
 use crate::reach::{close, lowest};
@@ -13,13 +13,12 @@ use image::{MAIN_AT, MOST_WORDS};
 use load::judge;
 use program::{main_of, reactors};
 
-// The lowest reactor that main needs and that reaches itself; the count of reactors if there is none.
-fn lowest_circular(program: &[u8], facts: &[u64; 64], n: u8) -> u8
+// The lowest reactor that main needs and that reaches itself.
+fn lowest_circular(program: &[u8], facts: &[u64; 64], n: u8) -> Option<u8>
     requires count { n ≡ B.reactors program.now }
     requires some { 0 < n }
     requires facts { Facts program.now facts.now }
-    ensures { let p = program.now in
-        result ≡ F.lowest_circular p (reached p) }
+    ensures { Lowest program.now result }
 {
     let mut table = [[false; 64]; 64];
     fill_steps(program, facts, &mut table, n);
@@ -34,8 +33,7 @@ fn figured(program: &[u8], facts: &[u64; 64]) -> Answer
     ensures { result ≡ F.figured program.now }
 {
     let n = reactors(program);
-    let q = lowest_circular(program, facts, n);
-    if q < n {
+    if let Some(q) = lowest_circular(program, facts, n) {
         return Err(Refusal::Circular(q as usize));
     }
     let bound = bounds(program, facts, n);

@@ -4,8 +4,7 @@ ghost use Rattle.std.specs.Prelude.{ℕ, ◌≤◌, ◌<◌, ◌≡◌, Bool, fa
 ghost use Rattle.value.specs.Test.{◌or◌};
 ghost use Rattle.program.specs.Bytes as B;
 ghost use Rattle.figure.specs.Steps as N;
-ghost use Rattle.figure.specs.Figure.{lowest_circular};
-ghost use Rattle.figure.specs.Clauses.{Table, through_at};
+ghost use Rattle.figure.specs.Clauses.{Table, Lowest, through_at};
 
 // A row takes over what another has.
 fn join_row(to: &mut [bool; 64], from: &[bool; 64])
@@ -53,16 +52,16 @@ fn circular(table: &[[bool; 64]; 64], main: u8, n: u8, r: u8) -> bool
     from_main & table[r as usize][r as usize]
 }
 
-// The lowest such reactor; n if there is none.
-pub(crate) fn lowest(table: &[[bool; 64]; 64], main: u8, n: u8) -> u8
+// The lowest such reactor.
+pub(crate) fn lowest(table: &[[bool; 64]; 64], main: u8, n: u8) -> Option<u8>
     requires { (main < n) × (n ≤ 64) }
     ensures { (p : List ℕ) → n ≡ B.reactors p → main ≡ B.main_of p → Table table.now n (N.found (N.reached p))
-        → result ≡ lowest_circular p (N.reached p) }
+        → Lowest p result }
 {
     for r in 0..n {
         if circular(table, main, n, r) {
-            return r;
+            return Some(r);
         }
     }
-    n
+    None
 }

@@ -2,20 +2,22 @@
 ghost use Rattle.std.specs.Prelude.{ℕ, ◌≤◌, ◌<◌, ◌≡◌, false, length, get_or};
 ghost use Rattle.program.specs.Bytes as B;
 ghost use Rattle.program.specs.Clauses.{Facts, Tells};
-ghost use Rattle.image.specs.Clauses.{made_of};
+ghost use Rattle.image.specs.Clauses.{made};
 ghost use Rattle.figure.specs.Steps as N;
 ghost use Rattle.figure.specs.Clauses.{Table};
 
-use program::{Command, Counts, byte, fact, shape_of};
+use image::{Makes, makes_at};
+use program::{Counts, fact, shape_of};
 
-// Whether a D command that begins with these bytes may come to deploy q.
-fn goes_to(program: &[u8], code: u8, x: u8, q: u8) -> bool
-    ensures { result ≡ N.goes_to program.now q (made_of code x) }
+// Whether a D command that makes this may come to deploy q.
+fn goes_to(program: &[u8], makes: Makes, q: u8) -> bool
+    ensures { result ≡ N.goes_to program.now q (made makes) }
 {
-    match code {
-        Command::ALLOC_MONO => x == q,
-        Command::MAKE_POLY => shape_of(program, q as u32) == x,
-        _ => false,
+    match makes {
+        Makes::Deployment(r) => r == q,
+        Makes::Point(s) => shape_of(program, q as u32) == s,
+        Makes::Cell(_) => false,
+        Makes::Nothing => false,
     }
 }
 
@@ -28,8 +30,7 @@ fn leads(program: &[u8], k: Counts, q: u8) -> bool
     let n = k.commands_d();
     let mut some = false;
     for j in 0..n {
-        let i = at + 8 * j as usize;
-        some |= goes_to(program, byte(program, i), byte(program, i + 1), q);
+        some |= goes_to(program, makes_at(program, at + 8 * j as usize), q);
     }
     some
 }

@@ -1,7 +1,7 @@
 use Rattle.std.specs.Prelude.{ℕ, ◌+◌, ◌*◌, ◌≡◌, List}
 use Rattle.std.proofs.Common.{◌∙◌, ap, ap₂, arith}
-use Rattle.program.specs.Bytes.{byte, commands_d, commands_at}
-use Rattle.image.specs.Clauses.{made_of}
+use Rattle.program.specs.Bytes.{commands_d, commands_at}
+use Rattle.program.specs.Command.{Made, made_by, decode, bytes_at}
 use Rattle.image.proofs.MadeByBytes.{made_at}
 use Rattle.figure.specs.Bound.{sum_below, share, bound_by}
 use Rattle.figure.specs.Clauses.{capped}
@@ -16,17 +16,17 @@ loop-j-init c = let small = c.size-sum.ensures.small in
     λ r b e t s. capped_low (omega arith) ∙ ap capped (omega arith)
 
 -- one command more
-one_more : (p : List ℕ) (b : ℕ → ℕ) (r at j code x first m n : ℕ) → at ≡ commands_at p r → code ≡ byte p (at + 8 * j)
-    → x ≡ byte p (at + 8 * j + 1) → m ≡ capped (first + sum_below (adds p b r) j)
-    → n ≡ capped (share p b (made_of code x)) → capped (m + n) ≡ capped (first + sum_below (adds p b r) (j + 1))
-one_more p b r at j code x first m n e f g h k =
-    capped_add _ _ h (k ∙ ap (λ y. capped (share p b y)) (made_at p r j at code x e f g))
+one_more : (p : List ℕ) (b : ℕ → ℕ) (r at j first m n : ℕ) (d : Made) → at ≡ commands_at p r
+    → d ≡ made_by (decode (bytes_at p (at + 8 * j))) → m ≡ capped (first + sum_below (adds p b r) j)
+    → n ≡ capped (share p b d) → capped (m + n) ≡ capped (first + sum_below (adds p b r) (j + 1))
+one_more p b r at j first m n d e f h k =
+    capped_add _ _ h (k ∙ ap (λ y. capped (share p b y)) (f ∙ made_at p r j at e))
     ∙ ap capped (omega (arith, sum_next (adds p b r) j))
 
 pub loop-j-preserved : goal.loop-j-preserved
 loop-j-preserved c = λ r b e t s.
-    c.add-sum.ensures ∙ one_more _ b r _ _ _ _ _ _ _ e c.byte.ensures
-    c.byte-in-loop-j.ensures (c.loop-j.invariant r b e t s) (c.share-more.ensures _ b t s)
+    c.add-sum.ensures ∙ one_more _ b r _ _ _ _ _ _ e c.makes_at-makes.ensures
+    (c.loop-j.invariant r b e t s) (c.share.ensures _ b t s)
 
 pub returns : goal.returns
 unfolding bound_by

@@ -1,32 +1,29 @@
-use Rattle.std.specs.Prelude.{ℕ, ◌+◌, ◌≤◌, ◌<◌, ◌≡◌, refl, not, List, get_or, Ok, Err}
-use Rattle.std.proofs.Common.{◌∙◌, ap, arith}
+use Rattle.std.specs.Prelude.{ℕ, ◌+◌, ◌≤◌, ◌<◌, ◌≡◌, refl, List, get_or, Option, None, Some, Ok, Err}
+use Rattle.std.proofs.Common.{sym, ◌∙◌, ap, arith}
 use Rattle.value.proofs.Tests.{eq!, eq×, le!, le×, goes, stops}
-use Rattle.value.proofs.Sweeps.{swept}
 use Rattle.program.specs.Bytes.{reactors, main_of}
 use Rattle.answer.specs.declared.Refusal.TheVariants.{Circular, FigureTooLarge}
 use Rattle.image.specs.Memory.{most_words, main_at}
-use Rattle.figure.specs.Steps.{reached, circular}
+use Rattle.figure.specs.Steps.{reached}
 use Rattle.figure.specs.Bound.{bound_of}
 use Rattle.figure.specs.Figure.{lowest_circular, words_needed, figured}
-use Rattle.figure.specs.Clauses.{capped, Capped}
+use Rattle.figure.specs.Clauses.{capped, Capped, Lowest}
 use Rattle.figure.proofs.Capping.{capped_is, capped_least, capped-most}
 use Rattle.figure.proofs.calls.figured.Goals as goal
 
-pub returns-then-q-n : goal.returns-then-q-n
+pub returns-in-Some : goal.returns-in-Some
 unfolding figured
-returns-then-q-n c = let q = c.lowest_circular-q.ensures in
-    let n = c.reactors-n.ensures in
-    stops _ (eq× (λ e. omega arith)) (ap (λ r. Err (Circular r)) q)
+returns-in-Some c = let found = c.in-Some.ensures in
+    stops _ (eq× (λ e. omega (arith, found))) (ap (λ r. Err (Circular r)) (sym found.0))
+
+none_on : (p : List ℕ) (r : Option ℕ) → Lowest p r → ((q : ℕ) → r ≡ Some q → ⊥)
+    → lowest_circular p (reached p) ≡ reactors p
+none_on p None h n = h
+none_on p (Some q) h n = absurd (n q refl)
 
 -- where no reactor is circular: t are the bounds, cut, and m is main
-module _ (p t : List ℕ) {q n m : ℕ} (found : q ≡ lowest_circular p (reached p)) (count : n ≡ reactors p) (none : n ≤ q)
+module _ (p t : List ℕ) {m : ℕ} (straight : lowest_circular p (reached p) ≡ reactors p)
     (bounds : Capped t (bound_of p)) (low : m < 256) (main : m ≡ main_of p) where
-  straight : lowest_circular p (reached p) ≡ reactors p
-  unfolding lowest_circular
-  straight =
-      let within = (swept (λ r. not (circular p (reached p) r)) 0 (reactors p)).to in
-      omega (arith, within, found, count)
-
   bound : get_or t m 0 ≡ capped (bound_of p (main_of p))
   bound = bounds m low ∙ ap (λ r. capped (bound_of p r)) main
 
@@ -41,17 +38,17 @@ module _ (p t : List ℕ) {q n m : ℕ} (found : q ≡ lowest_circular p (reache
   too_large h = goes _ _ (eq! straight) (stops _ (le× (omega (arith, h, capped_least bound))) refl)
 
 pub returns-then-words-le-MOST_WORDS : goal.returns-then-words-le-MOST_WORDS
-returns-then-words-le-MOST_WORDS c = given _ c.bounds-bound.result c.lowest_circular-q.ensures
-    c.reactors-n.ensures (omega arith) c.bounds-bound.ensures
+returns-then-words-le-MOST_WORDS c = given _ c.bounds-bound.result
+    (none_on _ _ c.lowest_circular.ensures c.in_default.not-Some) c.bounds-bound.ensures
     (omega arith) c.main_of.ensures (omega arith)
 
 pub returns-else-words-le-MOST_WORDS : goal.returns-else-words-le-MOST_WORDS
-returns-else-words-le-MOST_WORDS c = too_large _ c.bounds-bound.result c.lowest_circular-q.ensures
-    c.reactors-n.ensures (omega arith) c.bounds-bound.ensures
+returns-else-words-le-MOST_WORDS c = too_large _ c.bounds-bound.result
+    (none_on _ _ c.lowest_circular.ensures c.in_default.not-Some) c.bounds-bound.ensures
     (omega arith) c.main_of.ensures (omega arith)
 
-pub lowest_circular-q-requires : goal.lowest_circular-q-requires
-lowest_circular-q-requires c = let start = c.requires in
+pub lowest_circular-requires : goal.lowest_circular-requires
+lowest_circular-requires c = let start = c.requires in
     let count = c.reactors-n.ensures in
     record { count = count; some = omega (arith, count, start.some); facts = start.facts }
 

@@ -13,8 +13,8 @@ loop-r-init c = λ p e f t. ap (sweep (straight p) 0) (omega arith)
 pub returns-then-circular : goal.returns-then-circular
 returns-then-circular c = λ p e f t.
     let on = c.circular.ensures p f t in
-    sweep_found (straight p) _ _ (omega arith) (ap not (sym on ∙ c.if-circular.true))
-    ∙ c.loop-r.invariant p e f t
+    let here = sweep_found (straight p) _ _ (omega arith) (ap not (sym on ∙ c.if-circular.true)) in
+    (sym (here ∙ c.loop-r.invariant p e f t), omega arith)
 
 pub loop-r-preserved : goal.loop-r-preserved
 loop-r-preserved c = λ p e f t.
@@ -25,4 +25,4 @@ loop-r-preserved c = λ p e f t.
 pub returns : goal.returns
 returns c = λ p e f t.
     let all : c.args.n ≡ c.loop-r.r = omega arith in
-    all ∙ sweep_done (straight p) _ _ (omega arith) ∙ c.loop-r.invariant p e f t
+    sym (sym e ∙ all ∙ sweep_done (straight p) _ _ (omega arith) ∙ c.loop-r.invariant p e f t)
