@@ -8,7 +8,7 @@ ghost use Rattle.haai.specs.Clauses.{is_part, most, capped, magnitude_of, number
 use crate::{Class, Sign, Taken};
 use program::byte;
 
-// A number's digits are counted up to here: no signed 32-bit number has more.
+// A number is counted up to here, one more than any magnitude of 32 bits.
 const MOST: u64 = 2147483649;
 
 fn is_space(c: u8) -> bool
