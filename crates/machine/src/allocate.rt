@@ -13,6 +13,7 @@ ghost use Rattle.remus.specs.Exec as X;
 ghost use Rattle.machine.specs.Clauses.{did, acted, Acts, Declares, Here, Stands};
 
 use crate::Outcome;
+use crate::accepted::Accepted;
 use crate::command::give;
 use answer::Refusal;
 use image::{MOST_DEPTH, next, pair_within, put_pair, reactor, set_used, used, word};
@@ -152,61 +153,61 @@ fn make(
     Ok(branch(memory, here, q, b, size))
 }
 
-// The deployment of reactor q on the branch point at b, made if missing.
-fn choose(
-    program: &[u8],
-    facts: &[u64; 64],
-    memory: &mut [u32],
-    h: u8,
-    here: usize,
-    q: u32,
-    b: usize,
-) -> Result<Outcome, Refusal>
-    requires here_in_bounds { here + 1 < length memory.old }
-    requires b_le_here { b ≤ here }
-    requires memory_len_bound { length memory.old ≤ M.most_words }
-    ensures { let p = program.now in let m = memory.old in
-        ((rd : List ℕ) (o i j k : ℕ) → Facts p facts.now → q < B.reactors p
-        → Stands m o → b ≡ M.slot p m o k → Here p m o i here
-        → did result memory.new ≡ acted m (C.alloc_poly j k) (X.operated p rd h m o i false q k)) }
-{
-    let newest = word(memory, b + 1);
-    match find(program, memory, q, newest) {
-        None => make(facts, memory, h, here, q, b),
-        Some(d) => Ok(give(
-            memory,
-            here,
-            Value {
-                mark: Value::DEPLOYMENT,
-                content: d,
-            },
-        )),
+impl Accepted<'_> {
+    // The deployment of reactor q on the branch point at b, made if missing.
+    fn choose(
+        &self,
+        memory: &mut [u32],
+        h: u8,
+        here: usize,
+        q: u32,
+        b: usize,
+    ) -> Result<Outcome, Refusal>
+        requires here_in_bounds { here + 1 < length memory.old }
+        requires b_le_here { b ≤ here }
+        requires memory_len_bound { length memory.old ≤ M.most_words }
+        ensures { let p = self.now.program.now in let m = memory.old in
+            ((rd : List ℕ) (o i j k : ℕ) → q < B.reactors p
+            → Stands m o → b ≡ M.slot p m o k → Here p m o i here
+            → did result memory.new ≡ acted m (C.alloc_poly j k) (X.operated p rd h m o i false q k)) }
+    {
+        let newest = word(memory, b + 1);
+        match find(self.program, memory, q, newest) {
+            None => make(self.facts, memory, h, here, q, b),
+            Some(d) => Ok(give(
+                memory,
+                here,
+                Value {
+                    mark: Value::DEPLOYMENT,
+                    content: d,
+                },
+            )),
+        }
     }
-}
 
-// 9 AllocPoly: the deployment of the operator's reactor, at a, on the branch point at b; blank for a
-// blank operator.
-pub(crate) fn alloc_poly(
-    program: &[u8],
-    facts: &[u64; 64],
-    memory: &mut [u32],
-    h: u8,
-    here: usize,
-    a: usize,
-    b: usize,
-) -> Result<Outcome, Refusal>
-    requires here_in_bounds { here + 1 < length memory.old }
-    requires a_le_here { (a ≤ here) × (b ≤ here) }
-    requires memory_len_bound { length memory.old ≤ M.most_words }
-    ensures { let p = program.now in let m = memory.old in
-        ((o i j k : ℕ) → Facts p facts.now → Stands m o
-        → a ≡ M.slot p m o j → b ≡ M.slot p m o k → Here p m o i here
-        → (W.is_blank (M.value_at p m o j) ≡ false → M.content p m o j < B.reactors p)
-        → Acts p h m o i (C.alloc_poly j k) result memory.new) }
-{
-    let q = pair_within(memory, a);
-    if q.mark == Value::BLANK {
-        return Ok(give(memory, here, Value::blank()));
+    // 9 AllocPoly: the deployment of the operator's reactor, at a, on the branch point at b; blank for a
+    // blank operator.
+    pub(crate) fn alloc_poly(
+        &self,
+        memory: &mut [u32],
+        h: u8,
+        here: usize,
+        a: usize,
+        b: usize,
+    ) -> Result<Outcome, Refusal>
+        requires here_in_bounds { here + 1 < length memory.old }
+        requires a_le_here { (a ≤ here) × (b ≤ here) }
+        requires memory_len_bound { length memory.old ≤ M.most_words }
+        ensures { let p = self.now.program.now in let m = memory.old in
+            ((o i j k : ℕ) → Stands m o
+            → a ≡ M.slot p m o j → b ≡ M.slot p m o k → Here p m o i here
+            → (W.is_blank (M.value_at p m o j) ≡ false → M.content p m o j < B.reactors p)
+            → Acts p h m o i (C.alloc_poly j k) result memory.new) }
+    {
+        let q = pair_within(memory, a);
+        if q.mark == Value::BLANK {
+            return Ok(give(memory, here, Value::blank()));
+        }
+        self.choose(memory, h, here, q.content, b)
     }
-    choose(program, facts, memory, h, here, q.content, b)
 }

@@ -6,8 +6,8 @@ ghost use Rattle.program.specs.Command as C;
 ghost use Rattle.program.specs.declared.Command.{Command};
 ghost use Rattle.image.specs.Memory as M;
 ghost use Rattle.remus.specs.Undo as U;
-ghost use Rattle.machine.specs.Clauses.{Loaded};
 
+use crate::accepted::Accepted;
 use crate::clear::Clear;
 use crate::passes::Change;
 use image::{counts_at, next, put_pair, word};
@@ -58,18 +58,20 @@ fn slot_back(program: &[u8], memory: &mut [u32], u: u32, code: u8, i: usize)
     }
 }
 
-// All D slots of o, which stand in a row.
-fn slots_back(program: &[u8], facts: &[u64; 64], memory: &mut [u32], u: u32, o: u32)
-    requires loaded { Loaded program.now facts.now }
-    requires o_bound { M.reactor memory.old o < B.reactors program.now }
-    ensures { let p = program.now in let m = memory.old in
-        memory.new ≡ U.slots_back p u (B.commands_d p (M.reactor m o)) 0 m o }
-{
-    let counts = counts_at(facts, memory, o);
-    let at = counts.at() as usize;
-    let first = o as usize + counts.slots_d() as usize;
-    for j in 0..counts.commands_d() as usize {
-        slot_back(program, memory, u, byte(program, at + 8 * j), first + 2 * j);
+impl Accepted<'_> {
+    // All D slots of o, which stand in a row.
+    fn slots_back(&self, memory: &mut [u32], u: u32, o: u32)
+        requires o_bound { M.reactor memory.old o < B.reactors self.now.program.now }
+        ensures { let p = self.now.program.now in let m = memory.old in
+            memory.new ≡ U.slots_back p u (B.commands_d p (M.reactor m o)) 0 m o }
+    {
+        let counts = counts_at(self.facts, memory, o);
+        let at = counts.at() as usize;
+        let first = o as usize + counts.slots_d() as usize;
+        for j in 0..counts.commands_d() as usize {
+            let code = byte(self.program, at + 8 * j);
+            slot_back(self.program, memory, u, code, first + 2 * j);
+        }
     }
 }
 
@@ -84,8 +86,8 @@ impl Change for Back {
 
     ghost makes = { λ self p m o. U.one_back p self.u m o };
 
-    fn change(&self, program: &[u8], facts: &[u64; 64], memory: &mut [u32], o: u32) {
-        slots_back(program, facts, memory, self.u, o);
-        Clear.change(program, facts, memory, o)
+    fn change(&self, accepted: &Accepted, memory: &mut [u32], o: u32) {
+        accepted.slots_back(memory, self.u, o);
+        Clear.change(accepted, memory, o)
     }
 }

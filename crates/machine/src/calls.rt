@@ -14,66 +14,59 @@ ghost use Rattle.remus.specs.Steady.{Steady};
 ghost use Rattle.remus.specs.Undo as U;
 ghost use Rattle.remus.specs.Turn as T;
 ghost use Rattle.remus.specs.Preview.{preview_by, preview_of};
-ghost use Rattle.machine.specs.Clauses.{turned, previewed, ready_of, Ending, Safe, Sure, Loaded, TimeFits};
+ghost use Rattle.machine.specs.Clauses.{turned, previewed, ready_of, Ending, Safe, Sure, TimeFits};
 
+use crate::accepted::Accepted;
 use crate::asked::asked;
-use crate::finish::{finish, write_sinks};
 use crate::places::Slots;
-use crate::run::run;
-use crate::undo::undo;
 use answer::{Answer, Refusal};
 use image::{MAIN_AT, sound_by, used, words_legal};
 use load::judge;
 
-// Main has run to its end.
-fn complete(program: &[u8], facts: &[u64; 64], memory: &mut [u32], space: &mut [u32]) -> Answer
-    requires loaded { Loaded program.now facts.now }
-    requires ending { Ending program.now memory.old }
-    requires time_fits { TimeFits memory.old }
-    requires program_in_bounds { 2 * L.sink_count program.now (B.main_of program.now) ≤ length space.old }
-    ensures { let p = program.now in let m = memory.old in let sk = space.old in
-        turned result memory.new space.new
-        ≡ turned (Ok (M.used m)) (E.finished p m) (E.sunk p m sk) }
-{
-    let u = used(memory);
-    write_sinks(program, facts, memory, space);
-    finish(program, facts, memory);
-    Ok(u as usize)
-}
+impl Accepted<'_> {
+    // Main has run to its end.
+    fn complete(&self, memory: &mut [u32], space: &mut [u32]) -> Answer
+        requires ending { Ending self.now.program.now memory.old }
+        requires time_fits { TimeFits memory.old }
+        requires program_in_bounds { let p = self.now.program.now in
+            2 * L.sink_count p (B.main_of p) ≤ length space.old }
+        ensures { let p = self.now.program.now in let m = memory.old in let sk = space.old in
+            turned result memory.new space.new
+            ≡ turned (Ok (M.used m)) (E.finished p m) (E.sunk p m sk) }
+    {
+        let u = used(memory);
+        self.write_sinks(memory, space);
+        self.finish(memory);
+        Ok(u as usize)
+    }
 
-// Main's run was refused; u is that of before.
-fn give_back(program: &[u8], facts: &[u64; 64], memory: &mut [u32], u: u32, w: Refusal) -> Answer
-    requires loaded { Loaded program.now facts.now }
-    requires tiling { Tiling program.now memory.old u M.main_at }
-    ensures is { result ≡ Err w }
-    ensures words { memory.new ≡ U.undo_of program.now u memory.old }
-{
-    undo(program, facts, memory, u);
-    Err(w)
-}
+    // Main's run was refused; u is that of before.
+    fn give_back(&self, memory: &mut [u32], u: u32, w: Refusal) -> Answer
+        requires tiling { Tiling self.now.program.now memory.old u M.main_at }
+        ensures is { result ≡ Err w }
+        ensures words { memory.new ≡ U.undo_of self.now.program.now u memory.old }
+    {
+        self.undo(memory, u);
+        Err(w)
+    }
 
-// Runs main, from depth 1.
-fn run_main(
-    program: &[u8],
-    facts: &[u64; 64],
-    memory: &mut [u32],
-    readings: &[u32],
-    space: &mut [u32],
-) -> Answer
-    requires loaded { Loaded program.now facts.now }
-    requires safe { Safe program.now readings.now memory.old }
-    requires steady { Steady program.now readings.now M.most_depth 1 memory.old M.main_at }
-    requires memory_bound { M.turns memory.old < M.most_turns }
-    requires program_in_bounds { 2 * L.sink_count program.now (B.main_of program.now) ≤ length space.old }
-    ensures { let p = program.now in let m = memory.old in let rd = readings.now in
-        let sk = space.old in
-        turned result memory.new space.new ≡ T.by_run p m rd sk (R.main_run p rd m) }
-{
-    let u = used(memory);
-    let mut slots = Slots::new();
-    match run(program, facts, readings, memory, &mut slots, 1, MAIN_AT) {
-        Ok(()) => complete(program, facts, memory, space),
-        Err(w) => give_back(program, facts, memory, u, w),
+    // Runs main, from depth 1.
+    fn run_main(&self, memory: &mut [u32], readings: &[u32], space: &mut [u32]) -> Answer
+        requires safe { Safe self.now.program.now readings.now memory.old }
+        requires steady { Steady self.now.program.now readings.now M.most_depth 1 memory.old M.main_at }
+        requires memory_bound { M.turns memory.old < M.most_turns }
+        requires program_in_bounds { let p = self.now.program.now in
+            2 * L.sink_count p (B.main_of p) ≤ length space.old }
+        ensures { let p = self.now.program.now in let m = memory.old in let rd = readings.now in
+            let sk = space.old in
+            turned result memory.new space.new ≡ T.by_run p m rd sk (R.main_run p rd m) }
+    {
+        let u = used(memory);
+        let mut slots = Slots::new();
+        match self.run(readings, memory, &mut slots, 1, MAIN_AT) {
+            Ok(()) => self.complete(memory, space),
+            Err(w) => self.give_back(memory, u, w),
+        }
     }
 }
 
@@ -112,7 +105,7 @@ fn turn_accepted(
         return Err(Refusal::MemoryLength(n));
     }
     ready(program, facts, memory, readings, space)?;
-    run_main(program, facts, memory, readings, space)
+    Accepted { program, facts }.run_main(memory, readings, space)
 }
 
 // A turn on any bytes and words: done, with u, or refused; then memory and sink space are as at entry.
@@ -151,7 +144,7 @@ fn preview_accepted(
     }
     ready(program, facts, memory, readings, space)?;
     work.copy_from_slice(memory);
-    run_main(program, facts, work, readings, space)
+    Accepted { program, facts }.run_main(work, readings, space)
 }
 
 // 4.23 A preview on any bytes and words: the turn's answer and sinks, and in the work memory what the turn would leave.

@@ -4,8 +4,8 @@ ghost use Rattle.program.specs.Bytes as B;
 ghost use Rattle.program.specs.Location as L;
 ghost use Rattle.image.specs.Memory as M;
 ghost use Rattle.remus.specs.Clear as E;
-ghost use Rattle.machine.specs.Clauses.{Loaded};
 
+use crate::accepted::Accepted;
 use crate::passes::Change;
 use image::{SLOTS_AT, counts_at, wipe};
 
@@ -29,8 +29,8 @@ impl Change for Clear {
 
     ghost makes = { λ self p m o. E.clear_one p m o };
 
-    fn change(&self, _program: &[u8], facts: &[u64; 64], memory: &mut [u32], o: u32) {
-        let counts = counts_at(facts, memory, o);
+    fn change(&self, accepted: &Accepted, memory: &mut [u32], o: u32) {
+        let counts = counts_at(accepted.facts, memory, o);
         let first = counts.slots_d() as usize;
         let end = counts.slots_r() as usize;
         let from = o as usize;

@@ -9,7 +9,8 @@ ghost use Rattle.remus.specs.Steady.{Fits};
 ghost use Rattle.machine.specs.Clauses.{did, doing, Declares, Here, Workable, PlacedTo, Reaches};
 
 use crate::Outcome;
-use crate::allocate::{alloc_mono, alloc_poly};
+use crate::accepted::Accepted;
+use crate::allocate::alloc_mono;
 use crate::cells::{fetch, keep};
 use crate::command::{constant, consume, global, of_kind, primitive, react, sink, supply};
 use crate::places::Slots;
@@ -72,44 +73,46 @@ pub(crate) fn declare(
     }
 }
 
-// Carries out the R command at byte `at`, of the deployment at o; its own words lie at `here`. Each command is handed
-// what it needs of the deployment, one by one: none needs h, o and `here`, and memory alone bounds `here`.
-pub(crate) fn exec(
-    program: &[u8],
-    facts: &[u64; 64],
-    readings: &[u32],
-    memory: &mut [u32],
-    slots: &Slots,
-    h: u8,
-    o: u32,
-    here: usize,
-    at: usize,
-) -> Result<Outcome, Refusal>
-    requires at_in_bounds { at + 8 ≤ length program.now }
-    requires reaches { Reaches slots.now.before o here (length memory.old) (C.decode (C.bytes_at program.now at)) }
-    requires workable { Workable memory.old }
-    ensures { let p = program.now in let m = memory.old in let rd = readings.now in
-        ((r i : ℕ) → Facts p facts.now → r < B.reactors p
-        → at ≡ B.command_at p r i
-        → B.commands_d p r ≤ i → Fits p r m o i → Here p m o i here
-        → PlacedTo p r slots.now.before (L.command_loc p r i + 1)
-        → did result memory.new ≡ doing p rd h m o i (C.cmd_of p r i)) }
-{
-    let c = bytes_within(program, at);
-    let code = c.code;
-    let a = slots.index(o, c.a);
-    let b = slots.index(o, c.b);
-    match code {
-        Command::CONSTANT => Ok(constant(memory, here, c.x, c.v())),
-        Command::GLOBAL => Ok(global(readings, memory, here, c.x)),
-        Command::SUPPLY => Ok(supply(memory, c.x, a, b)),
-        Command::REACT => Ok(react(memory, b)),
-        Command::CONSUME => Ok(consume(facts, memory, here, c.x, b)),
-        Command::SINK => Ok(sink(facts, memory, o, c.x, a)),
-        Command::ALLOC_POLY => alloc_poly(program, facts, memory, h, here, a, b),
-        Command::PRIMITIVE => Ok(primitive(memory, slots, o, here, c.x, a, b, c.v0)),
-        Command::FETCH => Ok(fetch(memory, here, b)),
-        Command::KEEP => Ok(keep(memory, here, a)),
-        _ => Ok(Outcome::Given),
+impl Accepted<'_> {
+    // Carries out the R command at byte `at`, of the deployment at o; its own words lie at `here`. Each command is
+    // handed what it needs of the deployment, one by one: none needs h, o and `here`, and memory alone bounds `here`.
+    pub(crate) fn exec(
+        &self,
+        readings: &[u32],
+        memory: &mut [u32],
+        slots: &Slots,
+        h: u8,
+        o: u32,
+        here: usize,
+        at: usize,
+    ) -> Result<Outcome, Refusal>
+        requires at_in_bounds { at + 8 ≤ length self.now.program.now }
+        requires reaches { let c = C.bytes_at self.now.program.now at in
+            Reaches slots.now.before o here (length memory.old) (C.decode c) }
+        requires workable { Workable memory.old }
+        ensures { let p = self.now.program.now in let m = memory.old in let rd = readings.now in
+            ((r i : ℕ) → r < B.reactors p
+            → at ≡ B.command_at p r i
+            → B.commands_d p r ≤ i → Fits p r m o i → Here p m o i here
+            → PlacedTo p r slots.now.before (L.command_loc p r i + 1)
+            → did result memory.new ≡ doing p rd h m o i (C.cmd_of p r i)) }
+    {
+        let c = bytes_within(self.program, at);
+        let code = c.code;
+        let a = slots.index(o, c.a);
+        let b = slots.index(o, c.b);
+        match code {
+            Command::CONSTANT => Ok(constant(memory, here, c.x, c.v())),
+            Command::GLOBAL => Ok(global(readings, memory, here, c.x)),
+            Command::SUPPLY => Ok(supply(memory, c.x, a, b)),
+            Command::REACT => Ok(react(memory, b)),
+            Command::CONSUME => Ok(consume(self.facts, memory, here, c.x, b)),
+            Command::SINK => Ok(sink(self.facts, memory, o, c.x, a)),
+            Command::ALLOC_POLY => self.alloc_poly(memory, h, here, a, b),
+            Command::PRIMITIVE => Ok(primitive(memory, slots, o, here, c.x, a, b, c.v0)),
+            Command::FETCH => Ok(fetch(memory, here, b)),
+            Command::KEEP => Ok(keep(memory, here, a)),
+            _ => Ok(Outcome::Given),
+        }
     }
 }

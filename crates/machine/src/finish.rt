@@ -7,64 +7,62 @@ ghost use Rattle.image.specs.Memory as M;
 ghost use Rattle.image.specs.Clauses.{Tiling};
 ghost use Rattle.remus.specs.Cells as Cells;
 ghost use Rattle.remus.specs.Clear as E;
-ghost use Rattle.machine.specs.Clauses.{Ending, Loaded, TimeFits};
+ghost use Rattle.machine.specs.Clauses.{Ending, TimeFits};
 
+use crate::accepted::Accepted;
 use crate::clear::Clear;
 use crate::command::sink_index;
-use crate::keeps::{Keep, has_cells};
-use crate::passes::pass_over;
+use crate::keeps::Keep;
 use image::{MAIN_AT, pair, put_pair, set_turns, turns, used};
 use program::{fact, main_of};
 
-// What was kept becomes the content of the cells, in a program that has some.
-fn fill_cells(program: &[u8], facts: &[u64; 64], memory: &mut [u32])
-    requires loaded { Loaded program.now facts.now }
-    requires ending { Ending program.now memory.old }
-    ensures { let p = program.now in let m = memory.old in
-        memory.new ≡ Cells.keep_of p (M.used m) m }
-{
-    let u = used(memory);
-    if has_cells(program, facts) {
-        pass_over(&Keep, program, facts, memory, u);
+impl Accepted<'_> {
+    // What was kept becomes the content of the cells, in a program that has some.
+    fn fill_cells(&self, memory: &mut [u32])
+        requires ending { Ending self.now.program.now memory.old }
+        ensures { let p = self.now.program.now in let m = memory.old in
+            memory.new ≡ Cells.keep_of p (M.used m) m }
+    {
+        let u = used(memory);
+        if self.has_cells() {
+            self.pass_over(&Keep, memory, u);
+        }
     }
-}
 
-// 6.23, 6.24 Clearing, and one turn more.
-fn close(program: &[u8], facts: &[u64; 64], memory: &mut [u32])
-    requires loaded { Loaded program.now facts.now }
-    requires tiling { Tiling program.now memory.old (M.used memory.old) M.main_at }
-    requires time_fits { TimeFits memory.old }
-    ensures { memory.new ≡ E.closed program.now memory.old }
-{
-    let u = used(memory);
-    let t = turns(memory);
-    pass_over(&Clear, program, facts, memory, u);
-    set_turns(memory, t + 1)
-}
+    // 6.23, 6.24 Clearing, and one turn more.
+    fn close(&self, memory: &mut [u32])
+        requires tiling { Tiling self.now.program.now memory.old (M.used memory.old) M.main_at }
+        requires time_fits { TimeFits memory.old }
+        ensures { memory.new ≡ E.closed self.now.program.now memory.old }
+    {
+        let u = used(memory);
+        let t = turns(memory);
+        self.pass_over(&Clear, memory, u);
+        set_turns(memory, t + 1)
+    }
 
-// The words after a completed turn.
-pub(crate) fn finish(program: &[u8], facts: &[u64; 64], memory: &mut [u32])
-    requires loaded { Loaded program.now facts.now }
-    requires ending { Ending program.now memory.old }
-    requires time_fits { TimeFits memory.old }
-    ensures { memory.new ≡ E.finished program.now memory.old }
-{
-    fill_cells(program, facts, memory);
-    close(program, facts, memory)
-}
+    // The words after a completed turn.
+    pub(crate) fn finish(&self, memory: &mut [u32])
+        requires ending { Ending self.now.program.now memory.old }
+        requires time_fits { TimeFits memory.old }
+        ensures { memory.new ≡ E.finished self.now.program.now memory.old }
+    {
+        self.fill_cells(memory);
+        self.close(memory)
+    }
 
-// Main's sinks as pairs.
-pub(crate) fn write_sinks(program: &[u8], facts: &[u64; 64], memory: &[u32], space: &mut [u32])
-    requires loaded { Loaded program.now facts.now }
-    requires memory_value { M.reactor memory.now M.main_at ≡ B.main_of program.now }
-    requires program_bound { B.main_of program.now < B.reactors program.now }
-    requires program_in_bounds { 2 * L.sink_count program.now (B.main_of program.now) ≤ length space.old }
-    ensures { space.new ≡ E.sunk program.now memory.now space.old }
-{
-    let n = fact(facts, main_of(program) as u32).sink_count();
-    for x in 0..n {
-        let i = sink_index(facts, memory, MAIN_AT, x);
-        let v = pair(memory, i);
-        put_pair(space, 2 * (x as usize), v);
+    // Main's sinks as pairs.
+    pub(crate) fn write_sinks(&self, memory: &[u32], space: &mut [u32])
+        requires memory_value { M.reactor memory.now M.main_at ≡ B.main_of self.now.program.now }
+        requires program_in_bounds { let p = self.now.program.now in
+            2 * L.sink_count p (B.main_of p) ≤ length space.old }
+        ensures { space.new ≡ E.sunk self.now.program.now memory.now space.old }
+    {
+        let n = fact(self.facts, main_of(self.program) as u32).sink_count();
+        for x in 0..n {
+            let i = sink_index(self.facts, memory, MAIN_AT, x);
+            let v = pair(memory, i);
+            put_pair(space, 2 * (x as usize), v);
+        }
     }
 }

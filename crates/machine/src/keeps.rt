@@ -6,8 +6,9 @@ ghost use Rattle.program.specs.Command as C;
 ghost use Rattle.program.specs.Clauses.{Tells};
 ghost use Rattle.image.specs.Memory as M;
 ghost use Rattle.remus.specs.Cells as Cells;
-ghost use Rattle.machine.specs.Clauses.{has_cell, has_cells, Remembering, Loaded};
+ghost use Rattle.machine.specs.Clauses.{has_cell, has_cells, Remembering};
 
+use crate::accepted::Accepted;
 use crate::cells::kept;
 use crate::passes::Change;
 use image::{SLOTS_AT, counts_at, pair, put_pair};
@@ -28,17 +29,18 @@ fn has_cell(program: &[u8], counts: Counts) -> bool
     false
 }
 
-// Whether some reactor has a cell.
-pub(crate) fn has_cells(program: &[u8], facts: &[u64; 64]) -> bool
-    requires { Loaded program.now facts.now }
-    ensures { result ≡ has_cells program.now }
-{
-    for r in 0..reactors(program) as u32 {
-        if has_cell(program, fact(facts, r)) {
-            return true;
+impl Accepted<'_> {
+    // Whether some reactor has a cell.
+    pub(crate) fn has_cells(&self) -> bool
+        ensures { result ≡ has_cells self.now.program.now }
+    {
+        for r in 0..reactors(self.program) as u32 {
+            if has_cell(self.program, fact(self.facts, r)) {
+                return true;
+            }
         }
+        false
     }
-    false
 }
 
 // What the Keep whose words lie at i kept becomes the content of its cell, at b, if it has run.
@@ -86,10 +88,10 @@ impl Change for Keep {
 
     ghost makes = { λ self p m o. Cells.keep_one p m o };
 
-    fn change(&self, program: &[u8], facts: &[u64; 64], memory: &mut [u32], o: u32) {
-        let counts = counts_at(facts, memory, o);
-        if has_cell(program, counts) {
-            keep_each(program, memory, counts, o);
+    fn change(&self, accepted: &Accepted, memory: &mut [u32], o: u32) {
+        let counts = counts_at(accepted.facts, memory, o);
+        if has_cell(accepted.program, counts) {
+            keep_each(accepted.program, memory, counts, o);
         }
     }
 }

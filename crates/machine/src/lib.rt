@@ -9,6 +9,7 @@
 // copies it once; the work of a turn is linear in the program's bytes and memory's words.
 #![tactic(auto)]
 
+mod accepted;
 mod allocate;
 mod asked;
 mod back;

@@ -4,8 +4,9 @@ ghost use Rattle.program.specs.Bytes as B;
 ghost use Rattle.image.specs.Memory as M;
 ghost use Rattle.image.specs.Passes as P;
 ghost use Rattle.image.specs.Clauses.{Tiling};
-ghost use Rattle.machine.specs.Clauses.{Loaded, Local};
+ghost use Rattle.machine.specs.Clauses.{Local};
 
+use crate::accepted::Accepted;
 use image::{MAIN_AT, counts_at};
 
 // What a pass does to each deployment.
@@ -16,35 +17,29 @@ pub(crate) trait Change {
     // what it makes of a program's words, at a deployment
     ghost makes: { Self → List ℕ → List ℕ → ℕ → List ℕ };
 
-    fn change(&self, program: &[u8], facts: &[u64; 64], memory: &mut [u32], o: u32)
-        requires loaded { Loaded program.now facts.now }
-        requires suited { suits self.now program.now }
-        requires o_bound { M.reactor memory.old o < B.reactors program.now }
-        requires o_in_bounds { o + M.size_at program.now memory.old o ≤ length memory.old }
-        ensures is { memory.new ≡ makes self.now program.now memory.old o }
-        ensures local { Local program.now memory.old o memory.new };
+    fn change(&self, accepted: &Accepted, memory: &mut [u32], o: u32)
+        requires suited { suits self.now accepted.now.program.now }
+        requires o_bound { M.reactor memory.old o < B.reactors accepted.now.program.now }
+        requires o_in_bounds { o + M.size_at accepted.now.program.now memory.old o ≤ length memory.old }
+        ensures is { memory.new ≡ makes self.now accepted.now.program.now memory.old o }
+        ensures local { Local accepted.now.program.now memory.old o memory.new };
 }
 
-// The change of all of them. Each kind has a loop of its own, which stays out of the turn's other code.
-#[inline(never)]
-pub(crate) fn pass_over<C: Change>(
-    change: &C,
-    program: &[u8],
-    facts: &[u64; 64],
-    memory: &mut [u32],
-    u: u32,
-)
-    requires loaded { Loaded program.now facts.now }
-    requires tiling { Tiling program.now memory.old u M.main_at }
-    requires suited { C.suits change.now program.now }
-    ensures { let p = program.now in let m = memory.old in
-        memory.new ≡ P.over (C.makes change.now p) m (M.starts_below p m u) }
-{
-    let mut a = MAIN_AT;
-    // no step of one size: each deployment is as long as its reactor says
-    while a < u {
-        let o = a;
-        a = o + counts_at(facts, memory, o).size();
-        change.change(program, facts, memory, o);
+impl Accepted<'_> {
+    // The change of all of them. Each kind has a loop of its own, which stays out of the turn's other code.
+    #[inline(never)]
+    pub(crate) fn pass_over<C: Change>(&self, change: &C, memory: &mut [u32], u: u32)
+        requires tiling { Tiling self.now.program.now memory.old u M.main_at }
+        requires suited { C.suits change.now self.now.program.now }
+        ensures { let p = self.now.program.now in let m = memory.old in
+            memory.new ≡ P.over (C.makes change.now p) m (M.starts_below p m u) }
+    {
+        let mut a = MAIN_AT;
+        // no step of one size: each deployment is as long as its reactor says
+        while a < u {
+            let o = a;
+            a = o + counts_at(self.facts, memory, o).size();
+            change.change(self, memory, o);
+        }
     }
 }

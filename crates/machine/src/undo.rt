@@ -4,10 +4,9 @@ ghost use Rattle.value.specs.Test.{◌=?◌};
 ghost use Rattle.image.specs.Memory as M;
 ghost use Rattle.image.specs.Clauses.{Tiling};
 ghost use Rattle.remus.specs.Undo as U;
-ghost use Rattle.machine.specs.Clauses.{Loaded};
 
+use crate::accepted::Accepted;
 use crate::back::Back;
-use crate::passes::pass_over;
 use image::{MAIN_AT, SLOTS_AT, set_used, set_wired, turns, wipe};
 
 const MAIN_SLOTS: usize = MAIN_AT as usize + SLOTS_AT;
@@ -23,44 +22,43 @@ fn zero_from(memory: &mut [u32], i: usize)
     }
 }
 
-// After a refused first turn main is unwired again, its slots zero.
-fn first_back(program: &[u8], memory: &mut [u32], u: u32)
-    ensures { memory.new ≡ U.back program.now u true memory.old }
-{
-    zero_from(memory, MAIN_SLOTS);
-    set_wired(memory, MAIN_AT, 0)
-}
-
-// After a later one the new deployments go, and the old ones are as they were.
-fn later_back(program: &[u8], facts: &[u64; 64], memory: &mut [u32], u: u32)
-    requires loaded { Loaded program.now facts.now }
-    requires tiling { Tiling program.now memory.old u M.main_at }
-    ensures { memory.new ≡ U.back program.now u false memory.old }
-{
-    pass_over(&Back { u }, program, facts, memory, u);
-    zero_from(memory, u as usize)
-}
-
-// All words but u, after a first or a later turn.
-fn back(program: &[u8], facts: &[u64; 64], memory: &mut [u32], u: u32)
-    requires loaded { Loaded program.now facts.now }
-    requires tiling { Tiling program.now memory.old u M.main_at }
-    ensures { let p = program.now in let m = memory.old in
-        memory.new ≡ U.back p u (M.turns m =? 0) m }
-{
-    if turns(memory) == 0 {
-        first_back(program, memory, u)
-    } else {
-        later_back(program, facts, memory, u)
+impl Accepted<'_> {
+    // After a refused first turn main is unwired again, its slots zero.
+    fn first_back(&self, memory: &mut [u32], u: u32)
+        ensures { memory.new ≡ U.back self.now.program.now u true memory.old }
+    {
+        zero_from(memory, MAIN_SLOTS);
+        set_wired(memory, MAIN_AT, 0)
     }
-}
 
-// The words before the turn.
-pub(crate) fn undo(program: &[u8], facts: &[u64; 64], memory: &mut [u32], u: u32)
-    requires loaded { Loaded program.now facts.now }
-    requires tiling { Tiling program.now memory.old u M.main_at }
-    ensures { memory.new ≡ U.undo_of program.now u memory.old }
-{
-    back(program, facts, memory, u);
-    set_used(memory, u)
+    // After a later one the new deployments go, and the old ones are as they were.
+    fn later_back(&self, memory: &mut [u32], u: u32)
+        requires tiling { Tiling self.now.program.now memory.old u M.main_at }
+        ensures { memory.new ≡ U.back self.now.program.now u false memory.old }
+    {
+        self.pass_over(&Back { u }, memory, u);
+        zero_from(memory, u as usize)
+    }
+
+    // All words but u, after a first or a later turn.
+    fn back(&self, memory: &mut [u32], u: u32)
+        requires tiling { Tiling self.now.program.now memory.old u M.main_at }
+        ensures { let p = self.now.program.now in let m = memory.old in
+            memory.new ≡ U.back p u (M.turns m =? 0) m }
+    {
+        if turns(memory) == 0 {
+            self.first_back(memory, u)
+        } else {
+            self.later_back(memory, u)
+        }
+    }
+
+    // The words before the turn.
+    pub(crate) fn undo(&self, memory: &mut [u32], u: u32)
+        requires tiling { Tiling self.now.program.now memory.old u M.main_at }
+        ensures { memory.new ≡ U.undo_of self.now.program.now u memory.old }
+    {
+        self.back(memory, u);
+        set_used(memory, u)
+    }
 }

@@ -30,7 +30,6 @@ run_main-requires c = let pre = c.requires.sure in
     let s = pre.safe _ _ few f.0 in
     rw c.copy_from_slice.ensures.after
     (record {
-      loaded = pre.loaded;
       safe = s;
       steady = s.steady _ f.1;
       memory_bound = clock_left _ _ _ _ f.1;

@@ -23,7 +23,7 @@ run_main-requires c = let pre = c.requires in
     let few = ((words_legal_lem _).0 (passed c.words_legal.ensures (ap not c.if-not-words_legal.false))).1 in
     let f = ready_fine _ _ _ _ _ e in
     let s = pre.safe _ _ few f.0 in
-    record { loaded = pre.loaded; safe = s; steady = s.steady _ f.1; memory_bound = clock_left _ _ _ _ f.1; program_in_bounds = sinks_fit _ _ _ _ f.1 }
+    record { safe = s; steady = s.steady _ f.1; memory_bound = clock_left _ _ _ _ f.1; program_in_bounds = sinks_fit _ _ _ _ f.1 }
 
 pub returns : goal.returns
 unfolding by_check by_asked

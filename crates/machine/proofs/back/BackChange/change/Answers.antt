@@ -3,13 +3,9 @@ use Rattle.machine.proofs.Clears.{local_back, slots_inside, slots_low}
 use Rattle.remus.specs.Undo.{one_back}
 use Rattle.machine.proofs.back.BackChange.change.Goals as goal
 
-pub slots_back-requires : goal.slots_back-requires
-slots_back-requires c = record { loaded = c.requires.loaded; o_bound = c.requires.o_bound }
-
 pub change-requires : goal.change-requires
 change-requires c = let pre = c.requires in
     rw c.slots_back.ensures (record {
-      loaded = pre.loaded;
       suited = tt;
       o_bound = slots_low _ _ _ _ pre.o_bound;
       o_in_bounds = slots_inside _ _ _ _ pre.o_in_bounds;
@@ -18,6 +14,6 @@ change-requires c = let pre = c.requires in
 pub returns : goal.returns
 unfolding one_back
 returns c = let args = c.args in
-    let is : c.change.new.memory ≡ one_back args.program.now args.self.now.u args.memory.now args.o =
+    let is : c.change.new.memory ≡ one_back args.accepted.now.program.now args.self.now.u args.memory.now args.o =
     rw (← c.slots_back.ensures) c.change.ensures.is in
     record { is = is; local = rw is (local_back _ _ _ _ c.requires.o_in_bounds) }
