@@ -47,6 +47,7 @@ impl Tiled<'_> {
             table.new ≡ P.over (P.visit p m pass) table.old (starts_on p m self.now.u M.main_at) }
     {
         let mut a = MAIN_AT;
+        // A walk and no range: the next deployment begins where this one ends.
         while a < self.u {
             let o = a;
             a = following(self.program, self.memory, self.u, a);
@@ -60,6 +61,7 @@ impl Tiled<'_> {
             result ≡ judged (P.lowest (P.fits p m pass table.now) (starts_on p m self.now.u M.main_at)) }
     {
         let mut a = MAIN_AT;
+        // A walk and no range: the next deployment begins where this one ends.
         while a < self.u {
             let o = a;
             a = following(self.program, self.memory, self.u, a);

@@ -214,6 +214,7 @@ fn sweep_all(program: &[u8], facts: &[u64; 64], memory: &[u32], table: &mut [u8]
         (result ≡ true → Swept p m (starts_on p m u M.main_at) table.old table.new) }
 {
     let mut a = MAIN_AT;
+    // A walk and no range: the next deployment begins where this one ends.
     while a < u {
         let o = a;
         let counts = counts_at(facts, memory, o);
@@ -238,6 +239,7 @@ fn mark_tiles(facts: &[u64; 64], memory: &[u32], table: &mut [u8], u: u32) -> bo
         ((p : List ℕ) → Facts p f → result ≡ true → t₁ ≡ P.over (P.visit p m Starts) t (starts_on p m u M.main_at)) }
 {
     let mut a = MAIN_AT;
+    // A walk and no range: the next deployment begins where this one ends.
     while a < u {
         let counts = counts_at(facts, memory, a);
         if counts.none() {

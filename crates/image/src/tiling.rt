@@ -18,6 +18,7 @@ pub(crate) fn tiles(program: &[u8], memory: &[u32], u: u32) -> bool
 {
     let n = reactors(program) as u32;
     let mut a = MAIN_AT;
+    // A walk and no range: the next deployment begins where this one ends.
     while a < u {
         if n <= reactor(memory, a) {
             return false;
