@@ -16,7 +16,7 @@ use crate::command::{constant, consume, global, of_kind, primitive, react, sink,
 use crate::places::Slots;
 use answer::Refusal;
 use image::put_pair;
-use program::{Command, bytes_within};
+use program::{Code, Command, bytes_within};
 use value::Value;
 
 // 2 MakePoly: an empty branch point.
@@ -64,11 +64,13 @@ pub(crate) fn declare(
         → i < B.commands_d p r → Fits p r m o i → Here p m o i here
         → Declares p h m o i (C.cmd_of p r i) result memory.new) }
 {
-    let code = c.code;
+    let Ok(code) = Code::try_from(c.code) else {
+        return Ok(());
+    };
     match code {
-        Command::ALLOC_MONO => alloc_mono(facts, memory, h, here, c.x),
-        Command::MAKE_POLY => make_poly(memory, here),
-        Command::CELL => cell(memory, here, c.x, c.v()),
+        Code::AllocMono => alloc_mono(facts, memory, h, here, c.x),
+        Code::MakePoly => make_poly(memory, here),
+        Code::Cell => cell(memory, here, c.x, c.v()),
         _ => Ok(()),
     }
 }
@@ -98,21 +100,23 @@ impl Accepted<'_> {
             → did result memory.new ≡ doing p rd h m o i (C.cmd_of p r i)) }
     {
         let c = bytes_within(self.program, at);
-        let code = c.code;
+        let Ok(code) = Code::try_from(c.code) else {
+            return Ok(Outcome::Given);
+        };
         let a = slots.index(o, c.a);
         let b = slots.index(o, c.b);
         match code {
-            Command::CONSTANT => Ok(constant(memory, here, c.x, c.v())),
-            Command::GLOBAL => Ok(global(readings, memory, here, c.x)),
-            Command::SUPPLY => Ok(supply(memory, c.x, a, b)),
-            Command::REACT => Ok(react(memory, b)),
-            Command::CONSUME => Ok(consume(self.facts, memory, here, c.x, b)),
-            Command::SINK => Ok(sink(self.facts, memory, o, c.x, a)),
-            Command::ALLOC_POLY => self.alloc_poly(memory, h, here, a, b),
-            Command::PRIMITIVE => Ok(primitive(memory, slots, o, here, c.x, a, b, c.v0)),
-            Command::FETCH => Ok(fetch(memory, here, b)),
-            Command::KEEP => Ok(keep(memory, here, a)),
-            _ => Ok(Outcome::Given),
+            Code::Constant => Ok(constant(memory, here, c.x, c.v())),
+            Code::Global => Ok(global(readings, memory, here, c.x)),
+            Code::Supply => Ok(supply(memory, c.x, a, b)),
+            Code::React => Ok(react(memory, b)),
+            Code::Consume => Ok(consume(self.facts, memory, here, c.x, b)),
+            Code::Sink => Ok(sink(self.facts, memory, o, c.x, a)),
+            Code::AllocPoly => self.alloc_poly(memory, h, here, a, b),
+            Code::Primitive => Ok(primitive(memory, slots, o, here, c.x, a, b, c.v0)),
+            Code::Fetch => Ok(fetch(memory, here, b)),
+            Code::Keep => Ok(keep(memory, here, a)),
+            Code::AllocMono | Code::MakePoly | Code::Cell => Ok(Outcome::Given),
         }
     }
 }

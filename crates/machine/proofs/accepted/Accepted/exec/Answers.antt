@@ -1,12 +1,13 @@
-use Rattle.std.specs.Prelude.{ℕ, ◌≡◌, refl, List}
+use Rattle.std.specs.Prelude.{ℕ, ◌≡◌, List}
 use Rattle.std.proofs.Common.{sym, ◌∙◌, ap, subst, arith}
 use Rattle.machine.proofs.Placing.{reads_at}
-use Rattle.machine.proofs.Sequences.{command_at_lem, no_r}
+use Rattle.machine.proofs.Sequences.{command_at_lem, neither_r, no_r}
 use Rattle.machine.specs.Clauses.{Stands, Reaches}
-use Rattle.program.proofs.Decode.{as_constant, as_consume, as_fetch, as_global, as_keep, as_poly, as_primitive}
-use Rattle.program.proofs.Decode.{as_react, as_sink, as_supply}
+use Rattle.program.proofs.Decode.{decoded, undecoded}
 use Rattle.program.specs.Command.{Cmd, decode, sequence_of}
 use Rattle.program.specs.declared.Command.{Command}
+use Rattle.program.specs.declared.commands.Code.TheVariants.{Constant, Global, Supply, React, Consume, Sink, AllocPoly}
+use Rattle.program.specs.declared.commands.Code.TheVariants.{Primitive, Fetch, Keep}
 use Rattle.program.specs.Location.{command_loc}
 use Rattle.remus.specs.Steady.{ReadsUpTo}
 use Rattle.machine.proofs.accepted.Accepted.exec.Goals as goal
@@ -19,26 +20,26 @@ reach t o here n e f = subst (Reaches t o here n) (sym (e ∙ ap decode f))
 pub constant-requires : goal.constant-requires
 constant-requires c = let at_bytes_within = c.bytes_within-c in
     let pre = c.requires in
-    reach _ _ _ _ (as_constant (λ (d : Cmd). d) _ c.in-3.is refl) at_bytes_within.ensures pre.reaches
+    reach _ _ _ _ (sym (decoded _ Constant (rw c.in-Constant.is at c.in-Ok.ensures))) at_bytes_within.ensures pre.reaches
 
 pub global-requires : goal.global-requires
 global-requires c = let at_bytes_within = c.bytes_within-c in
     let pre = c.requires in
-    let r = reach _ _ _ _ (as_global (λ (d : Cmd). d) _ c.in-4.is refl) at_bytes_within.ensures
+    let r = reach _ _ _ _ (sym (decoded _ Global (rw c.in-Global.is at c.in-Ok.ensures))) at_bytes_within.ensures
     pre.reaches in
     record { here_in_bounds = r; time_fits = pre.workable.clock }
 
 pub consume-requires : goal.consume-requires
 consume-requires c = let at_bytes_within = c.bytes_within-c in
     let pre = c.requires in
-    let r = reach _ _ _ _ (as_consume (λ (d : Cmd). d) _ c.in-7.is refl) at_bytes_within.ensures
+    let r = reach _ _ _ _ (sym (decoded _ Consume (rw c.in-Consume.is at c.in-Ok.ensures))) at_bytes_within.ensures
     pre.reaches in
     record { here_in_bounds = r.0; b_le_here = omega (arith, r.1, c.index-b.ensures.at) }
 
 pub alloc_poly-requires : goal.alloc_poly-requires
 alloc_poly-requires c = let at_bytes_within = c.bytes_within-c in
     let pre = c.requires in
-    let r = reach _ _ _ _ (as_poly (λ (d : Cmd). d) _ c.in-9.is refl) at_bytes_within.ensures pre.reaches in record {
+    let r = reach _ _ _ _ (sym (decoded _ AllocPoly (rw c.in-AllocPoly.is at c.in-Ok.ensures))) at_bytes_within.ensures pre.reaches in record {
       here_in_bounds = r.0;
       a_le_here = (
         omega (arith, r.1, c.index-a.ensures.at),
@@ -54,7 +55,7 @@ alloc_poly-requires c = let at_bytes_within = c.bytes_within-c in
 pub primitive-requires : goal.primitive-requires
 primitive-requires c = let at_bytes_within = c.bytes_within-c in
     let pre = c.requires in
-    let r = reach _ _ _ _ (as_primitive (λ (d : Cmd). d) _ c.in-10.is refl) at_bytes_within.ensures
+    let r = reach _ _ _ _ (sym (decoded _ Primitive (rw c.in-Primitive.is at c.in-Ok.ensures))) at_bytes_within.ensures
     pre.reaches in record {
       here_in_bounds = r.0;
       a_le_here = (
@@ -70,94 +71,94 @@ primitive-requires c = let at_bytes_within = c.bytes_within-c in
 pub fetch-requires : goal.fetch-requires
 fetch-requires c = let at_bytes_within = c.bytes_within-c in
     let pre = c.requires in
-    let r = reach _ _ _ _ (as_fetch (λ (d : Cmd). d) _ c.in-12.is refl) at_bytes_within.ensures pre.reaches in
+    let r = reach _ _ _ _ (sym (decoded _ Fetch (rw c.in-Fetch.is at c.in-Ok.ensures))) at_bytes_within.ensures pre.reaches in
     record { here_in_bounds = r.0; b_le_here = omega (arith, r.1, c.index-b.ensures.at) }
 
 pub keep-requires : goal.keep-requires
 keep-requires c = let at_bytes_within = c.bytes_within-c in
     let pre = c.requires in
-    let r = reach _ _ _ _ (as_keep (λ (d : Cmd). d) _ c.in-13.is refl) at_bytes_within.ensures pre.reaches in
+    let r = reach _ _ _ _ (sym (decoded _ Keep (rw c.in-Keep.is at c.in-Ok.ensures))) at_bytes_within.ensures pre.reaches in
     record { here_in_bounds = r.0; a_le_here = omega (arith, r.1, c.index-a.ensures.at) }
 
-pub returns-in-3 : goal.returns-in-3
-returns-in-3 c = let at_constant = c.constant in
+pub returns-in-Constant : goal.returns-in-Constant
+returns-in-Constant c = let at_constant = c.constant in
     let at_v = c.v in
     let at_bytes_within = c.bytes_within-c in
     λ r i lt at in_r fit here placed.
     let is = command_at_lem _ r i _ at_bytes_within.ensures at in
-    let cmd = as_constant (λ (d : Cmd). d) _ c.in-3.is refl ∙ is in
+    let cmd = sym (decoded _ Constant (rw c.in-Constant.is at c.in-Ok.ensures)) ∙ is in
     rw (← cmd, ← at_v.ensures) (at_constant.ensures _ _ _ i here _)
 
-pub returns-in-4 : goal.returns-in-4
-returns-in-4 c = let at_global = c.global in
+pub returns-in-Global : goal.returns-in-Global
+returns-in-Global c = let at_global = c.global in
     let at_bytes_within = c.bytes_within-c in
     λ r i lt at in_r fit here placed.
     let is = command_at_lem _ r i _ at_bytes_within.ensures at in
-    let cmd = as_global (λ (d : Cmd). d) _ c.in-4.is refl ∙ is in
+    let cmd = sym (decoded _ Global (rw c.in-Global.is at c.in-Ok.ensures)) ∙ is in
     rw (← cmd) (at_global.ensures _ _ _ i here)
 
-pub returns-in-5 : goal.returns-in-5
-returns-in-5 c = let at_supply = c.supply in
+pub returns-in-Supply : goal.returns-in-Supply
+returns-in-Supply c = let at_supply = c.supply in
     let at_slot2 = c.index-b in
     let at_slot = c.index-a in
     let at_bytes_within = c.bytes_within-c in
     let args = c.args in
     λ r i lt at in_r fit here placed.
     let is = command_at_lem _ r i _ at_bytes_within.ensures at in
-    let cmd = as_supply (λ (d : Cmd). d) _ c.in-5.is refl ∙ is in
+    let cmd = sym (decoded _ Supply (rw c.in-Supply.is at c.in-Ok.ensures)) ∙ is in
     let t = args.slots.now.before in
     let up = subst (ReadsUpTo (command_loc _ r i)) (sym cmd) fit.reads in
     let a = at_slot.ensures.is _ _ (reads_at _ _ t _ r _ _ fit.same placed up.0) in
     let b = at_slot2.ensures.is _ _ (reads_at _ _ t _ r _ _ fit.same placed up.1) in
     rw (← cmd) (at_supply.ensures _ _ _ i _ _ a b (fit.supplies _ _ _ (sym cmd)) _)
 
-pub returns-in-6 : goal.returns-in-6
-returns-in-6 c = let at_slot2 = c.index-b in
+pub returns-in-React : goal.returns-in-React
+returns-in-React c = let at_slot2 = c.index-b in
     let at_bytes_within = c.bytes_within-c in
     let args = c.args in
     λ r i lt at in_r fit here placed.
     let is = command_at_lem _ r i _ at_bytes_within.ensures at in
-    let cmd = as_react (λ (d : Cmd). d) _ c.in-6.is refl ∙ is in
+    let cmd = sym (decoded _ React (rw c.in-React.is at c.in-Ok.ensures)) ∙ is in
     let t = args.slots.now.before in
     let up = subst (ReadsUpTo (command_loc _ r i)) (sym cmd) fit.reads in
     let b = at_slot2.ensures.is _ _ (reads_at _ _ t _ r _ _ fit.same placed up) in
     rw (← cmd) (c.react.ensures _ _ _ i _ b _)
 
-pub returns-in-7 : goal.returns-in-7
-returns-in-7 c = let at_consume = c.consume in
+pub returns-in-Consume : goal.returns-in-Consume
+returns-in-Consume c = let at_consume = c.consume in
     let at_slot2 = c.index-b in
     let at_bytes_within = c.bytes_within-c in
     let args = c.args in
     λ r i lt at in_r fit here placed.
     let is = command_at_lem _ r i _ at_bytes_within.ensures at in
-    let cmd = as_consume (λ (d : Cmd). d) _ c.in-7.is refl ∙ is in
+    let cmd = sym (decoded _ Consume (rw c.in-Consume.is at c.in-Ok.ensures)) ∙ is in
     let t = args.slots.now.before in
     let up = subst (ReadsUpTo (command_loc _ r i)) (sym cmd) fit.reads in
     let b = at_slot2.ensures.is _ _ (reads_at _ _ t _ r _ _ fit.same placed up) in
     rw (← cmd) (at_consume.ensures _ _ _ i _ args.self.now.loaded.facts b here (fit.consumes _ _ (sym cmd)) _)
 
-pub returns-in-8 : goal.returns-in-8
-returns-in-8 c = let at_sink = c.sink in
+pub returns-in-Sink : goal.returns-in-Sink
+returns-in-Sink c = let at_sink = c.sink in
     let at_slot = c.index-a in
     let at_bytes_within = c.bytes_within-c in
     let args = c.args in
     λ r i lt at in_r fit here placed.
     let is = command_at_lem _ r i _ at_bytes_within.ensures at in
-    let cmd = as_sink (λ (d : Cmd). d) _ c.in-8.is refl ∙ is in
+    let cmd = sym (decoded _ Sink (rw c.in-Sink.is at c.in-Ok.ensures)) ∙ is in
     let t = args.slots.now.before in
     let up = subst (ReadsUpTo (command_loc _ r i)) (sym cmd) fit.reads in
     let a = at_slot.ensures.is _ _ (reads_at _ _ t _ r _ _ fit.same placed up) in
     rw (← cmd) (at_sink.ensures _ _ i _ args.self.now.loaded.facts (omega (arith, fit.same, lt)) a _)
 
-pub returns-in-9 : goal.returns-in-9
-returns-in-9 c = let at_alloc_poly = c.alloc_poly in
+pub returns-in-AllocPoly : goal.returns-in-AllocPoly
+returns-in-AllocPoly c = let at_alloc_poly = c.alloc_poly in
     let at_slot2 = c.index-b in
     let at_slot = c.index-a in
     let at_bytes_within = c.bytes_within-c in
     let args = c.args in
     λ r i lt at in_r fit here placed.
     let is = command_at_lem _ r i _ at_bytes_within.ensures at in
-    let cmd = as_poly (λ (d : Cmd). d) _ c.in-9.is refl ∙ is in
+    let cmd = sym (decoded _ AllocPoly (rw c.in-AllocPoly.is at c.in-Ok.ensures)) ∙ is in
     let t = args.slots.now.before in
     let up = subst (ReadsUpTo (command_loc _ r i)) (sym cmd) fit.reads in
     let a = at_slot.ensures.is _ _ (reads_at _ _ t _ r _ _ fit.same placed up.0) in
@@ -165,15 +166,15 @@ returns-in-9 c = let at_alloc_poly = c.alloc_poly in
     let stands : Stands _ _ = record { above = fit.above; below = fit.below } in
     rw (← cmd) (at_alloc_poly.ensures _ i _ _ stands a b here (fit.operators _ _ (sym cmd)) _)
 
-pub returns-in-10 : goal.returns-in-10
-returns-in-10 c = let at_primitive = c.primitive in
+pub returns-in-Primitive : goal.returns-in-Primitive
+returns-in-Primitive c = let at_primitive = c.primitive in
     let at_slot2 = c.index-b in
     let at_slot = c.index-a in
     let at_bytes_within = c.bytes_within-c in
     let args = c.args in
     λ r i lt at in_r fit here placed.
     let is = command_at_lem _ r i _ at_bytes_within.ensures at in
-    let cmd = as_primitive (λ (d : Cmd). d) _ c.in-10.is refl ∙ is in
+    let cmd = sym (decoded _ Primitive (rw c.in-Primitive.is at c.in-Ok.ensures)) ∙ is in
     let t = args.slots.now.before in
     let up = subst (ReadsUpTo (command_loc _ r i)) (sym cmd) fit.reads in
     let a = at_slot.ensures.is _ _ (reads_at _ _ t _ r _ _ fit.same placed up.0) in
@@ -181,34 +182,39 @@ returns-in-10 c = let at_primitive = c.primitive in
     let l = reads_at _ _ t _ r _ _ fit.same placed up.2 in
     rw (← cmd) (at_primitive.ensures _ _ i _ _ a b l here _)
 
-pub returns-in-12 : goal.returns-in-12
-returns-in-12 c = let at_fetch = c.fetch in
+pub returns-in-Fetch : goal.returns-in-Fetch
+returns-in-Fetch c = let at_fetch = c.fetch in
     let at_slot2 = c.index-b in
     let at_bytes_within = c.bytes_within-c in
     let args = c.args in
     λ r i lt at in_r fit here placed.
     let is = command_at_lem _ r i _ at_bytes_within.ensures at in
-    let cmd = as_fetch (λ (d : Cmd). d) _ c.in-12.is refl ∙ is in
+    let cmd = sym (decoded _ Fetch (rw c.in-Fetch.is at c.in-Ok.ensures)) ∙ is in
     let t = args.slots.now.before in
     let up = subst (ReadsUpTo (command_loc _ r i)) (sym cmd) fit.reads in
     let b = at_slot2.ensures.is _ _ (reads_at _ _ t _ r _ _ fit.same placed up) in
     rw (← cmd) (at_fetch.ensures _ _ _ i _ b here _)
 
-pub returns-in-13 : goal.returns-in-13
-returns-in-13 c = let at_keep = c.keep in
+pub returns-in-Keep : goal.returns-in-Keep
+returns-in-Keep c = let at_keep = c.keep in
     let at_slot = c.index-a in
     let at_bytes_within = c.bytes_within-c in
     let args = c.args in
     λ r i lt at in_r fit here placed.
     let is = command_at_lem _ r i _ at_bytes_within.ensures at in
-    let cmd = as_keep (λ (d : Cmd). d) _ c.in-13.is refl ∙ is in
+    let cmd = sym (decoded _ Keep (rw c.in-Keep.is at c.in-Ok.ensures)) ∙ is in
     let t = args.slots.now.before in
     let up = subst (ReadsUpTo (command_loc _ r i)) (sym cmd) fit.reads in
     let a = at_slot.ensures.is _ _ (reads_at _ _ t _ r _ _ fit.same placed up.0) in
     rw (← cmd) (at_keep.ensures _ _ _ i _ _ a here _)
 
 pub returns-in_default : goal.returns-in_default
-returns-in_default c = let at_bytes_within = c.bytes_within-c in
-    λ r i lt at in_r fit here placed.
-    let cmd = command_at_lem _ r i _ at_bytes_within.ensures at in
-    absurd (no_r _ c.in_default.in_default-own.rest (ap sequence_of cmd ∙ fit.runs in_r))
+unfolding sequence_of
+returns-in_default c = λ r i lt at in_r fit here placed.
+    let is = command_at_lem _ r i _ c.bytes_within-c.ensures at in
+    neither_r (ap sequence_of (sym (undecoded _ c.in_default.ensures) ∙ is) ∙ fit.runs in_r)
+
+pub returns-in-AllocMono : goal.returns-in-AllocMono
+returns-in-AllocMono c = λ r i lt at in_r fit here placed.
+    let is = sym (decoded _ c.in-Ok.code c.in-Ok.ensures) ∙ command_at_lem _ r i _ c.bytes_within-c.ensures at in
+    absurd (no_r _ _ c.in-AllocMono.is (ap sequence_of is ∙ fit.runs in_r))
