@@ -156,7 +156,7 @@ fn make(
 impl Accepted<'_> {
     // The deployment of reactor q on the branch point at b, made if missing.
     fn choose(
-        &self,
+        self,
         memory: &mut [u32],
         h: u8,
         here: usize,
@@ -166,7 +166,7 @@ impl Accepted<'_> {
         requires here_in_bounds { here + 1 < length memory.old }
         requires b_le_here { b ≤ here }
         requires memory_len_bound { length memory.old ≤ M.most_words }
-        ensures { let p = self.now.program.now in let m = memory.old in
+        ensures { let p = self.entry.program.now in let m = memory.old in
             ((rd : List ℕ) (o i j k : ℕ) → q < B.reactors p
             → Stands m o → b ≡ M.slot p m o k → Here p m o i here
             → did result memory.new ≡ acted m (C.alloc_poly j k) (X.operated p rd h m o i false q k)) }
@@ -188,7 +188,7 @@ impl Accepted<'_> {
     // 9 AllocPoly: the deployment of the operator's reactor, at a, on the branch point at b; blank for a
     // blank operator.
     pub(crate) fn alloc_poly(
-        &self,
+        self,
         memory: &mut [u32],
         h: u8,
         here: usize,
@@ -198,7 +198,7 @@ impl Accepted<'_> {
         requires here_in_bounds { here + 1 < length memory.old }
         requires a_le_here { (a ≤ here) × (b ≤ here) }
         requires memory_len_bound { length memory.old ≤ M.most_words }
-        ensures { let p = self.now.program.now in let m = memory.old in
+        ensures { let p = self.entry.program.now in let m = memory.old in
             ((o i j k : ℕ) → Stands m o
             → a ≡ M.slot p m o j → b ≡ M.slot p m o k → Here p m o i here
             → (W.is_blank (M.value_at p m o j) ≡ false → M.content p m o j < B.reactors p)

@@ -60,9 +60,9 @@ fn slot_back(program: &[u8], memory: &mut [u32], u: u32, code: u8, i: usize)
 
 impl Accepted<'_> {
     // All D slots of o, which stand in a row.
-    fn slots_back(&self, memory: &mut [u32], u: u32, o: u32)
-        requires o_bound { M.reactor memory.old o < B.reactors self.now.program.now }
-        ensures { let p = self.now.program.now in let m = memory.old in
+    fn slots_back(self, memory: &mut [u32], u: u32, o: u32)
+        requires o_bound { M.reactor memory.old o < B.reactors self.program.now }
+        ensures { let p = self.entry.program.now in let m = memory.old in
             memory.new ≡ U.slots_back p u (B.commands_d p (M.reactor m o)) 0 m o }
     {
         let counts = counts_at(self.facts, memory, o);
@@ -86,7 +86,7 @@ impl Change for Back {
 
     ghost makes = { λ self p m o. U.one_back p self.u m o };
 
-    fn change(&self, accepted: &Accepted, memory: &mut [u32], o: u32) {
+    fn change(&self, accepted: Accepted<'_>, memory: &mut [u32], o: u32) {
         accepted.slots_back(memory, self.u, o);
         Clear.change(accepted, memory, o)
     }

@@ -25,12 +25,12 @@ use load::judge;
 
 impl Accepted<'_> {
     // Main has run to its end.
-    fn complete(&self, memory: &mut [u32], space: &mut [u32]) -> Answer
-        requires ending { Ending self.now.program.now memory.old }
+    fn complete(self, memory: &mut [u32], space: &mut [u32]) -> Answer
+        requires ending { Ending self.program.now memory.old }
         requires time_fits { TimeFits memory.old }
-        requires program_in_bounds { let p = self.now.program.now in
+        requires program_in_bounds { let p = self.program.now in
             2 * L.sink_count p (B.main_of p) ≤ length space.old }
-        ensures { let p = self.now.program.now in let m = memory.old in let sk = space.old in
+        ensures { let p = self.entry.program.now in let m = memory.old in let sk = space.old in
             turned result memory.new space.new
             ≡ turned (Ok (M.used m)) (E.finished p m) (E.sunk p m sk) }
     {
@@ -41,23 +41,23 @@ impl Accepted<'_> {
     }
 
     // Main's run was refused; u is that of before.
-    fn give_back(&self, memory: &mut [u32], u: u32, w: Refusal) -> Answer
-        requires tiling { Tiling self.now.program.now memory.old u M.main_at }
+    fn give_back(self, memory: &mut [u32], u: u32, w: Refusal) -> Answer
+        requires tiling { Tiling self.program.now memory.old u M.main_at }
         ensures is { result ≡ Err w }
-        ensures words { memory.new ≡ U.undo_of self.now.program.now u memory.old }
+        ensures words { memory.new ≡ U.undo_of self.entry.program.now u memory.old }
     {
         self.undo(memory, u);
         Err(w)
     }
 
     // Runs main, from depth 1.
-    fn run_main(&self, memory: &mut [u32], readings: &[u32], space: &mut [u32]) -> Answer
-        requires safe { Safe self.now.program.now readings.now memory.old }
-        requires steady { Steady self.now.program.now readings.now M.most_depth 1 memory.old M.main_at }
+    fn run_main(self, memory: &mut [u32], readings: &[u32], space: &mut [u32]) -> Answer
+        requires safe { Safe self.program.now readings.now memory.old }
+        requires steady { Steady self.program.now readings.now M.most_depth 1 memory.old M.main_at }
         requires memory_bound { M.turns memory.old < M.most_turns }
-        requires program_in_bounds { let p = self.now.program.now in
+        requires program_in_bounds { let p = self.program.now in
             2 * L.sink_count p (B.main_of p) ≤ length space.old }
-        ensures { let p = self.now.program.now in let m = memory.old in let rd = readings.now in
+        ensures { let p = self.entry.program.now in let m = memory.old in let rd = readings.now in
             let sk = space.old in
             turned result memory.new space.new ≡ T.by_run p m rd sk (R.main_run p rd m) }
     {

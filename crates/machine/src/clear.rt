@@ -29,7 +29,7 @@ impl Change for Clear {
 
     ghost makes = { λ self p m o. E.clear_one p m o };
 
-    fn change(&self, accepted: &Accepted, memory: &mut [u32], o: u32) {
+    fn change(&self, accepted: Accepted<'_>, memory: &mut [u32], o: u32) {
         let counts = counts_at(accepted.facts, memory, o);
         let first = counts.slots_d() as usize;
         let end = counts.slots_r() as usize;

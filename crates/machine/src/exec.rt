@@ -79,7 +79,7 @@ impl Accepted<'_> {
     // Carries out the R command at byte `at`, of the deployment at o; its own words lie at `here`. Each command is
     // handed what it needs of the deployment, one by one: none needs h, o and `here`, and memory alone bounds `here`.
     pub(crate) fn exec(
-        &self,
+        self,
         readings: &[u32],
         memory: &mut [u32],
         slots: &Slots,
@@ -88,11 +88,11 @@ impl Accepted<'_> {
         here: usize,
         at: usize,
     ) -> Result<Outcome, Refusal>
-        requires at_in_bounds { at + 8 ≤ length self.now.program.now }
-        requires reaches { let c = C.bytes_at self.now.program.now at in
+        requires at_in_bounds { at + 8 ≤ length self.program.now }
+        requires reaches { let c = C.bytes_at self.program.now at in
             Reaches slots.now.before o here (length memory.old) (C.decode c) }
         requires workable { Workable memory.old }
-        ensures { let p = self.now.program.now in let m = memory.old in let rd = readings.now in
+        ensures { let p = self.entry.program.now in let m = memory.old in let rd = readings.now in
             ((r i : ℕ) → r < B.reactors p
             → at ≡ B.command_at p r i
             → B.commands_d p r ≤ i → Fits p r m o i → Here p m o i here

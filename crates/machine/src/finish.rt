@@ -18,9 +18,9 @@ use program::{fact, main_of};
 
 impl Accepted<'_> {
     // What was kept becomes the content of the cells, in a program that has some.
-    fn fill_cells(&self, memory: &mut [u32])
-        requires ending { Ending self.now.program.now memory.old }
-        ensures { let p = self.now.program.now in let m = memory.old in
+    fn fill_cells(self, memory: &mut [u32])
+        requires ending { Ending self.program.now memory.old }
+        ensures { let p = self.entry.program.now in let m = memory.old in
             memory.new ≡ Cells.keep_of p (M.used m) m }
     {
         let u = used(memory);
@@ -30,10 +30,10 @@ impl Accepted<'_> {
     }
 
     // 6.23, 6.24 Clearing, and one turn more.
-    fn close(&self, memory: &mut [u32])
-        requires tiling { Tiling self.now.program.now memory.old (M.used memory.old) M.main_at }
+    fn close(self, memory: &mut [u32])
+        requires tiling { Tiling self.program.now memory.old (M.used memory.old) M.main_at }
         requires time_fits { TimeFits memory.old }
-        ensures { memory.new ≡ E.closed self.now.program.now memory.old }
+        ensures { memory.new ≡ E.closed self.entry.program.now memory.old }
     {
         let u = used(memory);
         let t = turns(memory);
@@ -42,21 +42,21 @@ impl Accepted<'_> {
     }
 
     // The words after a completed turn.
-    pub(crate) fn finish(&self, memory: &mut [u32])
-        requires ending { Ending self.now.program.now memory.old }
+    pub(crate) fn finish(self, memory: &mut [u32])
+        requires ending { Ending self.program.now memory.old }
         requires time_fits { TimeFits memory.old }
-        ensures { memory.new ≡ E.finished self.now.program.now memory.old }
+        ensures { memory.new ≡ E.finished self.entry.program.now memory.old }
     {
         self.fill_cells(memory);
         self.close(memory)
     }
 
     // Main's sinks as pairs.
-    pub(crate) fn write_sinks(&self, memory: &[u32], space: &mut [u32])
-        requires memory_value { M.reactor memory.now M.main_at ≡ B.main_of self.now.program.now }
-        requires program_in_bounds { let p = self.now.program.now in
+    pub(crate) fn write_sinks(self, memory: &[u32], space: &mut [u32])
+        requires memory_value { M.reactor memory.now M.main_at ≡ B.main_of self.program.now }
+        requires program_in_bounds { let p = self.program.now in
             2 * L.sink_count p (B.main_of p) ≤ length space.old }
-        ensures { space.new ≡ E.sunk self.now.program.now memory.now space.old }
+        ensures { space.new ≡ E.sunk self.entry.program.now memory.now space.old }
     {
         let n = fact(self.facts, main_of(self.program) as u32).sink_count();
         for x in 0..n {

@@ -31,8 +31,8 @@ fn has_cell(program: &[u8], counts: Counts) -> bool
 
 impl Accepted<'_> {
     // Whether some reactor has a cell.
-    pub(crate) fn has_cells(&self) -> bool
-        ensures { result ≡ has_cells self.now.program.now }
+    pub(crate) fn has_cells(self) -> bool
+        ensures { result ≡ has_cells self.entry.program.now }
     {
         for r in 0..reactors(self.program) as u32 {
             if has_cell(self.program, fact(self.facts, r)) {
@@ -88,7 +88,7 @@ impl Change for Keep {
 
     ghost makes = { λ self p m o. Cells.keep_one p m o };
 
-    fn change(&self, accepted: &Accepted, memory: &mut [u32], o: u32) {
+    fn change(&self, accepted: Accepted<'_>, memory: &mut [u32], o: u32) {
         let counts = counts_at(accepted.facts, memory, o);
         if has_cell(accepted.program, counts) {
             keep_each(accepted.program, memory, counts, o);

@@ -17,21 +17,21 @@ pub(crate) trait Change {
     // what it makes of a program's words, at a deployment
     ghost makes: { Self → List ℕ → List ℕ → ℕ → List ℕ };
 
-    fn change(&self, accepted: &Accepted, memory: &mut [u32], o: u32)
-        requires suited { suits self.now accepted.now.program.now }
-        requires o_bound { M.reactor memory.old o < B.reactors accepted.now.program.now }
-        requires o_in_bounds { o + M.size_at accepted.now.program.now memory.old o ≤ length memory.old }
-        ensures is { memory.new ≡ makes self.now accepted.now.program.now memory.old o }
-        ensures local { Local accepted.now.program.now memory.old o memory.new };
+    fn change(&self, accepted: Accepted<'_>, memory: &mut [u32], o: u32)
+        requires suited { suits self.now accepted.program.now }
+        requires o_bound { M.reactor memory.old o < B.reactors accepted.program.now }
+        requires o_in_bounds { o + M.size_at accepted.program.now memory.old o ≤ length memory.old }
+        ensures is { memory.new ≡ makes self.now accepted.entry.program.now memory.old o }
+        ensures local { Local accepted.entry.program.now memory.old o memory.new };
 }
 
 impl Accepted<'_> {
     // The change of all of them. Each kind has a loop of its own, which stays out of the turn's other code.
     #[inline(never)]
-    pub(crate) fn pass_over<C: Change>(&self, change: &C, memory: &mut [u32], u: u32)
-        requires tiling { Tiling self.now.program.now memory.old u M.main_at }
-        requires suited { C.suits change.now self.now.program.now }
-        ensures { let p = self.now.program.now in let m = memory.old in
+    pub(crate) fn pass_over<C: Change>(self, change: &C, memory: &mut [u32], u: u32)
+        requires tiling { Tiling self.program.now memory.old u M.main_at }
+        requires suited { C.suits change.now self.program.now }
+        ensures { let p = self.entry.program.now in let m = memory.old in
             memory.new ≡ P.over (C.makes change.now p) m (M.starts_below p m u) }
     {
         let mut a = MAIN_AT;

@@ -18,11 +18,11 @@ use program::{Counts, bytes_within, fact};
 
 impl Accepted<'_> {
     // Carries out the D commands of the deployment at o, by the facts of its reactor.
-    fn wire(&self, memory: &mut [u32], counts: Counts, h: u8, o: u32) -> Result<(), Refusal>
-        requires o_bound { M.reactor memory.old o < B.reactors self.now.program.now }
-        requires tells { Tells self.now.program.now (M.reactor memory.old o) counts.word }
+    fn wire(self, memory: &mut [u32], counts: Counts, h: u8, o: u32) -> Result<(), Refusal>
+        requires o_bound { M.reactor memory.old o < B.reactors self.program.now }
+        requires tells { Tells self.program.now (M.reactor memory.old o) counts.word }
         requires workable { Workable memory.old }
-        ensures { let p = self.now.program.now in let m = memory.old in
+        ensures { let p = self.entry.program.now in let m = memory.old in
             ((rd : List ℕ) (f : ℕ) → Steady p rd (suc f) h m o → M.wired m o ≡ 0
             → Declared p rd f h o m result memory.new) }
     {
@@ -38,11 +38,11 @@ impl Accepted<'_> {
     }
 
     // Carries them out where that is still to be done.
-    fn enter(&self, memory: &mut [u32], counts: Counts, h: u8, o: u32) -> Result<(), Refusal>
-        requires o_bound { M.reactor memory.old o < B.reactors self.now.program.now }
-        requires tells { Tells self.now.program.now (M.reactor memory.old o) counts.word }
+    fn enter(self, memory: &mut [u32], counts: Counts, h: u8, o: u32) -> Result<(), Refusal>
+        requires o_bound { M.reactor memory.old o < B.reactors self.program.now }
+        requires tells { Tells self.program.now (M.reactor memory.old o) counts.word }
         requires workable { Workable memory.old }
-        ensures { let p = self.now.program.now in let m = memory.old in
+        ensures { let p = self.entry.program.now in let m = memory.old in
             ((rd : List ℕ) (f : ℕ) → Steady p rd (suc f) h m o → Opened p rd f h o m result memory.new) }
     {
         if wired(memory, o) != 0 {
@@ -57,7 +57,7 @@ impl Accepted<'_> {
     // Runs the deployment at o, which stands at depth h, to its end. The table of places is lent to each
     // nested run, and laid again after it.
     pub(crate) fn run(
-        &self,
+        self,
         readings: &[u32],
         memory: &mut [u32],
         slots: &mut Slots,
@@ -65,8 +65,8 @@ impl Accepted<'_> {
         o: u32,
     ) -> Result<(), Refusal>
         requires workable { Workable memory.old }
-        requires steady { Steady self.now.program.now readings.now (65 - h) h memory.old o }
-        ensures { let p = self.now.program.now in let m = memory.old in let rd = readings.now in
+        requires steady { Steady self.program.now readings.now (65 - h) h memory.old o }
+        ensures { let p = self.entry.program.now in let m = memory.old in let rd = readings.now in
             ran_as result memory.new ≡ R.run_of (65 - h) p rd h m o }
     {
         let counts = fact(self.facts, reactor(memory, o));

@@ -24,26 +24,26 @@ fn zero_from(memory: &mut [u32], i: usize)
 
 impl Accepted<'_> {
     // After a refused first turn main is unwired again, its slots zero.
-    fn first_back(&self, memory: &mut [u32], u: u32)
-        ensures { memory.new ≡ U.back self.now.program.now u true memory.old }
+    fn first_back(self, memory: &mut [u32], u: u32)
+        ensures { memory.new ≡ U.back self.entry.program.now u true memory.old }
     {
         zero_from(memory, MAIN_SLOTS);
         set_wired(memory, MAIN_AT, 0)
     }
 
     // After a later one the new deployments go, and the old ones are as they were.
-    fn later_back(&self, memory: &mut [u32], u: u32)
-        requires tiling { Tiling self.now.program.now memory.old u M.main_at }
-        ensures { memory.new ≡ U.back self.now.program.now u false memory.old }
+    fn later_back(self, memory: &mut [u32], u: u32)
+        requires tiling { Tiling self.program.now memory.old u M.main_at }
+        ensures { memory.new ≡ U.back self.entry.program.now u false memory.old }
     {
         self.pass_over(&Back { u }, memory, u);
         zero_from(memory, u as usize)
     }
 
     // All words but u, after a first or a later turn.
-    fn back(&self, memory: &mut [u32], u: u32)
-        requires tiling { Tiling self.now.program.now memory.old u M.main_at }
-        ensures { let p = self.now.program.now in let m = memory.old in
+    fn back(self, memory: &mut [u32], u: u32)
+        requires tiling { Tiling self.program.now memory.old u M.main_at }
+        ensures { let p = self.entry.program.now in let m = memory.old in
             memory.new ≡ U.back p u (M.turns m =? 0) m }
     {
         if turns(memory) == 0 {
@@ -54,9 +54,9 @@ impl Accepted<'_> {
     }
 
     // The words before the turn.
-    pub(crate) fn undo(&self, memory: &mut [u32], u: u32)
-        requires tiling { Tiling self.now.program.now memory.old u M.main_at }
-        ensures { memory.new ≡ U.undo_of self.now.program.now u memory.old }
+    pub(crate) fn undo(self, memory: &mut [u32], u: u32)
+        requires tiling { Tiling self.program.now memory.old u M.main_at }
+        ensures { memory.new ≡ U.undo_of self.entry.program.now u memory.old }
     {
         self.back(memory, u);
         set_used(memory, u)

@@ -16,7 +16,7 @@ enter-requires t c = let at_reactor = c.reactor in
     let pre = c.requires in
     let deep = not_deep _ _ _ _ _ pre.steady in
     let low = legal _ _ _ _ _ _ pre.workable (steady_below _ _ _ _ _ deep pre.steady) in
-    record { o_bound = low; tells = told c.args.self.now.loaded at_reactor.ensures low c.fact-counts.ensures.known; workable = pre.workable }
+    record { o_bound = low; tells = told c.args.self.loaded at_reactor.ensures low c.fact-counts.ensures.known; workable = pre.workable }
 
 pub returns-in_err-enter : goal.returns-in_err-enter
 returns-in_err-enter t c =
@@ -28,10 +28,10 @@ overflow_cast-first t c = let at_enter = c.enter in
     let at_fact = c.fact-counts in
     let at_reactor = c.reactor in
     let pre = c.requires in
-    let b = begun _ _ _ _ _ _ _ _ c.args.self.now.loaded pre.workable pre.steady refl c.in_ok-enter.ensures in
-    let tells = told c.args.self.now.loaded at_reactor.ensures b.legal at_fact.ensures.known in
+    let b = begun _ _ _ _ _ _ _ _ c.args.self.loaded pre.workable pre.steady refl c.in_ok-enter.ensures in
+    let tells = told c.args.self.loaded at_reactor.ensures b.legal at_fact.ensures.known in
     let first = c.first-first.ensures.is _ _ tells in
-    let most = c.args.self.now.loaded.short _ b.legal in
+    let most = c.args.self.loaded.short _ b.legal in
     omega arith
 
 pub lay-requires : goal.lay-requires
@@ -43,13 +43,13 @@ lay-requires t c = let at_declared = c.commands_d in
     let at_fact = c.fact-counts in
     let at_reactor = c.reactor in
     let pre = c.requires in
-    let b = begun _ _ _ _ _ _ _ _ c.args.self.now.loaded pre.workable pre.steady refl c.in_ok-enter.ensures in
-    let tells = told c.args.self.now.loaded at_reactor.ensures b.legal at_fact.ensures.known in
+    let b = begun _ _ _ _ _ _ _ _ c.args.self.loaded pre.workable pre.steady refl c.in_ok-enter.ensures in
+    let tells = told c.args.self.loaded at_reactor.ensures b.legal at_fact.ensures.known in
     let first = at_first.ensures.is _ _ tells in
     let at = at_at.ensures.is _ _ tells in
     let declared = at_declared.ensures _ _ tells in
-    let most = c.args.self.now.loaded.short _ b.legal in
-    let inside = c.args.self.now.loaded.inside _ b.legal in
+    let most = c.args.self.loaded.short _ b.legal in
+    let inside = c.args.self.loaded.inside _ b.legal in
     record { n_in_bounds = omega arith; n_bound = omega arith }
 
 pub loop-j-init : goal.loop-j-init
@@ -61,8 +61,8 @@ loop-j-init t c = let at_running = c.commands_r-end in
     let at_fact = c.fact-counts in
     let at_reactor = c.reactor in
     let pre = c.requires in
-    let b = begun _ _ _ _ _ _ _ _ c.args.self.now.loaded pre.workable pre.steady refl c.in_ok-enter.ensures in
-    let tells = told c.args.self.now.loaded at_reactor.ensures b.legal at_fact.ensures.known in
+    let b = begun _ _ _ _ _ _ _ _ c.args.self.loaded pre.workable pre.steady refl c.in_ok-enter.ensures in
+    let tells = told c.args.self.loaded at_reactor.ensures b.legal at_fact.ensures.known in
     let first = at_first.ensures.is _ _ tells in
     let at = at_at.ensures.is _ _ tells in
     let declared = at_declared.ensures _ _ tells in
@@ -79,7 +79,7 @@ pub overflow_add-first : goal.overflow_add-first
 overflow_add-first t c = let at_loop = c.loop-j in
     let pre = c.requires in
     let g = at_loop.invariant.2 in
-    let most = short _ _ _ _ _ _ _ _ _ c.args.self.now.loaded _ _ _ _ g in
+    let most = short _ _ _ _ _ _ _ _ _ c.args.self.loaded _ _ _ _ g in
     let in_loop : c.loop-j.j < c.commands_r-end.result = omega arith in
     omega arith
 
@@ -89,17 +89,17 @@ exec-requires t c = let at_after = c.after-here in
     let at_loop = c.loop-j in
     let pre = c.requires in
     let g = at_loop.invariant.2 in
-    let inside = all_inside _ _ _ _ _ _ _ _ _ c.args.self.now.loaded _ _ _ _ g in
+    let inside = all_inside _ _ _ _ _ _ _ _ _ c.args.self.loaded _ _ _ _ g in
     let in_loop : c.loop-j.j < c.commands_r-end.result = omega arith in
-    let reach = found _ _ _ _ _ _ _ _ _ c.args.self.now.loaded _ _ _ _ g in_loop _ at_after.ensures.at in
+    let reach = found _ _ _ _ _ _ _ _ _ c.args.self.loaded _ _ _ _ g in_loop _ at_after.ensures.at in
     record { at_in_bounds = omega arith; reaches = rw at_note.ensures reach; workable = g.left.workable }
 
 pub overflow_add-n : goal.overflow_add-n
 overflow_add-n t c = let at_loop = c.loop-j in
     let pre = c.requires in
     let g = at_loop.invariant.2 in
-    let most = short _ _ _ _ _ _ _ _ _ c.args.self.now.loaded _ _ _ _ g in
-    let few = counted _ _ _ _ _ _ _ _ _ c.args.self.now.loaded _ _ _ _ g in
+    let most = short _ _ _ _ _ _ _ _ _ c.args.self.loaded _ _ _ _ g in
+    let few = counted _ _ _ _ _ _ _ _ _ c.args.self.loaded _ _ _ _ g in
     let in_loop : c.loop-j.j < c.commands_r-end.result = omega arith in
     omega arith
 
@@ -111,7 +111,7 @@ run-requires t c = let at_exec = c.exec in
     let pre = c.requires in
     let g = at_loop.invariant.2 in
     let in_loop : c.loop-j.j < c.commands_r-end.result = omega arith in
-    let known = c.args.self.now.loaded in
+    let known = c.args.self.loaded in
     let code = c.in_ok-exec.ensures _ _ g.legal (here_at _ _ _ _ _ _ _ _ _ known _ _ _ _ g)
     (omega arith)
     (fits _ _ _ _ _ _ _ _ _ known _ _ _ _ g in_loop) (own _ _ _ _ _ _ _ _ _ known _ _ _ _ g in_loop _
@@ -126,8 +126,8 @@ lay-requires-in-Call t c = let at_run = c.run in
     let at_loop = c.loop-j in
     let pre = c.requires in
     let g = at_loop.invariant.2 in
-    let inside = all_inside _ _ _ _ _ _ _ _ _ c.args.self.now.loaded _ _ _ _ g in
-    let most = short _ _ _ _ _ _ _ _ _ c.args.self.now.loaded _ _ _ _ g in
+    let inside = all_inside _ _ _ _ _ _ _ _ _ c.args.self.loaded _ _ _ _ g in
+    let most = short _ _ _ _ _ _ _ _ _ c.args.self.loaded _ _ _ _ g in
     let in_loop : c.loop-j.j < c.commands_r-end.result = omega arith in
     record { n_in_bounds = omega arith; n_bound = omega arith }
 
@@ -141,7 +141,7 @@ returns-in_err-run-in-Call t c = let at_run = c.run in
     let pre = c.requires in
     let g = at_loop.invariant.2 in
     let in_loop : c.loop-j.j < c.commands_r-end.result = omega arith in
-    let known = c.args.self.now.loaded in
+    let known = c.args.self.loaded in
     let code = c.in_ok-exec.ensures _ _ g.legal (here_at _ _ _ _ _ _ _ _ _ known _ _ _ _ g)
     (omega arith)
     (fits _ _ _ _ _ _ _ _ _ known _ _ _ _ g in_loop) (own _ _ _ _ _ _ _ _ _ known _ _ _ _ g in_loop _
@@ -161,7 +161,7 @@ returns-in_err-exec t c = let at_exec = c.exec in
     let pre = c.requires in
     let g = at_loop.invariant.2 in
     let in_loop : c.loop-j.j < c.commands_r-end.result = omega arith in
-    let known = c.args.self.now.loaded in
+    let known = c.args.self.loaded in
     let code = c.in_err-exec.ensures _ _ g.legal (here_at _ _ _ _ _ _ _ _ _ known _ _ _ _ g)
     (omega arith)
     (fits _ _ _ _ _ _ _ _ _ known _ _ _ _ g in_loop) (own _ _ _ _ _ _ _ _ _ known _ _ _ _ g in_loop _
@@ -174,10 +174,10 @@ returns-in_err-exec t c = let at_exec = c.exec in
 pub returns : goal.returns
 returns t c = let at_enter = c.enter in
     let pre = c.requires in
-    let b = begun _ _ _ _ _ _ _ _ c.args.self.now.loaded pre.workable pre.steady refl c.in_ok-enter.ensures in
+    let b = begun _ _ _ _ _ _ _ _ c.args.self.loaded pre.workable pre.steady refl c.in_ok-enter.ensures in
     let g = c.loop-j.invariant.2 in
     let upto = g.upto in
-    b.ends_whole _ (whole _ _ _ _ _ _ _ _ _ c.args.self.now.loaded _ _ _ _ g (omega arith))
+    b.ends_whole _ (whole _ _ _ _ _ _ _ _ _ c.args.self.loaded _ _ _ _ g (omega arith))
 
 pub shape_of-memory-in_err-run-in-Call : goal.shape_of-memory-in_err-run-in-Call
 shape_of-memory-in_err-run-in-Call t c = let at_run = c.run in
@@ -204,7 +204,7 @@ pub loop-j-preserved : goal.loop-j-preserved
 loop-j-preserved t c = let loop = c.loop-j in
     let g = loop.invariant.2 in
     let in_loop : loop.j < c.commands_r-end.result = omega arith in
-    let known = c.args.self.now.loaded in
+    let known = c.args.self.loaded in
     let kept = c.exec.auto.memory ∙ loop.invariant.0 in
     let code = c.in_ok-exec.ensures _ _ g.legal (here_at _ _ _ _ _ _ _ _ _ known _ _ _ _ g)
     (omega arith)

@@ -6,12 +6,12 @@ use Rattle.machine.proofs.accepted.Accepted.enter.Goals as goal
 
 pub returns-then-wired-ne0 : goal.returns-then-wired-ne0
 returns-then-wired-ne0 c = let pre = c.requires in
-    λ rd f s. opened _ _ _ _ _ _ _ (c.args.self.now.loaded.some _ pre.o_bound) _ _ refl c.set_wired.ensures
+    λ rd f s. opened _ _ _ _ _ _ _ (c.args.self.loaded.some _ pre.o_bound) _ _ refl c.set_wired.ensures
     (from_d _ _ _ _ _ _ pre.workable s (λ z. c.if-wired-ne0.true (c.wired.ensures ∙ z)))
 
 pub returns : goal.returns
 returns c = let pre = c.requires in
-    λ rd f s. opened _ _ _ _ _ _ _ (c.args.self.now.loaded.some _ pre.o_bound) _ _ refl c.set_wired-2.ensures
+    λ rd f s. opened _ _ _ _ _ _ _ (c.args.self.loaded.some _ pre.o_bound) _ _ refl c.set_wired-2.ensures
     (c.in_ok-wire.ensures rd f s (sym c.wired.ensures ∙ c.if-wired-ne0.false))
 
 pub returns-in_err-wire : goal.returns-in_err-wire

@@ -135,7 +135,7 @@ returns-in-Consume c = let at_consume = c.consume in
     let t = args.slots.now.before in
     let up = subst (ReadsUpTo (command_loc _ r i)) (sym cmd) fit.reads in
     let b = at_slot2.ensures.is _ _ (reads_at _ _ t _ r _ _ fit.same placed up) in
-    rw (← cmd) (at_consume.ensures _ _ _ i _ args.self.now.loaded.facts b here (fit.consumes _ _ (sym cmd)) _)
+    rw (← cmd) (at_consume.ensures _ _ _ i _ args.self.loaded.facts b here (fit.consumes _ _ (sym cmd)) _)
 
 pub returns-in-Sink : goal.returns-in-Sink
 returns-in-Sink c = let at_sink = c.sink in
@@ -148,7 +148,7 @@ returns-in-Sink c = let at_sink = c.sink in
     let t = args.slots.now.before in
     let up = subst (ReadsUpTo (command_loc _ r i)) (sym cmd) fit.reads in
     let a = at_slot.ensures.is _ _ (reads_at _ _ t _ r _ _ fit.same placed up) in
-    rw (← cmd) (at_sink.ensures _ _ i _ args.self.now.loaded.facts (omega (arith, fit.same, lt)) a _)
+    rw (← cmd) (at_sink.ensures _ _ i _ args.self.loaded.facts (omega (arith, fit.same, lt)) a _)
 
 pub returns-in-AllocPoly : goal.returns-in-AllocPoly
 returns-in-AllocPoly c = let at_alloc_poly = c.alloc_poly in

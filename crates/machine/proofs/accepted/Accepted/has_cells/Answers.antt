@@ -18,7 +18,7 @@ returns-then-has_cell c = let at_reactors = c.reactors-r-end in
     let at_if1 = c.if-has_cell in
     let at_loop_test = c.loop-r-test in
     let at_loop = c.loop-r in
-    let known = told c.args.self.now.loaded refl (omega (arith, at_reactors.ensures)) at_fact.ensures.known in
+    let known = told c.args.self.loaded refl (omega (arith, at_reactors.ensures)) at_fact.ensures.known in
     let here = ap not (sym (at_has_cell.ensures _ known) ∙ at_if1.true) in
     let found = sweep_found _ _ _ at_loop_test.true here ∙ at_loop.invariant in
     rw (← at_reactors.ensures, ← found) (sym (lt! at_loop_test.true))
@@ -30,7 +30,7 @@ loop-r-preserved c = let at_reactors = c.reactors-r-end in
     let at_if1 = c.if-has_cell in
     let at_loop_test = c.loop-r-test in
     let at_loop = c.loop-r in
-    let known = told c.args.self.now.loaded refl (omega (arith, at_reactors.ensures)) at_fact.ensures.known in
+    let known = told c.args.self.loaded refl (omega (arith, at_reactors.ensures)) at_fact.ensures.known in
     let not-here = ap not (sym (at_has_cell.ensures _ known) ∙ at_if1.false) in
     sym (sweep_next _ _ _ at_loop_test.true not-here) ∙ at_loop.invariant
 

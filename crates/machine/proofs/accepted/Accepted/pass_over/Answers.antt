@@ -17,7 +17,7 @@ overflow_add-a g c = let at_loop = c.loop-a in
     let tiling = at_loop.invariant.1 in
     let in_loop = at_loop_test.true in
     let legal = pass_legal _ _ _ _ tiling in_loop in
-    let size = at_size.ensures.is _ _ (c.counts_at.ensures.known _ c.args.self.now.loaded.facts legal) in
+    let size = at_size.ensures.is _ _ (c.counts_at.ensures.known _ c.args.self.loaded.facts legal) in
     omega (arith, pass_within _ _ _ _ tiling in_loop _ size)
 
 pub change-requires : goal.change-requires
@@ -37,7 +37,7 @@ loop-a-smaller g c = let at_loop = c.loop-a in
     let tiling = at_loop.invariant.1 in
     let in_loop = at_loop_test.true in
     let legal = pass_legal _ _ _ _ tiling in_loop in
-    let size = at_size.ensures.is _ _ (c.counts_at.ensures.known _ c.args.self.now.loaded.facts legal) in
+    let size = at_size.ensures.is _ _ (c.counts_at.ensures.known _ c.args.self.loaded.facts legal) in
     pass_rises _ _ _ _ tiling in_loop _ size
 
 pub loop-a-preserved : goal.loop-a-preserved
@@ -51,8 +51,8 @@ loop-a-preserved g c = let at_loop = c.loop-a in
     let tiling = at_loop.invariant.1 in
     let in_loop = at_loop_test.true in
     let legal = pass_legal _ _ _ _ tiling in_loop in
-    let size = at_size.ensures.is _ _ (c.counts_at.ensures.known _ c.args.self.now.loaded.facts legal) in
-    pass_next _ _ _ _ tiling in_loop _ size (g.C.Change.makes args.change.now args.self.now.program.now) _ _ _
+    let size = at_size.ensures.is _ _ (c.counts_at.ensures.known _ c.args.self.loaded.facts legal) in
+    pass_next _ _ _ _ tiling in_loop _ size (g.C.Change.makes args.change.now args.self.program.now) _ _ _
     at_change.ensures.is (rw at_change.ensures.is at at_change.ensures.local) at_loop.invariant.0 at_loop.invariant.2
 
 pub shape_of-memory : goal.shape_of-memory

@@ -12,8 +12,8 @@ pub loop-j-init : goal.loop-j-init
 loop-j-init c = let pre = c.requires in
     let at_declared = c.commands_d-j-end in
     let args = c.args in
-    let known = c.counts_at-counts.ensures.known _ c.args.self.now.loaded.facts pre.o_bound in
-    let e : at_declared.result - 0 ≡ commands_d args.self.now.program.now (reactor args.memory.now args.o) = omega
+    let known = c.counts_at-counts.ensures.known _ c.args.self.loaded.facts pre.o_bound in
+    let e : at_declared.result - 0 ≡ commands_d args.self.program.now (reactor args.memory.now args.o) = omega
     (arith, at_declared.ensures _ _ known) in
     (refl, refl, rw e)
 
@@ -28,11 +28,11 @@ loop-j-preserved c = let pre = c.requires in
     let at_byte = c.byte-code in
     let at_slot_back = c.slot_back in
     let at_loop_test = c.loop-j-test in
-    let known = c.counts_at-counts.ensures.known _ c.args.self.now.loaded.facts pre.o_bound in
+    let known = c.counts_at-counts.ensures.known _ c.args.self.loaded.facts pre.o_bound in
     let n = at_declared.ensures _ _ known in
     let same = at_loop.invariant.1 in
     let r = reactor args.memory.now args.o in
-    let p = args.self.now.program.now in
+    let p = args.self.program.now in
     let j = at_loop.j in
     let here = slot_row p at_loop.memory args.o r j _ same (omega arith) (at_slots_d.ensures.is _ _ known) in
     let code = code_at p r j _ _ (at_at.ensures.is _ _ known) at_byte.ensures in

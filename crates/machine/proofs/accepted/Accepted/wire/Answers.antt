@@ -13,7 +13,7 @@ loop-j-init c = let pre = c.requires in
 pub bytes_within-c-requires : goal.bytes_within-c-requires
 unfolding commands_in
 bytes_within-c-requires c = let pre = c.requires in
-    let inside = c.args.self.now.loaded.inside _ pre.o_bound in
+    let inside = c.args.self.loaded.inside _ pre.o_bound in
     let at = c.at-at.ensures.is _ _ pre.tells in
     let n = c.commands_d-n.ensures _ _ pre.tells in
     omega arith
@@ -34,7 +34,7 @@ loop-j-preserved c = let pre = c.requires in
       cc,
       omega arith,
       λ rd f s z. declared_on _ _ _ _ _ _ _ _ _ _ _ _ (omega arith) (omega arith)
-          (c.in_ok-declare.ensures _ _ _ _ c.args.self.now.loaded.facts bytes (omega arith)) (c.loop-j.invariant.2 rd f s z) refl,
+          (c.in_ok-declare.ensures _ _ _ _ c.args.self.loaded.facts bytes (omega arith)) (c.loop-j.invariant.2 rd f s z) refl,
     )
 
 pub returns-in_err-declare : goal.returns-in_err-declare
@@ -46,7 +46,7 @@ returns-in_err-declare c = let pre = c.requires in
     let low : c.loop-j.j < c.commands_d-n.result = omega arith in
     rw (handed_on _ c.from_residual.ensures.1)
     (λ rd f s z. declared_off _ _ _ _ _ _ _ _ _ _ _ _ (omega arith) (omega arith)
-    (c.in_err-declare.ensures _ _ _ _ c.args.self.now.loaded.facts bytes (omega arith)) (c.loop-j.invariant.2 rd f s z)
+    (c.in_err-declare.ensures _ _ _ _ c.args.self.loaded.facts bytes (omega arith)) (c.loop-j.invariant.2 rd f s z)
     _ refl)
 
 pub returns : goal.returns

@@ -15,8 +15,8 @@ loop-x-init c = let args = c.args in
     let pre = c.requires in
     let at_main_of = c.main_of in
     let at_fact = c.fact in
-    let p = args.self.now.program.now in
-    let n = at_sinks.ensures _ _ (told c.args.self.now.loaded at_main_of.ensures c.args.self.now.loaded.main at_fact.ensures.known) in
+    let p = args.self.program.now in
+    let n = at_sinks.ensures _ _ (told c.args.self.loaded at_main_of.ensures c.args.self.loaded.main at_fact.ensures.known) in
     let e : at_sinks.result - 0 ≡ sink_count p (main_of p) = omega (arith, n) in
     (refl, rw e)
 
@@ -31,11 +31,11 @@ loop-x-preserved c = let args = c.args in
     let at_loop = c.loop-x in
     let at_pair = c.pair-v in
     let at_loop_test = c.loop-x-test in
-    let p = args.self.now.program.now in
-    let n = at_sinks.ensures _ _ (told c.args.self.now.loaded at_main_of.ensures c.args.self.now.loaded.main at_fact.ensures.known) in
+    let p = args.self.program.now in
+    let n = at_sinks.ensures _ _ (told c.args.self.loaded at_main_of.ensures c.args.self.loaded.main at_fact.ensures.known) in
     let main = pre.memory_value in
-    let low = subst (λ (r : ℕ). r < reactors p) (sym main) c.args.self.now.loaded.main in
-    let here = at_sink_index.ensures.is p c.args.self.now.loaded.facts low in
+    let low = subst (λ (r : ℕ). r < reactors p) (sym main) c.args.self.loaded.main in
+    let here = at_sink_index.ensures.is p c.args.self.loaded.facts low in
     rw at_put_pair.ensures (
       simp length-set at_loop.invariant.0,
       sinks_next _ _ _ _ _ _ _ main here at_pair.ensures at_loop_test.true

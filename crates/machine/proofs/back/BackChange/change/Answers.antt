@@ -14,6 +14,6 @@ change-requires c = let pre = c.requires in
 pub returns : goal.returns
 unfolding one_back
 returns c = let args = c.args in
-    let is : c.change.new.memory ≡ one_back args.accepted.now.program.now args.self.now.u args.memory.now args.o =
+    let is : c.change.new.memory ≡ one_back args.accepted.program.now args.self.now.u args.memory.now args.o =
     rw (← c.slots_back.ensures) c.change.ensures.is in
     record { is = is; local = rw is (local_back _ _ _ _ c.requires.o_in_bounds) }
