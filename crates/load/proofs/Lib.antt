@@ -1,3 +1,4 @@
+pub mod Codes
 pub mod Accepted
 pub mod Bits
 pub mod Found

@@ -3,6 +3,7 @@ ghost use Rattle.std.specs.Prelude.{ℕ, ◌+◌, ◌<◌, ◌≡◌, ◌≢◌,
 ghost use Rattle.value.specs.Test.{◌and◌, ◌<?◌, ◌=?◌, pick};
 ghost use Rattle.program.specs.Bytes as B;
 ghost use Rattle.program.specs.Command as C;
+ghost use Rattle.program.specs.Clauses.{row_of};
 ghost use Rattle.program.specs.Kind.{content_legal};
 ghost use Rattle.load.specs.Clauses.{told, state};
 ghost use Rattle.load.specs.Refusal.{at_command};
@@ -13,8 +14,8 @@ use crate::standing::is_ready;
 use crate::{Location, Locations, Scan};
 use answer::Refusal;
 use program::{
-    Command, byte, commands_d, content_legal, globals, reactors, shape_of, shapes, sink_count,
-    sink_kind, sink_loc, sinks_in, source_kind, sources_in,
+    Code, Command, byte, commands_d, content_legal, globals, reactors, shape_of, shapes,
+    sink_count, sink_kind, sink_loc, sinks_in, source_kind, sources_in,
 };
 use value::{is_primitive, is_withdrawn, kinds_fit, operands};
 
@@ -38,39 +39,36 @@ fn primitive_formed(program: &[u8], c: Command) -> bool
 }
 
 // 3: x in its range, a legal content, and zero in each byte that the command has no use for.
-pub(crate) fn formed(program: &[u8], c: Command) -> bool
-    ensures { result ≡ S.formed program.now c (C.decode c) }
+fn formed(program: &[u8], c: Command, code: Code) -> bool
+    ensures { result ≡ S.formed program.now c (row_of code c) }
 {
     let x = c.x as u64;
     let a = c.a as u64;
     let b = c.b as u64;
     let v = c.v() as u64;
-    match c.code {
-        Command::ALLOC_MONO => (a + b + v == 0) & (c.x < reactors(program)),
-        Command::MAKE_POLY => (a + b + v == 0) & (c.x < shapes(program)),
-        Command::CONSTANT => content_formed(program, c, (c.x as u16) < 2 + shapes(program) as u16),
-        Command::GLOBAL => (a + b + v == 0) & (c.x <= globals(program)),
-        Command::SUPPLY => v == 0,
-        Command::REACT => x + a + v == 0,
-        Command::CONSUME => a + v == 0,
-        Command::SINK => b + v == 0,
-        Command::ALLOC_POLY => x + v == 0,
-        Command::PRIMITIVE => primitive_formed(program, c),
-        Command::CELL => content_formed(program, c, c.x <= 1),
-        Command::FETCH => x + a + v == 0,
-        Command::KEEP => x + v == 0,
-        _ => false,
+    match code {
+        Code::AllocMono => (a + b + v == 0) & (c.x < reactors(program)),
+        Code::MakePoly => (a + b + v == 0) & (c.x < shapes(program)),
+        Code::Constant => content_formed(program, c, (c.x as u16) < 2 + shapes(program) as u16),
+        Code::Global => (a + b + v == 0) & (c.x <= globals(program)),
+        Code::Supply => v == 0,
+        Code::React => x + a + v == 0,
+        Code::Consume => a + v == 0,
+        Code::Sink => b + v == 0,
+        Code::AllocPoly => x + v == 0,
+        Code::Primitive => primitive_formed(program, c),
+        Code::Cell => content_formed(program, c, c.x <= 1),
+        Code::Fetch => x + a + v == 0,
+        Code::Keep => x + v == 0,
     }
 }
 
 // 25: no primitive that is withdrawn.
-pub(crate) fn remaining(c: Command) -> bool
-    ensures { result ≡ S.remaining (C.decode c) }
+#[tactic(auto, unfolding(crate::specs::Scan::remaining))]
+fn remaining(c: Command, code: Code) -> bool
+    ensures { result ≡ S.remaining (row_of code c) }
 {
-    if c.code != Command::PRIMITIVE {
-        return true;
-    }
-    !is_withdrawn(c.x)
+    code != Code::Primitive || !is_withdrawn(c.x)
 }
 
 // The refusal w, unless all is well.
@@ -83,17 +81,16 @@ fn unless(ok: bool, w: Refusal) -> Result<(), Refusal>
 // The tests are of any program and reactor, so that they go by these two, as the definitions do, and by no Known.
 impl Scan {
     // 3: AllocMono, MakePoly and Cell among the D commands, the others among the R commands.
-    pub(crate) fn in_sequence(&self, program: &[u8], r: u8, c: Command) -> bool
+    fn in_sequence(&self, program: &[u8], r: u8, code: Code) -> bool
         ensures { let p = program.now in
-            result ≡ S.in_sequence (C.sequence_of (C.decode c)) (self.now.next <? B.commands_d p r) }
+            ((c : Command) → result ≡ S.in_sequence (C.sequence_of (row_of code c)) (self.now.next <? B.commands_d p r)) }
     {
         let in_d = self.next < commands_d(program, r as u32);
-        match c.code {
-            Command::ALLOC_MONO..=Command::MAKE_POLY => in_d,
-            Command::CONSTANT..=Command::PRIMITIVE => !in_d,
-            Command::CELL => in_d,
-            Command::FETCH..=Command::KEEP => !in_d,
-            _ => false,
+        match code {
+            Code::AllocMono => in_d,
+            Code::MakePoly => in_d,
+            Code::Cell => in_d,
+            _ => !in_d,
         }
     }
 
@@ -106,17 +103,18 @@ impl Scan {
     }
 
     // 4: each operand names a location of the kind of thing that it must be, and an earlier one.
-    pub(crate) fn located(&self, c: Command) -> bool
-        ensures { result ≡ S.located self.now (C.decode c) }
+    fn located(&self, c: Command, code: Code) -> bool
+        ensures { result ≡ S.located self.now (row_of code c) }
     {
-        match c.code {
-            Command::SUPPLY => self.is_value(c.a) & self.is_deployment(c.b),
-            Command::REACT..=Command::CONSUME => self.is_deployment(c.b),
-            Command::SINK => self.is_value(c.a),
-            Command::ALLOC_POLY => self.is_value(c.a) & self.is_point(c.b),
-            Command::PRIMITIVE => self.operands_located(c),
-            Command::FETCH => self.is_cell(c.b),
-            Command::KEEP => self.is_value(c.a) & self.is_cell(c.b),
+        match code {
+            Code::Supply => self.is_value(c.a) & self.is_deployment(c.b),
+            Code::React => self.is_deployment(c.b),
+            Code::Consume => self.is_deployment(c.b),
+            Code::Sink => self.is_value(c.a),
+            Code::AllocPoly => self.is_value(c.a) & self.is_point(c.b),
+            Code::Primitive => self.operands_located(c),
+            Code::Fetch => self.is_cell(c.b),
+            Code::Keep => self.is_value(c.a) & self.is_cell(c.b),
             _ => true,
         }
     }
@@ -158,16 +156,16 @@ impl Scan {
     }
 
     // 5: ports exist, and kinds agree.
-    pub(crate) fn agreed(&self, program: &[u8], r: u8, c: Command) -> bool
-        ensures { result ≡ S.agreed program.now r self.now (C.decode c) }
+    fn agreed(&self, program: &[u8], r: u8, c: Command, code: Code) -> bool
+        ensures { result ≡ S.agreed program.now r self.now (row_of code c) }
     {
-        match c.code {
-            Command::SUPPLY => self.source_agreed(program, c),
-            Command::CONSUME => self.port_agreed(program, c),
-            Command::SINK => self.sink_agreed(program, r, c),
-            Command::ALLOC_POLY => { self.kind_at(c.a) as u16 == 2 + self.kind_at(c.b) as u16 }
-            Command::PRIMITIVE => self.operands_agreed(c),
-            Command::KEEP => self.kind_at(c.a) == self.kind_at(c.b),
+        match code {
+            Code::Supply => self.source_agreed(program, c),
+            Code::Consume => self.port_agreed(program, c),
+            Code::Sink => self.sink_agreed(program, r, c),
+            Code::AllocPoly => { self.kind_at(c.a) as u16 == 2 + self.kind_at(c.b) as u16 }
+            Code::Primitive => self.operands_agreed(c),
+            Code::Keep => self.kind_at(c.a) == self.kind_at(c.b),
             _ => true,
         }
     }
@@ -203,29 +201,30 @@ impl Scan {
     }
 
     // 6 set twice, 19 too early, 20 too late, 21 AllocMono of a reactor that is not lower.
-    pub(crate) fn disorder(
+    fn disorder(
         &self,
         program: &[u8],
         r: u8,
         c: Command,
+        code: Code,
         at: usize,
     ) -> Result<(), Refusal>
-        ensures { result ≡ told (S.disorder program.now r self.now (C.decode c)) at }
+        ensures { result ≡ told (S.disorder program.now r self.now (row_of code c)) at }
     {
-        match c.code {
-            Command::ALLOC_MONO => unless(c.x < r, Refusal::NotLower(at)),
-            Command::SUPPLY => self.supply_disorder(c, at),
-            Command::REACT => self.react_disorder(program, c, at),
-            Command::CONSUME => unless(
+        match code {
+            Code::AllocMono => unless(c.x < r, Refusal::NotLower(at)),
+            Code::Supply => self.supply_disorder(c, at),
+            Code::React => self.react_disorder(program, c, at),
+            Code::Consume => unless(
                 self.standing_at(c.b) == Location::REACTED,
                 Refusal::TooEarly(at),
             ),
-            Command::SINK => self.sink_disorder(program, r, c, at),
-            Command::ALLOC_POLY => unless(
+            Code::Sink => self.sink_disorder(program, r, c, at),
+            Code::AllocPoly => unless(
                 self.standing_at(c.b) == Location::FREE_POINT,
                 Refusal::TooLate(at),
             ),
-            Command::KEEP => unless(
+            Code::Keep => unless(
                 self.standing_at(c.b) == Location::FREE_CELL,
                 Refusal::TooLate(at),
             ),
@@ -238,12 +237,15 @@ impl Scan {
     pub(crate) fn refuse(&self, program: &[u8], r: u8, c: Command, at: usize) -> Result<(), Refusal>
         ensures { result ≡ told (S.refusal_of program.now r self.now c (C.decode c)) at }
     {
-        let formed = self.in_sequence(program, r, c) & formed(program, c);
+        let Ok(code) = Code::try_from(c.code) else {
+            return Err(Refusal::Command(at));
+        };
+        let formed = self.in_sequence(program, r, code) & formed(program, c, code);
         unless(formed, Refusal::Command(at))?;
-        unless(remaining(c), Refusal::Withdrawn(at))?;
-        unless(self.located(c), Refusal::Operand(at))?;
-        unless(self.agreed(program, r, c), Refusal::PortOrKind(at))?;
-        self.disorder(program, r, c, at)
+        unless(remaining(c, code), Refusal::Withdrawn(at))?;
+        unless(self.located(c, code), Refusal::Operand(at))?;
+        unless(self.agreed(program, r, c, code), Refusal::PortOrKind(at))?;
+        self.disorder(program, r, c, code, at)
     }
 }
 

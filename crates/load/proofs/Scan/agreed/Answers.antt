@@ -1,52 +1,47 @@
+use Rattle.program.specs.declared.commands.Code.{Code}
+use Rattle.program.specs.Clauses.{row_of}
+use Rattle.load.proofs.Codes.{by_name}
 use Rattle.std.specs.Prelude.{ℕ, ◌+◌, ◌≡◌, refl, true}
-use Rattle.std.proofs.Common.{ap, arith}
+use Rattle.std.proofs.Common.{ap}
 use Rattle.load.specs.Scan.{agreed}
-use Rattle.program.proofs.Decode.{as_consume, as_keep, as_poly, as_primitive, as_sink, as_supply, by_code}
-use Rattle.program.specs.Command.{Cmd}
 use Rattle.value.proofs.Tests.{same_eq}
 use Rattle.load.proofs.Scan.agreed.Goals as goal
 
-pub returns-in-5 : goal.returns-in-5
+pub returns-in-Supply : goal.returns-in-Supply
 unfolding agreed
-returns-in-5 c = let args = c.args in
-    as_supply (agreed (args.program.now) args.r args.self.now) args.c (omega arith)
-    (c.source_agreed.ensures args.r)
+returns-in-Supply c = let args = c.args in
+    rw c.in-Supply.is (c.source_agreed.ensures args.r)
 
-pub returns-in-7 : goal.returns-in-7
+pub returns-in-Consume : goal.returns-in-Consume
 unfolding agreed
-returns-in-7 c = let args = c.args in
-    as_consume (agreed (args.program.now) args.r args.self.now) args.c (omega arith)
-    (c.port_agreed.ensures args.r)
+returns-in-Consume c = let args = c.args in
+    rw c.in-Consume.is (c.port_agreed.ensures args.r)
 
-pub returns-in-8 : goal.returns-in-8
+pub returns-in-Sink : goal.returns-in-Sink
 unfolding agreed
-returns-in-8 c = let args = c.args in
-    as_sink (agreed (args.program.now) args.r args.self.now) args.c (omega arith)
-    c.sink_agreed.ensures
+returns-in-Sink c = let args = c.args in
+    rw c.in-Sink.is c.sink_agreed.ensures
 
-pub returns-in-9 : goal.returns-in-9
+pub returns-in-AllocPoly : goal.returns-in-AllocPoly
 unfolding agreed
-returns-in-9 c = let args = c.args in
-    as_poly (agreed (args.program.now) args.r args.self.now) args.c (omega arith)
-    (same_eq c.kind_at.ensures (ap (λ (k : ℕ). 2 + k) c.kind_at-in-9.ensures))
+returns-in-AllocPoly c = let args = c.args in
+    rw c.in-AllocPoly.is (same_eq c.kind_at.ensures (ap (λ (k : ℕ). 2 + k) c.kind_at-in-AllocPoly.ensures))
 
-pub returns-in-10 : goal.returns-in-10
+pub returns-in-Primitive : goal.returns-in-Primitive
 unfolding agreed
-returns-in-10 c = let args = c.args in
-    as_primitive (agreed (args.program.now) args.r args.self.now) args.c (omega arith)
-    (c.operands_agreed.ensures (args.program.now) args.r)
+returns-in-Primitive c = let args = c.args in
+    rw c.in-Primitive.is (c.operands_agreed.ensures (args.program.now) args.r)
 
-pub returns-in-13 : goal.returns-in-13
+pub returns-in-Keep : goal.returns-in-Keep
 unfolding agreed
-returns-in-13 c = let args = c.args in
-    as_keep (agreed (args.program.now) args.r args.self.now) args.c (omega arith)
-    (same_eq c.kind_at-in-13.ensures c.kind_at-in-13-2.ensures)
+returns-in-Keep c = let args = c.args in
+    rw c.in-Keep.is (same_eq c.kind_at-in-Keep.ensures c.kind_at-in-Keep-2.ensures)
 
 pub returns-in_default : goal.returns-in_default
 unfolding agreed
 returns-in_default c = let args = c.args in
-    by_code (λ (d : Cmd). true ≡ agreed (args.program.now) args.r args.self.now d) args.c
-    (λ e. refl) (λ e. refl) (λ e. refl) (λ e. refl) (λ e. absurd (c.in_default.in_default-own.rest.0.0.0.0.0.1 e))
-    (λ e. refl) (λ e. absurd (c.in_default.in_default-own.rest.0.0.0.0.1 e)) (λ e. absurd (c.in_default.in_default-own.rest.0.0.0.1 e))
-    (λ e. absurd (c.in_default.in_default-own.rest.0.0.1 e)) (λ e. absurd (c.in_default.in_default-own.rest.0.1 e)) (λ e. refl) (λ e. refl)
-    (λ e. absurd (c.in_default.in_default-own.rest.1 e)) (λ e. refl)
+    by_name (λ (k : Code). true ≡ agreed args.program.now args.r args.self.now (row_of k args.c)) args.code
+    (λ e. refl) (λ e. refl) (λ e. refl) (λ e. refl) (λ e. absurd (c.in_default.not-Supply e)) (λ e. refl)
+    (λ e. absurd (c.in_default.not-Consume e)) (λ e. absurd (c.in_default.not-Sink e))
+    (λ e. absurd (c.in_default.not-AllocPoly e)) (λ e. absurd (c.in_default.not-Primitive e)) (λ e. refl) (λ e. refl)
+    (λ e. absurd (c.in_default.not-Keep e))

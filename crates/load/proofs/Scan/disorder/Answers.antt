@@ -1,62 +1,54 @@
+use Rattle.program.specs.declared.commands.Code.{Code}
+use Rattle.program.specs.Clauses.{row_of}
+use Rattle.load.proofs.Codes.{by_name}
 use Rattle.load.proofs.Told.{not_lower, told_fine, told_last, too_early, too_late}
 use Rattle.load.specs.Clauses.{told}
 use Rattle.load.specs.Scan.{disorder}
-use Rattle.program.proofs.Decode.{as_consume, as_keep, as_mono, as_poly, as_react, as_sink, as_supply, by_code}
-use Rattle.program.specs.Command.{Cmd}
 use Rattle.value.proofs.Tests.{same_eq, same_lt}
 use Rattle.std.specs.Prelude.{◌≡◌, refl, Ok}
-use Rattle.std.proofs.Common.{arith}
 use Rattle.load.proofs.Scan.disorder.Goals as goal
 
-pub returns-in-1 : goal.returns-in-1
+pub returns-in-AllocMono : goal.returns-in-AllocMono
 unfolding disorder
-returns-in-1 c = let args = c.args in
-    as_mono (λ (d : Cmd). told (disorder args.program.now args.r args.self.now d) args.at) args.c (omega arith)
-    (told_last (not_lower args.at) _ _ (same_lt refl refl) c.unless.ensures)
+returns-in-AllocMono c = let args = c.args in
+    rw c.in-AllocMono.is (told_last (not_lower args.at) _ _ (same_lt refl refl) c.unless.ensures)
 
-pub returns-in-5 : goal.returns-in-5
+pub returns-in-Supply : goal.returns-in-Supply
 unfolding disorder
-returns-in-5 c = let args = c.args in
-    as_supply (λ (d : Cmd). told (disorder args.program.now args.r args.self.now d) args.at) args.c (omega arith)
-    (c.supply_disorder.ensures args.program.now args.r)
+returns-in-Supply c = let args = c.args in
+    rw c.in-Supply.is (c.supply_disorder.ensures args.program.now args.r)
 
-pub returns-in-6 : goal.returns-in-6
+pub returns-in-React : goal.returns-in-React
 unfolding disorder
-returns-in-6 c = let args = c.args in
-    as_react (λ (d : Cmd). told (disorder args.program.now args.r args.self.now d) args.at) args.c (omega arith)
-    (c.react_disorder.ensures args.r)
+returns-in-React c = let args = c.args in
+    rw c.in-React.is (c.react_disorder.ensures args.r)
 
-pub returns-in-7 : goal.returns-in-7
+pub returns-in-Consume : goal.returns-in-Consume
 unfolding disorder
-returns-in-7 c = let args = c.args in
-    as_consume (λ (d : Cmd). told (disorder args.program.now args.r args.self.now d) args.at) args.c (omega arith)
-    (told_last (too_early args.at) _ _ (same_eq c.standing_at.ensures refl) c.unless-in-7.ensures)
+returns-in-Consume c = let args = c.args in
+    rw c.in-Consume.is (told_last (too_early args.at) _ _ (same_eq c.standing_at.ensures refl) c.unless-in-Consume.ensures)
 
-pub returns-in-8 : goal.returns-in-8
+pub returns-in-Sink : goal.returns-in-Sink
 unfolding disorder
-returns-in-8 c = let args = c.args in
-    as_sink (λ (d : Cmd). told (disorder args.program.now args.r args.self.now d) args.at) args.c (omega arith)
-    (c.sink_disorder.ensures)
+returns-in-Sink c = let args = c.args in
+    rw c.in-Sink.is (c.sink_disorder.ensures)
 
-pub returns-in-9 : goal.returns-in-9
+pub returns-in-AllocPoly : goal.returns-in-AllocPoly
 unfolding disorder
-returns-in-9 c = let args = c.args in
-    as_poly (λ (d : Cmd). told (disorder args.program.now args.r args.self.now d) args.at) args.c (omega arith)
-    (told_last (too_late args.at) _ _ (same_eq c.standing_at-in-9.ensures refl) c.unless-in-9.ensures)
+returns-in-AllocPoly c = let args = c.args in
+    rw c.in-AllocPoly.is (told_last (too_late args.at) _ _ (same_eq c.standing_at-in-AllocPoly.ensures refl) c.unless-in-AllocPoly.ensures)
 
-pub returns-in-13 : goal.returns-in-13
+pub returns-in-Keep : goal.returns-in-Keep
 unfolding disorder
-returns-in-13 c = let args = c.args in
-    as_keep (λ (d : Cmd). told (disorder args.program.now args.r args.self.now d) args.at) args.c (omega arith)
-    (told_last (too_late args.at) _ _ (same_eq c.standing_at-in-13.ensures refl) c.unless-in-13.ensures)
+returns-in-Keep c = let args = c.args in
+    rw c.in-Keep.is (told_last (too_late args.at) _ _ (same_eq c.standing_at-in-Keep.ensures refl) c.unless-in-Keep.ensures)
 
 pub returns-in_default : goal.returns-in_default
 unfolding disorder
 returns-in_default c = let args = c.args in
-    let m = c.in_default.in_default-own.rest in
-    by_code (λ (d : Cmd). Ok tt ≡ told (disorder args.program.now args.r args.self.now d) args.at) args.c
-    (λ e. absurd (m.0.0.0.0.0.0.1 e)) (λ e. told_fine _) (λ e. told_fine _) (λ e. told_fine _)
-    (λ e. absurd (m.0.0.0.0.0.1 e)) (λ e. absurd (m.0.0.0.0.1 e))
-    (λ e. absurd (m.0.0.0.1 e)) (λ e. absurd (m.0.0.1 e))
-    (λ e. absurd (m.0.1 e)) (λ e. told_fine _) (λ e. told_fine _) (λ e. told_fine _)
-    (λ e. absurd (m.1 e)) (λ e. told_fine _)
+    by_name (λ (k : Code). Ok tt ≡ told (disorder args.program.now args.r args.self.now (row_of k args.c)) args.at) args.code
+    (λ e. absurd (c.in_default.not-AllocMono e)) (λ e. told_fine _) (λ e. told_fine _) (λ e. told_fine _)
+    (λ e. absurd (c.in_default.not-Supply e)) (λ e. absurd (c.in_default.not-React e))
+    (λ e. absurd (c.in_default.not-Consume e)) (λ e. absurd (c.in_default.not-Sink e))
+    (λ e. absurd (c.in_default.not-AllocPoly e)) (λ e. told_fine _) (λ e. told_fine _) (λ e. told_fine _)
+    (λ e. absurd (c.in_default.not-Keep e))

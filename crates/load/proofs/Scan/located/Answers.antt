@@ -1,70 +1,55 @@
-use Rattle.std.specs.Prelude.{◌<◌, ◌≡◌, refl, true}
-use Rattle.std.proofs.Common.{⊎_elim, arith}
+use Rattle.program.specs.declared.commands.Code.{Code}
+use Rattle.program.specs.Clauses.{row_of}
+use Rattle.load.proofs.Codes.{by_name}
+use Rattle.std.specs.Prelude.{◌≡◌, refl, true}
 use Rattle.load.specs.Scan.{located}
-use Rattle.program.proofs.Decode.{as_fetch, as_keep, as_poly, as_primitive, as_sink, as_supply, by_code}
-use Rattle.program.specs.Command.{Cmd}
 use Rattle.value.proofs.Tests.{same_and}
 use Rattle.load.proofs.Scan.located.Goals as goal
 
-pub returns-in-5 : goal.returns-in-5
+pub returns-in-Supply : goal.returns-in-Supply
 unfolding located
-returns-in-5 c = let args = c.args in
-    as_supply (located args.self.now) args.c (omega arith)
-    (same_and c.is_value.ensures c.is_deployment.ensures)
+returns-in-Supply c = let args = c.args in
+    rw c.in-Supply.is (same_and c.is_value.ensures c.is_deployment.ensures)
 
-pub returns-in-8 : goal.returns-in-8
+pub returns-in-Sink : goal.returns-in-Sink
 unfolding located
-returns-in-8 c = let args = c.args in
-    as_sink (located args.self.now) args.c (omega arith) c.is_value-in-8.ensures
+returns-in-Sink c = let args = c.args in
+    rw c.in-Sink.is c.is_value-in-Sink.ensures
 
-pub returns-in-9 : goal.returns-in-9
+pub returns-in-AllocPoly : goal.returns-in-AllocPoly
 unfolding located
-returns-in-9 c = let args = c.args in
-    as_poly (located args.self.now) args.c (omega arith)
-    (same_and c.is_value-in-9.ensures c.is_point.ensures)
+returns-in-AllocPoly c = let args = c.args in
+    rw c.in-AllocPoly.is (same_and c.is_value-in-AllocPoly.ensures c.is_point.ensures)
 
-pub returns-in-10 : goal.returns-in-10
+pub returns-in-Primitive : goal.returns-in-Primitive
 unfolding located
-returns-in-10 c = let args = c.args in
-    as_primitive (located args.self.now) args.c (omega arith) c.operands_located.ensures
+returns-in-Primitive c = let args = c.args in
+    rw c.in-Primitive.is c.operands_located.ensures
 
-pub returns-in-12 : goal.returns-in-12
+pub returns-in-Fetch : goal.returns-in-Fetch
 unfolding located
-returns-in-12 c = let args = c.args in
-    as_fetch (located args.self.now) args.c (omega arith) c.is_cell.ensures
+returns-in-Fetch c = let args = c.args in
+    rw c.in-Fetch.is c.is_cell.ensures
 
-pub returns-in-13 : goal.returns-in-13
+pub returns-in-Keep : goal.returns-in-Keep
 unfolding located
-returns-in-13 c = let args = c.args in
-    as_keep (located args.self.now) args.c (omega arith)
-    (same_and c.is_value-in-13.ensures c.is_cell-in-13.ensures)
+returns-in-Keep c = let args = c.args in
+    rw c.in-Keep.is (same_and c.is_value-in-Keep.ensures c.is_cell-in-Keep.ensures)
 
-pub returns-in-6-to-7 : goal.returns-in-6-to-7
+pub returns-in-React : goal.returns-in-React
 unfolding located
-returns-in-6-to-7 c = let args = c.args in
-    by_code (λ (d : Cmd). c.is_deployment-in-6-to-7.result ≡ located args.self.now d) args.c
-    (λ e. absurd (omega arith)) (λ e. absurd (omega arith)) (λ e. absurd (omega arith))
-    (λ e. absurd (omega arith)) (λ e. absurd (omega arith)) (λ e. c.is_deployment-in-6-to-7.ensures)
-    (λ e. c.is_deployment-in-6-to-7.ensures) (λ e. absurd (omega arith)) (λ e. absurd (omega arith))
-    (λ e. absurd (omega arith)) (λ e. absurd (omega arith)) (λ e. absurd (omega arith))
-    (λ e. absurd (omega arith))
-    (λ w. absurd (⊎_elim (λ (q : _ < 1). omega arith) (λ (q : 13 < _). omega arith) w))
+returns-in-React c = rw c.in-React.is c.is_deployment-in-React.ensures
+
+pub returns-in-Consume : goal.returns-in-Consume
+unfolding located
+returns-in-Consume c = rw c.in-Consume.is c.is_deployment-in-Consume.ensures
 
 pub returns-in_default : goal.returns-in_default
 unfolding located
 returns-in_default c = let args = c.args in
-    by_code (λ (d : Cmd). true ≡ located args.self.now d) args.c
-    (λ e. refl) (λ e. refl) (λ e. refl) (λ e. refl) (λ e. absurd (omega arith)) (λ e. absurd (omega arith))
-    (λ e. absurd (omega arith)) (λ e. absurd (omega arith)) (λ e. absurd (omega arith))
-    (λ e. absurd (omega arith)) (λ e. absurd (omega arith)) (λ e. absurd (omega arith))
-    (λ e. absurd (omega arith)) (λ e. refl)
-
-pub returns-in_default-2 : goal.returns-in_default-2
-unfolding located
-returns-in_default-2 c = let args = c.args in
-    by_code (λ (d : Cmd). true ≡ located args.self.now d) args.c
-    (λ e. absurd (omega arith)) (λ e. absurd (omega arith)) (λ e. absurd (omega arith))
-    (λ e. absurd (omega arith)) (λ e. absurd (omega arith)) (λ e. absurd (omega arith))
-    (λ e. absurd (omega arith)) (λ e. absurd (c.in_default.in_default-own.rest.0.0.0.0.1 e))
-    (λ e. absurd (c.in_default.in_default-own.rest.0.0.0.1 e)) (λ e. absurd (c.in_default.in_default-own.rest.0.0.1 e)) (λ e. refl)
-    (λ e. absurd (c.in_default.in_default-own.rest.0.1 e)) (λ e. absurd (c.in_default.in_default-own.rest.1 e)) (λ e. refl)
+    by_name (λ (k : Code). true ≡ located args.self.now (row_of k args.c)) args.code
+    (λ e. refl) (λ e. refl) (λ e. refl) (λ e. refl) (λ e. absurd (c.in_default.not-Supply e))
+    (λ e. absurd (c.in_default.not-React e)) (λ e. absurd (c.in_default.not-Consume e))
+    (λ e. absurd (c.in_default.not-Sink e)) (λ e. absurd (c.in_default.not-AllocPoly e))
+    (λ e. absurd (c.in_default.not-Primitive e)) (λ e. refl) (λ e. absurd (c.in_default.not-Fetch e))
+    (λ e. absurd (c.in_default.not-Keep e))
