@@ -53,6 +53,7 @@ fn slot_back(program: &[u8], memory: &mut [u32], u: u32, code: u8, i: usize)
         ((o l : ℕ) (c : Command) → c.code ≡ code → i ≡ M.slot p m o l
         → memory.new ≡ U.slot_back p u m o l (C.made_by (C.decode c))) }
 {
+    // one byte, held against one name: plainer than its conversion with an arm for the rest
     if code == Command::MAKE_POLY {
         point_back(program, memory, u, i);
     }

@@ -22,6 +22,7 @@ fn has_cell(program: &[u8], counts: Counts) -> bool
 {
     let at = counts.at() as usize;
     for j in 0..counts.commands_d() as usize {
+        // one byte, held against one name: plainer than its conversion with an arm for the rest
         if byte(program, at + 8 * j) == Command::CELL {
             return true;
         }
@@ -73,6 +74,7 @@ fn keep_each(program: &[u8], memory: &mut [u32], counts: Counts, o: u32)
         let c = bytes_within(program, at + 8 * j);
         let here = next;
         next += 2 * (result_of(c.code) as usize);
+        // as in `has_cell`
         if c.code == Command::KEEP {
             fill(memory, here, o as usize + SLOTS_AT + 2 * (c.b as usize));
         }
