@@ -11,7 +11,7 @@ use Rattle.haai.specs.Places.{Roomy}
 use Rattle.haai.specs.declared.Size.{Size}
 use Rattle.haai.specs.declared.Application.{Application}
 use Rattle.haai.specs.declared.Knowing.{Knowing}
-use Rattle.haai.specs.Word.{among, same_word, taken_words, time_word}
+use Rattle.haai.specs.Word.{among, same_word, taken_words, time_bytes}
 use Rattle.haai.specs.Syntax as S
 use Rattle.haai.specs.Syntax.{sign, Expr, Exprs, constant, count_of, Definition}
 use Rattle.haai.specs.declared.Operator.{Operator}
@@ -264,7 +264,7 @@ module _ (t : List ℕ) (a : ℕ) (k : Known) (x : Knowing) (g : Agree t k x) wh
   operand_fits : fits_operand t w x ≡ fit_operand k w
   unfolding fits_operand fit_operand sources_in
   operand_fits =
-      let time = same_word time_word w in
+      let time = same_word time_bytes w in
       let sources = names_at t x.places.sources 0 v.sources in
       ap (λ (b : Bool). b or (among sources w or time)) parameter_same
       ∙ ap (λ (y : List (List ℕ)). among k.parameters w or (among y w or time)) g.named.sources

@@ -2,7 +2,7 @@
 -- over the words in their roles, since a name means what was declared before it.
 use Rattle.std.specs.Prelude.{ℕ, ◌+◌, Bool, true, not, List, [], ◌∷◌, ◌++◌, length, get_or}
 use Rattle.value.specs.Test.{pick, ◌<?◌, ◌=?◌, ◌and◌, ◌or◌, guard}
-use Rattle.haai.specs.Word.{same_word, position, among, taken_words, time_word, signs}
+use Rattle.haai.specs.Word.{same_word, position, among, taken_words, time_bytes, signs}
 use Rattle.haai.specs.Grammar.{Item}
 use Rattle.haai.specs.Syntax.{Operator, sign, reactor, Expr, Exprs, parameter, global, constant, apply, none}
 use Rattle.haai.specs.Syntax.{also, count_of, Definition, Text}
@@ -64,7 +64,7 @@ meant k w =
     global 0))
 
 unfoldable pub fit_operand : Known → List ℕ → Bool
-fit_operand k w = among k.parameters w or (among k.sources w or same_word time_word w)
+fit_operand k w = among k.parameters w or (among k.sources w or same_word time_bytes w)
 
 unfoldable pub operator_of : Known → List ℕ → Operator
 operator_of k w =

@@ -3,7 +3,7 @@
 use Rattle.std.specs.Prelude.{ℕ, zero, suc, ◌+◌, ◌-◌, ◌*◌, ◌≤◌, ◌<◌, ◌≡◌, Bool, true, false, List, [], ◌∷◌, length}
 use Rattle.std.specs.Prelude.{get_or, set}
 use Rattle.value.specs.Test.{pick, guard, ◌<?◌, ◌≤?◌, ◌=?◌, ◌and◌, ◌or◌}
-use Rattle.haai.specs.Word.{among, same_word, time_word}
+use Rattle.haai.specs.Word.{among, same_word, time_bytes}
 use Rattle.haai.specs.Grammar.{Item, Formed, items, fault}
 use Rattle.haai.specs.Syntax.{count_of, Definition}
 use Rattle.haai.specs.Names.{Known, nothing, unless, learn_all, no_definition, fault_of}
@@ -162,7 +162,7 @@ is_parameter t w x = among (parameters_in t x.places x.tally) w
 
 unfoldable pub fits_operand : List ℕ → List ℕ → Knowing → Bool
 fits_operand t w x =
-    is_parameter t w x or (among (sources_in t x.places x.tally) w or same_word time_word w)
+    is_parameter t w x or (among (sources_in t x.places x.tally) w or same_word time_bytes w)
 
 unfoldable pub constant_kept : Knowing → Knowing
 constant_kept x = with_grove x x.tally (whole_grove (spent x.tree 0 1) x.pile)

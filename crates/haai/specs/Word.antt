@@ -104,12 +104,12 @@ abbrev pub source_word : Taken
 source_word = Source
 
 -- 8.6 The words that are taken, as bytes: time, defr, out, source.
-abbrev pub time_word : List ℕ
-time_word = 116 ∷ 105 ∷ 109 ∷ 101 ∷ []
+abbrev pub time_bytes : List ℕ
+time_bytes = 116 ∷ 105 ∷ 109 ∷ 101 ∷ []
 
 abbrev pub taken_words : List (List ℕ)
 taken_words =
-    time_word
+    time_bytes
     ∷ (100 ∷ 101 ∷ 102 ∷ 114 ∷ [])
     ∷ (111 ∷ 117 ∷ 116 ∷ [])
     ∷ (115 ∷ 111 ∷ 117 ∷ 114 ∷ 99 ∷ 101 ∷ [])

@@ -43,7 +43,7 @@ fn is_taken(w: &[u8]) -> bool
 }
 
 fn is_time(w: &[u8]) -> bool
-    ensures { result ≡ O.same_word O.time_word w.now }
+    ensures { result ≡ O.same_word O.time_bytes w.now }
 {
     same(b"time", w)
 }
@@ -141,7 +141,7 @@ impl Tally {
         requires { J.Fits self }
         ensures { let text = t.now in let ps = places.now in let word = w.now in
             result ≡ (O.among (J.parameters_in text ps self) word or (O.among (J.sources_in text ps self) word
-            or O.same_word O.time_word word)) }
+            or O.same_word O.time_bytes word)) }
     {
         self.is_parameter(t, places, w) | (self.is_source(t, places, w) | is_time(w))
     }
