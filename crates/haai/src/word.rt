@@ -14,19 +14,19 @@ const MOST: u64 = 2147483649;
 fn is_space(c: u8) -> bool
     ensures { result ≡ O.is_space c }
 {
-    c == b' ' || c == b'\n'
+    (c == b' ') | (c == b'\n')
 }
 
 fn is_bracket(c: u8) -> bool
     ensures { result ≡ O.is_bracket c }
 {
-    c == b'(' || c == b')'
+    (c == b'(') | (c == b')')
 }
 
 fn ends_word(c: u8) -> bool
     ensures { result ≡ O.ends_word c }
 {
-    is_space(c) || is_bracket(c)
+    is_space(c) | is_bracket(c)
 }
 
 // The first byte from i on that is no space; the text's length if there is none.
