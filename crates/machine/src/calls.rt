@@ -119,6 +119,17 @@ pub fn turn(program: &[u8], memory: &mut [u32], readings: &[u32], sinks: &mut [u
     turn_accepted(program, &facts, memory, readings, sinks)
 }
 
+// The words of `from` into `to`, which is as long. A loop, since for `copy_from_slice` the library for C would need
+// `memmove` from outside.
+fn copy_words(from: &[u32], to: &mut [u32])
+    requires { length to.old ≡ length from.now }
+    ensures { to.new ≡ from.now }
+{
+    for i in 0..to.len() {
+        to[i] = from[i];
+    }
+}
+
 // A preview with an accepted program: 8, 22 and what follows. Work memory is written only once the turn may run.
 fn preview_accepted(
     program: &[u8],
@@ -143,7 +154,7 @@ fn preview_accepted(
         return Err(Refusal::WorkLength(k));
     }
     ready(program, facts, memory, readings, space)?;
-    work.copy_from_slice(memory);
+    copy_words(memory, work);
     Accepted { program, facts }.run_main(work, readings, space)
 }
 

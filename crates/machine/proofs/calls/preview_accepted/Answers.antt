@@ -28,7 +28,7 @@ run_main-requires c = let pre = c.requires.sure in
     let few = ((words_legal_lem _).0 (passed c.words_legal.ensures (ap not c.if-not-words_legal.false))).1 in
     let f = ready_fine _ _ _ _ _ e in
     let s = pre.safe _ _ few f.0 in
-    rw c.copy_from_slice.ensures.after
+    rw c.copy_words.ensures
     (record {
       safe = s;
       steady = s.steady _ f.1;
@@ -41,7 +41,7 @@ unfolding preview_by
 returns c = let pre = c.requires in
     let l = passed c.words_legal.ensures (ap not c.if-not-words_legal.false) in
     let e = sym c.in_ok-ready.ensures in
-    let ran = rw c.copy_from_slice.ensures.after at c.run_main.ensures in
+    let ran = rw c.copy_words.ensures at c.run_main.ensures in
     goes _ _ l (goes _ _ (eq! c.if-k-n.false) (shown_run _ _ _ _ _ pre.accepted l e _ _ _ ran))
 
 pub returns-in_err-ready : goal.returns-in_err-ready
