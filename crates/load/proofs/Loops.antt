@@ -12,7 +12,7 @@ use Rattle.program.specs.declared.Command.{Command}
 use Rattle.load.specs.Scan.{Scanned, refusal_of, after_of, scanned, onward, scan_of, begin_of, complete}
 use Rattle.load.specs.Refusal.{at_command}
 use Rattle.load.specs.Check.{ended, reactors_of}
-use Rattle.load.specs.Clauses.{LegalTables, Shaped, Within, state, Stepped, all_of, Ran}
+use Rattle.load.specs.Clauses.{LegalTables, Shaped, Within, state, Stepped, all_of, Stopped, Ran}
 use Rattle.load.specs.declared.Locations.{Locations}
 use Rattle.load.specs.declared.Progress.{Progress}
 use Rattle.load.specs.declared.Scan.{Scan}
@@ -82,16 +82,16 @@ module _ (p : List ℕ) (r : ℕ) where
         let k = from_here None step in
         k.0 (ap (λ (s : Scan). refusal_of p r s c (decode c)) (sym k.1) ∙ z)
 
-    pub run_refused : {w : Refusal} (v : Locations) → Stepped p r (state t q.next) c u None →
-        w ≡ at_command (refusal_of p r (state u i) c (decode c)) (command_at p r i) → Ran p r v (Err w)
-    run_refused v step e =
+    pub run_refused : {w : Refusal} → Stepped p r (state t q.next) c u None →
+        w ≡ at_command (refusal_of p r (state u i) c (decode c)) (command_at p r i) → Ran p r u (Err w)
+    run_refused step e =
         let k = from_here None step in
         let m = commands_in p r - i - 1 in
         let no : next_refusal ≢ 0 = λ z. k.0 (the_next ∙ z) in
         let rest : commands_in p r ≡ i + suc m = omega arith in
         let all : all_of p r ≡ scanned next_refusal (command_at p r i) (state t i) =
         ap (λ (n : ℕ). scan_of n p r (begin_of p r)) rest ∙ next_scan m ∙ onward_refused _ p r (state t i) _ _ no in (
-          λ z. no (ap (λ (x : Scanned). x.code) (sym all) ∙ z),
+          (i, subst (Stopped p r) (sym k.1) (no, all)),
           e ∙ ap (λ (s : Scan). at_command (refusal_of p r s c (decode c)) (command_at p r i)) k.1
               ∙ ap (λ (n : ℕ). at_command n (command_at p r i)) the_next
               ∙ ap (λ (x : Scanned). at_command x.code x.place) (sym all),
@@ -185,7 +185,9 @@ module _ (accepted : Answer) (p : List ℕ) (r : ℕ) where
     pub reactor_refused : {w : Refusal} → Ran o q t (Err w) → Err w ≡ reactors_of accepted m p r
     reactor_refused {w} ran =
         let here = ran_here (Err w) ran in
-        ap Err here.1 ∙ ended_refused (After (m - 1)) (entry_at p r) (all_of p r) here.0 ∙ sym (reactors_step m h)
+        let stopped = here.0.1 in
+        let some : (all_of p r).code ≢ 0 = λ z. stopped.0 (ap (λ (x : Scanned). x.code) (sym stopped.1) ∙ z) in
+        ap Err here.1 ∙ ended_refused (After (m - 1)) (entry_at p r) (all_of p r) some ∙ sym (reactors_step m h)
 
     module _ (n : ℕ) (ran : Ran o q t (Ok n)) where
       all_taken : all_of p r ≡ scanned 0 0 (state t (commands_in p r))

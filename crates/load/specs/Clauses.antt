@@ -5,10 +5,10 @@ use Rattle.std.specs.Prelude.{ℕ, ◌+◌, ◌^◌, ◌≤◌, ◌<◌, ◌≡�
 use Rattle.std.specs.Prelude.{Option, None, Some, Result, Ok, Err}
 use Rattle.std.specs.Bool.{then_some}
 use Rattle.value.specs.Test.{pick, ◌<?◌, ◌and◌, ◌or◌, ◌=?◌}
-use Rattle.program.specs.Bytes.{shapes, reactors, sources_in, shape_of, commands_in, commands_r}
+use Rattle.program.specs.Bytes.{shapes, reactors, sources_in, shape_of, commands_in, commands_r, command_at}
 use Rattle.program.specs.declared.Command.{Command}
 use Rattle.program.specs.Location.{most_locations, locations, results}
-use Rattle.program.specs.Command.{Cmd, Give, gives, sequence_of, decode, v_of}
+use Rattle.program.specs.Command.{Cmd, Give, gives, sequence_of, decode, bytes_of, v_of}
 use Rattle.program.specs.Kind.{give_kind}
 use Rattle.load.specs.Refusal.{at_command}
 use Rattle.load.specs.Scan.{Scanned, free_point, standing_at, kind_at, is_supplied, is_value, scanned, some_value, stand}
@@ -120,9 +120,17 @@ Stepped p r s c t (Some q) =
 abbrev pub all_of : List ℕ → ℕ → Scanned
 all_of p r = scan_of (commands_in p r) p r (begin_of p r)
 
--- one of them is refused, or none, and n have a result
+-- the refusal of the next command
+abbrev pub refusal_next : List ℕ → ℕ → Scan → ℕ
+refusal_next p r u = refusal_of p r u (bytes_of p r u.next) (decode (bytes_of p r u.next))
+
+-- they stop at u, where one of them is refused
+abbrev pub Stopped : List ℕ → ℕ → Scan → Type 0
+Stopped p r u = (refusal_next p r u ≢ 0) × (all_of p r ≡ scanned (refusal_next p r u) (command_at p r u.next) u)
+
+-- one of them is refused, and the tables are those before it; or none is, and n have a result
 abbrev pub Ran : List ℕ → ℕ → Locations → Result ℕ Refusal → Type 0
-Ran p r t (Err w) = ((all_of p r).code ≢ 0) × (w ≡ at_command (all_of p r).code (all_of p r).place)
+Ran p r t (Err w) = ((i : ℕ) × Stopped p r (state t i)) × (w ≡ at_command (all_of p r).code (all_of p r).place)
 Ran p r t (Ok n) =
     let s = state t (commands_in p r) in
     (all_of p r ≡ scanned 0 0 s) × Within p r s × (n ≡ results p r (commands_r p r))

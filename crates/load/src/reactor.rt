@@ -47,7 +47,7 @@ impl Known<'_> {
         for i in 0..self.declared + self.running {
             let c = self.command(i);
             let Some(then) = s.take(self, locations, c) else {
-                return Err(self.refusal(locations, i, c));
+                return Err(self.refusal(locations, i));
             };
             s = then;
         }

@@ -14,7 +14,7 @@ use crate::standing::is_ready;
 use crate::{Location, Locations, Scan};
 use answer::Refusal;
 use program::{
-    Code, Command, byte, commands_d, content_legal, globals, reactors, shape_of, shapes,
+    Code, Command, byte, bytes_at, commands_d, content_legal, globals, reactors, shape_of, shapes,
     sink_count, sink_kind, sink_loc, sinks_in, source_kind, sources_in,
 };
 use value::{is_primitive, is_withdrawn, kinds_fit, operands};
@@ -251,11 +251,11 @@ impl Scan {
 
 impl Known<'_> {
     // Why command i is refused, which is the next and is.
-    pub(crate) fn refusal(&self, locations: &Locations, i: u8, c: Command) -> Refusal
+    pub(crate) fn refusal(&self, locations: &Locations, i: u8) -> Refusal
         requires bytes { i < self.now.declared + self.now.running }
-        requires refused { let k = self.now in
+        requires refused { let k = self.now in let c = C.bytes_of k.program.now k.reactor i in
             S.refusal_of k.program.now k.reactor (state locations.now i) c (C.decode c) ≢ 0 }
-        ensures { let k = self.now in let p = k.program.now in
+        ensures { let k = self.now in let p = k.program.now in let c = C.bytes_of p k.reactor i in
             result ≡ at_command (S.refusal_of p k.reactor (state locations.now i) c (C.decode c))
             (B.command_at p k.reactor i) }
     {
@@ -265,6 +265,7 @@ impl Known<'_> {
             next: i,
         };
         let at = self.first + 8 * (i as u32);
+        let c = bytes_at(self.program, at as u64);
         match scan.refuse(self.program, self.reactor, c, at as usize) {
             Err(w) => w,
             Ok(()) => unreachable!(),
