@@ -143,7 +143,7 @@ pub struct Size {
 }
 
 // Where the names of the sources, of the reactors, and of the parameters of all reactors begin.
-#[derive(Drop)]
+#[derive(Clone, Copy)]
 pub struct Places {
     pub sources: [usize; 31],
     pub reactors: [usize; 32],
@@ -152,7 +152,7 @@ pub struct Places {
 
 // All that is known after some words: of the names, with their places, and of the tree, with the sizes of
 // the whole definitions and the open applications from the outermost on.
-#[derive(Drop)]
+#[derive(Clone, Copy)]
 pub struct Knowing {
     pub tally: Tally,
     pub tree: Tree,

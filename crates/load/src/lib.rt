@@ -30,7 +30,7 @@ pub struct Locations {
 
 // The same and the index of the next command, as one value: for the number of a refusal. The definitions
 // of specs/ speak of it.
-#[derive(Drop)]
+#[derive(Clone, Copy)]
 pub struct Scan {
     pub standing: [u8; MOST_LOCATIONS],
     pub kind: [u8; MOST_LOCATIONS],
