@@ -18,6 +18,19 @@ counted_exact n h = let a = counted-min n in omega arith
 pub counted_most : (n : ℕ) → counted n ≤ 200
 counted_most n = let a = counted-min n in omega arith
 
+pub counted_least : (n : ℕ) → counted n ≤ n
+counted_least n = let a = counted-min n in omega arith
+
+pub counted_order : {m n : ℕ} → m ≤ n → counted m ≤ counted n
+counted_order {m} {n} h = let a = counted-min m in let b = counted-min n in omega arith
+
+pub counted_sum : (m n : ℕ) → counted (counted m + counted n) ≡ counted (m + n)
+counted_sum m n =
+    let a = counted-min m in
+    let b = counted-min n in
+    let c = counted-min (counted m + counted n) in
+    let d = counted-min (m + n) in omega arith
+
 -- a count of m, and d or e more
 pub counted_more : (c m d e : ℕ) → c ≡ counted m → counted d ≡ counted e → counted (c + d) ≡ counted (m + e)
 counted_more c m d e p q =

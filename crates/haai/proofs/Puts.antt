@@ -239,3 +239,14 @@ call_put c ls i n at b out o₁ o₂ o₃ ea eb e f g =
 
 pub added_same : {out new ls ms : List ℕ} → out ≡ new → ls ≡ ms → added out ls ≡ added new ms
 added_same e f = ap₂ added e f
+
+few_below : (n : ℕ) → n < 7 → n ≡ few n
+unfolding few
+few_below n h = yes _ (lt! h) refl
+
+few_above : (n : ℕ) → 7 ≤ n → 7 ≡ few n
+unfolding few
+few_above n h = no _ (lt× h) refl
+
+pub few_most : (n : ℕ) → few n ≤ 7
+few_most n = ⊎_elim (λ h. omega (arith, few_below n h)) (λ h. omega (arith, few_above n h)) (below n 7)

@@ -1,10 +1,11 @@
--- The formulas of specs/Formula.antt are what primitives 7 and 11 mean, and stay in 32 bits. Assumes nothing.
+-- The formulas of specs/Formula.antt are what primitives 7 and 11 mean, and stay in 32 bits; and primitive 12 by the
+-- formula of 11. Assumes nothing.
 use Rattle.std.specs.Prelude.{ℕ, ◌*◌, ◌≡◌, refl, Bool, true, false, not}
 use Rattle.std.proofs.Common.{arith}
 use mir.Val.{bool_byte}
 use Rattle.value.specs.Test.{pick}
-use Rattle.value.specs.Value.{value, blank, truth, truth_mark, is_truth, is_true}
-use Rattle.value.specs.Primitive.{on_truth, choose, table, row_of, primitive}
+use Rattle.value.specs.Value.{value, blank, truth, truth_mark, is_blank, is_truth, is_true}
+use Rattle.value.specs.Primitive.{on_truth, choose, instead, table, row_of, primitive}
 use Rattle.value.specs.Formula.{one_minus, mixed, NotFormula, ChooseFormula, FormulaFits}
 use Rattle.value.specs.declared.Value.{Value}
 
@@ -42,6 +43,15 @@ unfolding primitive row_of table choose
 choose_formula t a b =
     let mix = word (is_truth t) (is_true t) in
     rw (mix a.mark b.mark, mix a.content b.content) (by_words (is_truth t) (is_true t) a b)
+
+pub instead_formula :
+    (a b : Value) →
+    let mix = mixed true (is_blank a) in
+    instead a b ≡ value (mix b.mark a.mark) (mix b.content a.content)
+unfolding instead pick
+instead_formula a b =
+    let mix = word true (is_blank a) in
+    rw (mix b.mark a.mark, mix b.content a.content) (by_words true (is_blank a) b a)
 
 pub formula_fits : FormulaFits
 formula_fits true true a b f g = record { minus = omega arith; weights = omega arith; sum = omega arith }
