@@ -12,7 +12,7 @@ use Rattle.program.specs.declared.Command.{Command}
 use Rattle.load.specs.Scan.{Scanned, refusal_of, after_of, scanned, onward, scan_of, begin_of, complete}
 use Rattle.load.specs.Refusal.{at_command}
 use Rattle.load.specs.Check.{ended, reactors_of}
-use Rattle.load.specs.Clauses.{LegalTables, Shaped, Within, state, Stepped, all_of, Stopped, Ran}
+use Rattle.load.specs.Clauses.{LegalTables, Shaped, Within, state, Stepped, all_of, refusal_next, Stopped, Ran}
 use Rattle.load.specs.declared.Locations.{Locations}
 use Rattle.load.specs.declared.Progress.{Progress}
 use Rattle.load.specs.declared.Scan.{Scan}
@@ -63,37 +63,33 @@ module _ (p : List ℕ) (r : ℕ) where
   -- the next command is taken or refused
   module _ (t : Locations) (q : Progress) (i : ℕ) (run : Running p r t q i) (l : i < commands_in p r)
       (c : Command) (read : c ≡ bytes_of p r i) (u : Locations) where
-    abbrev next_refusal : ℕ
-    next_refusal = refusal_of p r (state t i) (bytes_of p r i) (decode (bytes_of p r i))
-
-    the_next : refusal_of p r (state t i) c (decode c) ≡ next_refusal
+    the_next : refusal_of p r (state t i) c (decode c) ≡ refusal_next p r (state t i)
     the_next = ap (λ (c : Command). refusal_of p r (state t i) c (decode c)) read
 
     from_here : (o : Option Progress) → Stepped p r (state t q.next) c u o → Stepped p r (state t i) c u o
     from_here o = subst (λ (n : ℕ). Stepped p r (state t n) c u o) run.here
 
     next_scan : (m : ℕ) → scan_of (i + suc m) p r (begin_of p r) ≡
-        onward (scan_of m p r) p r (state t i) (decode (bytes_of p r i)) next_refusal
+        onward (scan_of m p r) p r (state t i) (decode (bytes_of p r i)) (refusal_next p r (state t i))
     unfolding scan_of
     next_scan m = run.scans (suc m)
 
-    pub refused_here : Stepped p r (state t q.next) c u None → refusal_of p r (state u i) c (decode c) ≢ 0
+    pub refused_here : Stepped p r (state t q.next) c u None → refusal_next p r (state u i) ≢ 0
     refused_here step z =
         let k = from_here None step in
-        k.0 (ap (λ (s : Scan). refusal_of p r s c (decode c)) (sym k.1) ∙ z)
+        k.0 (the_next ∙ ap (refusal_next p r) (sym k.1) ∙ z)
 
     pub run_refused : {w : Refusal} → Stepped p r (state t q.next) c u None →
-        w ≡ at_command (refusal_of p r (state u i) c (decode c)) (command_at p r i) → Ran p r u (Err w)
+        w ≡ at_command (refusal_next p r (state u i)) (command_at p r i) → Ran p r u (Err w)
     run_refused step e =
         let k = from_here None step in
         let m = commands_in p r - i - 1 in
-        let no : next_refusal ≢ 0 = λ z. k.0 (the_next ∙ z) in
+        let no : refusal_next p r (state t i) ≢ 0 = λ z. k.0 (the_next ∙ z) in
         let rest : commands_in p r ≡ i + suc m = omega arith in
-        let all : all_of p r ≡ scanned next_refusal (command_at p r i) (state t i) =
+        let all : all_of p r ≡ scanned (refusal_next p r (state t i)) (command_at p r i) (state t i) =
         ap (λ (n : ℕ). scan_of n p r (begin_of p r)) rest ∙ next_scan m ∙ onward_refused _ p r (state t i) _ _ no in (
           (i, subst (Stopped p r) (sym k.1) (no, all)),
-          e ∙ ap (λ (s : Scan). at_command (refusal_of p r s c (decode c)) (command_at p r i)) k.1
-              ∙ ap (λ (n : ℕ). at_command n (command_at p r i)) the_next
+          e ∙ ap (λ (s : Scan). at_command (refusal_next p r s) (command_at p r i)) k.1
               ∙ ap (λ (x : Scanned). at_command x.code x.place) (sym all),
         )
 

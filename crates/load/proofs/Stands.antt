@@ -1,4 +1,4 @@
--- States that stand alike, the bytes of ports, the state after a command, and its tables past their end.
+-- States that stand alike, the bytes of ports, and the state after a command.
 -- Assumes nothing.
 use Rattle.std.specs.Prelude.{ℕ, ◌+◌, ◌≡◌, refl, List, set}
 use Rattle.std.proofs.Common.{sym, ◌∙◌, ap, arith}

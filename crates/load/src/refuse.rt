@@ -5,7 +5,7 @@ ghost use Rattle.program.specs.Bytes as B;
 ghost use Rattle.program.specs.Command as C;
 ghost use Rattle.program.specs.Clauses.{row_of};
 ghost use Rattle.program.specs.Kind.{content_legal};
-ghost use Rattle.load.specs.Clauses.{told, state};
+ghost use Rattle.load.specs.Clauses.{told, state, refusal_next};
 ghost use Rattle.load.specs.Refusal.{at_command};
 ghost use Rattle.load.specs.Scan as S;
 
@@ -253,11 +253,9 @@ impl Known<'_> {
     // Why command i is refused, which is the next and is.
     pub(crate) fn refusal(&self, locations: &Locations, i: u8) -> Refusal
         requires bytes { i < self.now.declared + self.now.running }
-        requires refused { let k = self.now in let c = C.bytes_of k.program.now k.reactor i in
-            S.refusal_of k.program.now k.reactor (state locations.now i) c (C.decode c) ≢ 0 }
-        ensures { let k = self.now in let p = k.program.now in let c = C.bytes_of p k.reactor i in
-            result ≡ at_command (S.refusal_of p k.reactor (state locations.now i) c (C.decode c))
-            (B.command_at p k.reactor i) }
+        requires refused { let k = self.now in refusal_next k.program.now k.reactor (state locations.now i) ≢ 0 }
+        ensures { let k = self.now in let p = k.program.now in
+            result ≡ at_command (refusal_next p k.reactor (state locations.now i)) (B.command_at p k.reactor i) }
     {
         let scan = Scan {
             standing: locations.standing,

@@ -1,22 +1,15 @@
-use Rattle.std.specs.Prelude.{ℕ, ◌+◌, ◌-◌, List, refl}
-use Rattle.std.proofs.Common.{sym, ◌∙◌, ap, arith}
+use Rattle.std.specs.Prelude.{ℕ, ◌+◌, ◌-◌, refl}
+use Rattle.std.proofs.Common.{◌∙◌, ap, arith}
 use Rattle.load.proofs.Loops.{refused_here, run_done, run_refused, run_start, run_taken}
 use Rattle.load.specs.Clauses.{state}
-use Rattle.load.specs.Refusal.{at_command}
-use Rattle.load.specs.Scan.{begin_of, kind_at, refusal_of, standing_at, with_sinks, with_sources}
+use Rattle.load.specs.Scan.{begin_of, kind_at, standing_at, with_sinks, with_sources}
 use Rattle.load.specs.declared.Locations.{Locations}
-use Rattle.load.specs.declared.Scan.{Scan}
-use Rattle.program.specs.declared.Command.{Command}
 use Rattle.program.proofs.Slots.{results_few}
-use Rattle.program.specs.Bytes.{command_at, commands_d, commands_in}
+use Rattle.program.specs.Bytes.{commands_d, commands_in}
 use Rattle.program.specs.Command.{decode, takes_words}
 use Rattle.program.specs.Location.{sink_count, source_count}
 use Rattle.value.specs.Test.{◌<?◌, pick}
 use Rattle.load.proofs.known.Known.scan.Goals as goal
-
--- the number of a command's refusal
-abbrev why : List ℕ → ℕ → Scan → Command → ℕ
-why p r s c = refusal_of p r s c (decode c)
 
 pub loop-i-init : goal.loop-i-init
 unfolding begin_of
@@ -42,9 +35,9 @@ unfolding commands_in
 refusal-requires c = let k = c.args.self.now in
     let loop = c.loop-i in record {
       bytes = c.loop-i-test.true;
-      refused = λ z. refused_here k.program.now k.reactor loop.locations loop.s loop.i loop.invariant
+      refused = refused_here k.program.now k.reactor loop.locations loop.s loop.i loop.invariant
           (omega (arith, c.loop-i-test.true, k.its_declared, k.its_running)) _ c.command-c.ensures _
-          c.in_default.ensures.step (ap (why k.program.now k.reactor _) c.command-c.ensures ∙ z);
+          c.in_default.ensures.step;
     }
 
 pub returns-in_default : goal.returns-in_default
@@ -54,10 +47,7 @@ returns-in_default c = let k = c.args.self.now in
     run_refused k.program.now k.reactor loop.locations loop.s loop.i loop.invariant
     (omega (arith, c.loop-i-test.true, k.its_declared, k.its_running)) _ c.command-c.ensures _
     c.in_default.ensures.step
-    (c.refusal.ensures ∙ ap
-    (λ (d : Command). at_command (why k.program.now k.reactor (state c.take.new.locations loop.i) d)
-    (command_at k.program.now k.reactor loop.i))
-    (sym c.command-c.ensures))
+    c.refusal.ensures
 
 pub loop-i-preserved : goal.loop-i-preserved
 unfolding commands_in
