@@ -23,6 +23,8 @@ fn is_bracket(c: u8) -> bool
     (c == b'(') | (c == b')')
 }
 
+// The tests of a byte are joined by `|`, of which the compiler makes one test of bits; with a jump for each, a word
+// takes nearly twice the instructions a byte.
 fn ends_word(c: u8) -> bool
     ensures { result ≡ O.ends_word c }
 {
